@@ -1,0 +1,96 @@
+-- Bytes, their classes, and runs of them.
+use Prim.Native.Nat.{ℕ, zero, suc, _+_, _-_, _*_}
+use Prim.Native.String.{String, [] as nil, _∷_ as _⊲_}
+use Prim.Native.Char.{Char, code}
+use mathlib.Core.Path.{_≡_}
+use mathlib.Core.Bool.{Bool, true, false, not, _&&_, _||_}
+use mathlib.Core.List.{List, [], _∷_, _++_}
+use lib.Dec.{leb, eqb}
+
+module _ {A : Type 0} where
+  infix 10 if_then_else_
+
+  -- a choice by a test
+  abbrev pub if_then_else_ : Bool → A → A → A
+  if true then x else y = x
+  if false then x else y = y
+
+-- the bytes of a quoted text
+abbrev pub bytes : String → List ℕ
+bytes nil = []
+bytes (c ⊲ s) = code c ∷ bytes s
+
+abbrev pub same : List ℕ → List ℕ → Bool
+same [] [] = true
+same [] (y ∷ ys) = false
+same (x ∷ xs) [] = false
+same (x ∷ xs) (y ∷ ys) = eqb x y && same xs ys
+
+abbrev pub isSpace : ℕ → Bool
+isSpace b = eqb b 32
+
+abbrev pub isDigit : ℕ → Bool
+isDigit b = leb 48 b && leb b 57
+
+abbrev pub isCapital : ℕ → Bool
+isCapital b = leb 65 b && leb b 90
+
+-- "0-9 A-F"
+abbrev pub isHexDigit : ℕ → Bool
+isHexDigit b = isDigit b || (leb 65 b && leb b 70)
+
+-- "text bytes are 32 to 126 without 95"
+abbrev pub isText : ℕ → Bool
+isText b = leb 32 b && leb b 126 && not (eqb b 95)
+
+-- "any text bytes but a quote"
+abbrev pub isQuotable : ℕ → Bool
+isQuotable b = isText b && not (eqb b 34)
+
+abbrev pub notCR : ℕ → Bool
+notCR b = not (eqb b 13)
+
+-- the classes of a byte, by number: "dropped, CR, erase, discard, space, digit, capital, quote, other"
+abbrev pub classOf : ℕ → ℕ
+classOf b =
+    if eqb b 0 || eqb b 10 then 0
+    else if eqb b 13 then 1
+    else if eqb b 95 then 2
+    else if eqb b 21 then 3
+    else if isSpace b then 4
+    else if isDigit b then 5
+    else if isCapital b then 6
+    else if eqb b 34 then 7
+    else 8
+
+-- every byte passes
+pub data All (p : ℕ → Bool) : List ℕ → Type 0 where
+  none : All p []
+  each : {b : ℕ} {s : List ℕ} → p b ≡ true → All p s → All p (b ∷ s)
+
+-- whether the first byte passes
+abbrev pub starts : (ℕ → Bool) → List ℕ → Bool
+starts p [] = false
+starts p (b ∷ s) = p b
+
+-- the longest run of bytes that pass, at the front, and what follows it
+abbrev pub front : (ℕ → Bool) → List ℕ → List ℕ
+front p [] = []
+front p (b ∷ s) = if p b then b ∷ front p s else []
+
+abbrev pub past : (ℕ → Bool) → List ℕ → List ℕ
+past p [] = []
+past p (b ∷ s) = if p b then past p s else b ∷ s
+
+abbrev pub all : (ℕ → Bool) → List ℕ → Bool
+all p [] = true
+all p (b ∷ s) = p b && all p s
+
+-- the value of digits that follow the value n
+abbrev pub decimalValue : ℕ → List ℕ → ℕ
+decimalValue n [] = n
+decimalValue n (d ∷ ds) = decimalValue (n * 10 + (d - 48)) ds
+
+abbrev pub hexValue : ℕ → List ℕ → ℕ
+hexValue n [] = n
+hexValue n (d ∷ ds) = hexValue (n * 16 + (if isDigit d then d - 48 else d - 55)) ds

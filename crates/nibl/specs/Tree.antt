@@ -1,0 +1,45 @@
+-- What a text is read as.
+use Prim.Native.Nat.{ℕ}
+use mathlib.Core.List.{List}
+use mathlib.Core.Bool.{Bool}
+
+pub data Op : Type 0 where
+  times over both plus minus either : Op                 -- * / AND + - OR
+  equal less greater atMost atLeast unequal : Op            -- = < > <= >= <>
+
+pub data Expr : Type 0 where
+  var const : ℕ → Expr
+  stat top : Expr
+  byteAt invert negate : Expr → Expr                     -- "@", NOT, a leading minus
+  modulo : Expr → Expr → Expr
+  two : Op → Expr → Expr → Expr
+
+pub data Item : Type 0 where
+  text : List ℕ → Item
+  stored value : Expr → Item                             -- "$" factor, a relation
+
+pub data Stmt : Type 0 where
+  letVar : ℕ → Expr → Stmt
+  letStat : Expr → Stmt
+  letByte letCopy : Expr → Expr → Stmt                   -- "@" factor = relation, "$" factor = "$" factor
+  letText : Expr → List ℕ → Stmt
+  goto gosub until : Expr → Stmt
+  return loop remark end : Stmt                          -- loop is DO
+  print : List Item → Bool → Stmt                        -- whether a last ";" is there
+  ifThen : Expr → Stmt → Stmt
+  for : ℕ → Expr → Expr → Expr → Stmt                    -- first value, limit, step
+  next : ℕ → Stmt
+  input : List ℕ → Stmt
+  inputText : Expr → Stmt
+
+-- a member of a statement list, and how many bytes of the text stand from the place that ends it on: 0 at the text's end
+pub record Member : Type 0 where
+  pub statement : Stmt
+  pub left : ℕ
+
+-- a typed line
+pub data Typed : Type 0 where
+  blank new clear run : Typed
+  delete list : ℕ → Typed
+  store : ℕ → List ℕ → List Member → Typed
+  immediate : Stmt → Typed

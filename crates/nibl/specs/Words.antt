@@ -1,0 +1,89 @@
+-- Words: "always the longest that fits".
+use Prim.Native.Nat.{ℕ, zero, suc, _+_, _-_, _%_, _≤_}
+use Prim.Native.String.{String}
+use mathlib.Core.Path.{_≡_}
+use mathlib.Core.Bool.{Bool, true, false, not, _&&_, _||_}
+use mathlib.Core.List.{List, [], _∷_, _++_}
+use mathlib.Core.Option.{Option, none, some}
+use lib.Dec.{eqb}
+use Rattle.nibl.specs.Bytes.{if_then_else_, bytes, same, isDigit, isCapital, isHexDigit, isQuotable, All, starts, decimalValue, hexValue}
+
+pub data Token : Type 0 where
+  variable : ℕ → Token          -- 0 for A to 25 for Z
+  decimal hex : ℕ → Token       -- a constant's value
+  string : List ℕ → Token       -- what the quotes enclose
+  sign : ℕ → Token              -- a keyword, a pair or a symbol, by its number
+
+-- a keyword's number is 128 and its place in this list
+abbrev pub keywords : List (List ℕ)
+keywords =
+    bytes "LET" ∷ bytes "GO" ∷ bytes "TO" ∷ bytes "SUB" ∷ bytes "GOTO" ∷ bytes "GOSUB" ∷ bytes "RETURN" ∷ bytes "PR" ∷ bytes "PRINT"
+    ∷ bytes "IF" ∷ bytes "THEN" ∷ bytes "DO" ∷ bytes "UNTIL" ∷ bytes "FOR" ∷ bytes "STEP" ∷ bytes "NEXT" ∷ bytes "INPUT" ∷ bytes "REM"
+    ∷ bytes "END" ∷ bytes "STAT" ∷ bytes "TOP" ∷ bytes "MOD" ∷ bytes "AND" ∷ bytes "OR" ∷ bytes "NOT" ∷ []
+
+-- "at the front of an immediate line"
+abbrev pub commands : List (List ℕ)
+commands = bytes "NEW" ∷ bytes "CLEAR" ∷ bytes "LIST" ∷ bytes "RUN" ∷ []
+
+-- 128 and the place of a spelling in a list
+abbrev pub placeFrom : ℕ → List (List ℕ) → List ℕ → Option ℕ
+placeFrom n [] w = none
+placeFrom n (k ∷ ks) w = if same k w then some n else placeFrom (suc n) ks w
+
+abbrev pub placeIn : List (List ℕ) → List ℕ → Option ℕ
+placeIn = placeFrom 128
+
+-- a pair's number: "the pairs <= >= <> are one word"
+abbrev pub pairs : ℕ → ℕ → Option ℕ
+pairs a b =
+    if eqb a 60 && eqb b 61 then some 1
+    else if eqb a 62 && eqb b 61 then some 2
+    else if eqb a 60 && eqb b 62 then some 3
+    else none
+
+abbrev pub there : Option ℕ → Bool
+there none = false
+there (some k) = true
+
+abbrev pub pairsWith : ℕ → List ℕ → Bool
+pairsWith a [] = false
+pairsWith a (b ∷ s) = there (pairs a b)
+
+-- ( ) * + , - / : ; < = > $ @ , whose number is the byte
+abbrev pub isSymbol : ℕ → Bool
+isSymbol b = eqb b 36 || eqb b 40 || eqb b 41 || eqb b 42 || eqb b 43 || eqb b 44 || eqb b 45 || eqb b 47 || eqb b 58 || eqb b 59 || eqb b 60 || eqb b 61 || eqb b 62 || eqb b 64
+
+-- the run ds of bytes that pass stands before s, and is the longest
+pub record Run (p : ℕ → Bool) (ds s : List ℕ) : Type 0 where
+  pub some : starts p ds ≡ true
+  pub each : All p ds
+  pub longest : starts p s ≡ false
+
+-- `Word table s w s'`: past any spaces the text s begins with the word w, and s' follows it
+pub data Word (table : List (List ℕ)) : List ℕ → Token → List ℕ → Type 0 where
+  spaced : {w : Token} {s s' : List ℕ} → Word table s w s' → Word table (32 ∷ s) w s'
+  letter : {c : ℕ} {s : List ℕ} → Run isCapital (c ∷ []) s → Word table (c ∷ s) (variable (c - 65)) s
+  letters : {c d k : ℕ} {cs s : List ℕ} → Run isCapital (c ∷ d ∷ cs) s → placeIn table (c ∷ d ∷ cs) ≡ some k
+      → Word table (c ∷ d ∷ cs ++ s) (sign k) s
+  digits : {ds s : List ℕ} → Run isDigit ds s → decimalValue 0 ds ≤ 32767 → Word table (ds ++ s) (decimal (decimalValue 0 ds)) s
+  hexDigits : {ds s : List ℕ} → Run isHexDigit ds s → Word table (35 ∷ ds ++ s) (hex (hexValue 0 ds % 65536)) s
+  quoted : {bs s : List ℕ} → All isQuotable bs → Word table (34 ∷ bs ++ 34 ∷ s) (string bs) s
+  pair : {a b k : ℕ} {s : List ℕ} → pairs a b ≡ some k → Word table (a ∷ b ∷ s) (sign k) s
+  symbol : {b : ℕ} {s : List ℕ} → isSymbol b ≡ true → pairsWith b s ≡ false → Word table (b ∷ s) (sign b) s
+
+-- the number of a keyword, a pair or a symbol
+abbrev pub numberOr : ℕ → Option ℕ → ℕ
+numberOr n none = n
+numberOr n (some k) = k
+
+abbrev pub numberIn : List (List ℕ) → List ℕ → ℕ
+numberIn table [] = 0
+numberIn table (a ∷ []) = a
+numberIn table (a ∷ b ∷ []) = numberOr (numberOr 0 (pairs a b)) (placeIn table (a ∷ b ∷ []))
+numberIn table (a ∷ b ∷ c ∷ s) = numberOr 0 (placeIn table (a ∷ b ∷ c ∷ s))
+
+abbrev pub number : String → ℕ
+number name = numberIn keywords (bytes name)
+
+abbrev pub command : String → ℕ
+command name = numberIn commands (bytes name)
