@@ -1,3 +1,4 @@
+pub mod Determined
 pub mod Sizes
 pub mod Stacks
 pub mod Desk
