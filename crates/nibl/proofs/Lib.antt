@@ -2,3 +2,4 @@ pub mod Determined
 pub mod Sizes
 pub mod Stacks
 pub mod Desk
+pub mod Quotients
