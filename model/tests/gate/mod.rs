@@ -4,7 +4,7 @@
 #![allow(dead_code)]
 
 use model::page::read_page;
-use model::{continue_run, take_line, Answer, Lent, Record, Stop};
+use model::{continue_run, take_line, Answer, Lent, Record};
 
 pub struct Gate {
     pub page: Vec<u8>,
@@ -130,5 +130,3 @@ pub fn run(program: &[&str]) -> (u8, Option<u16>, u32) {
     let reply = Gate::with(program).line("RUN");
     (reply.stop, reply.line, reply.steps)
 }
-
-pub const DONE: u8 = Stop::Done as u8;
