@@ -8,7 +8,7 @@
 //! Reading order: [`value`], [`stop`], [`typing`], [`words`], [`tree`],
 //! [`reader`], [`line`], [`page`], [`record`], [`machine`], [`statements`],
 //! [`calls`]. [`session`], [`case`] and [`json`] serve the programs in
-//! `src/bin`.
+//! `src/bin`, [`random`] makes sessions, cases and lines for comparisons.
 
 #![forbid(unsafe_code)]
 
@@ -18,6 +18,7 @@ pub mod json;
 pub mod line;
 pub mod machine;
 pub mod page;
+pub mod random;
 pub mod reader;
 pub mod record;
 pub mod session;
