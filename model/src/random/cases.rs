@@ -34,11 +34,11 @@ fn output(random: &mut Random, size: Size) -> (Vec<u8>, u32) {
         Size::Small => 60,
         Size::Full => 600,
     };
-    let room = match random.below(10) {
+    let room = match random.below(16) {
         0 => 0,
         1 | 2 => random.below(8),
         3 => random.below(20),
-        _ => random.below(most),
+        _ => random.between(most / 4, most),
     };
     let used = random.below(5);
     let output = (0..used + room).map(|_| random.byte()).collect();
@@ -47,8 +47,8 @@ fn output(random: &mut Random, size: Size) -> (Vec<u8>, u32) {
 
 fn budget(random: &mut Random, size: Size) -> u32 {
     let budget = match (size, random.below(20)) {
-        (_, 0..=2) => 0,
-        (_, 3..=12) => random.between(1, 8),
+        (_, 0) => 0,
+        (_, 1..=7) => random.between(1, 8),
         (Size::Small, _) => random.between(5, 25),
         (Size::Full, 19) => *random.pick(&[1000, 65_535]),
         (Size::Full, _) => random.between(5, 300),
@@ -64,6 +64,9 @@ fn input(random: &mut Random, setting: Setting, call: Call) -> (Vec<u8>, u32) {
         input.extend(typed_line(random, setting));
     }
     input.extend(replies(random, setting));
+    if setting.size == Size::Small {
+        input.truncate(120);
+    }
     (input, taken)
 }
 
@@ -84,6 +87,19 @@ fn spoil_lengths(random: &mut Random, case: &mut Case) {
         1 => case.input.resize(65_536, 13),
         _ => case.output.resize(65_536, 0),
     }
+}
+
+/// Lets a run go some steps first, so that the case begins with the record and
+/// the memory a real run leaves, mostly paused.
+fn warm_up(random: &mut Random, case: &mut Case) {
+    let mut run = case.clone();
+    run.call = Call::Line;
+    run.input = b"RUN\r1,2,3\r4\r".to_vec();
+    run.input_position = 0;
+    run.budget = random.between(1, 20) as u32;
+    run.run();
+    case.record = run.record;
+    case.memory = run.memory;
 }
 
 /// A case of any kind.
@@ -116,6 +132,9 @@ pub fn case(random: &mut Random, size: Size) -> Case {
         sense: random.byte(),
         record,
     };
+    if random.percent(25) {
+        warm_up(random, &mut case);
+    }
     if random.percent(3) {
         spoil_numbers(random, &mut case);
     }

@@ -96,6 +96,9 @@ pub fn program(random: &mut Random, size: Size, memory: usize) -> Lines {
         if random.percent(60) {
             text.insert(0, ' ');
         }
+        if random.percent(2) {
+            text = padded(text, 72 - number.to_string().len());
+        }
         // A text over the limit, or over the page's room, is left out.
         let length = text.len() + 4;
         if text.len() + number.to_string().len() <= 72 && used + length <= longest(size) {
@@ -104,6 +107,11 @@ pub fn program(random: &mut Random, size: Size, memory: usize) -> Lines {
         }
     }
     lines
+}
+
+/// The text with spaces behind it, up to a length.
+fn padded(text: String, length: usize) -> String {
+    format!("{text:length$}")
 }
 
 /// The bytes of a program with its end mark.
@@ -153,18 +161,49 @@ pub fn sound_page(random: &mut Random, size: Size, lines: &Lines) -> Vec<u8> {
     page
 }
 
-/// Any page: sound, spoilt, garbage, or of a wrong length.
+/// Any page: sound, with a fault, garbage, or of a wrong length.
 pub fn any_page(random: &mut Random, size: Size, lines: &Lines) -> Vec<u8> {
     let mut page = sound_page(random, size, lines);
-    match random.weighted(&[1000, 70, 15, 8, if size == Size::Full { 3 } else { 0 }]) {
+    let too_long = match size {
+        Size::Small => 0,
+        Size::Full => 3,
+    };
+    match random.weighted(&[1000, 60, 15, 15, 8, too_long]) {
         0 => {}
         1 => spoil(random, &mut page),
         2 => {
+            page = misfit(random, lines);
+            page.truncate(longest(size));
+        }
+        3 => {
             let length = random.between(2, longest(size).min(300));
             page = (0..length).map(|_| random.byte()).collect();
         }
-        3 => page.truncate(random.below(2)),
+        4 => page.truncate(random.below(2)),
         _ => page.resize(4097, 0),
     }
     page
+}
+
+/// A page of sound records but for one: out of order, there twice, with too
+/// large a number, a text over the limit, or without a statement.
+fn misfit(random: &mut Random, lines: &Lines) -> Vec<u8> {
+    let mut lines = lines.clone();
+    if !lines.is_empty() {
+        let at = random.below(lines.len());
+        match random.below(5) {
+            0 => lines.reverse(),
+            1 => lines.insert(at, lines[at].clone()),
+            2 => lines[at].0 |= 32_768,
+            3 => {
+                let text = std::mem::take(&mut lines[at].1);
+                lines[at].1 = padded(text, 73 - lines[at].0.to_string().len());
+            }
+            _ => {
+                let texts = ["", " ", "END:", "5 END", "RUN", "A=1_"];
+                lines[at].1 = random.pick(&texts).to_string();
+            }
+        }
+    }
+    render(&lines)
 }

@@ -122,7 +122,7 @@ impl<'a> Scribe<'a> {
 
     /// A factor meant as an address.
     fn address(&mut self, depth: usize) {
-        match self.random.below(6) {
+        match self.random.below(10) {
             0 => self.factor(depth),
             1 => self.letter(),
             _ => self.memory_address(),
@@ -136,7 +136,7 @@ impl<'a> Scribe<'a> {
         }
         self.factor(depth);
         while self.random.percent(30) {
-            let operators = ["+", "-", "*", "/", "+", "-", "AND", "OR"];
+            let operators = ["+", "-", "*", "/", "+", "-", "*", "AND", "OR", "+"];
             let operator = *self.random.pick(&operators);
             self.word(operator);
             self.factor(depth);
@@ -333,10 +333,24 @@ impl<'a> Scribe<'a> {
         }
     }
 
+    /// Mostly a statement that leaves the run where it is, so that runs get
+    /// somewhere before they stop.
     pub fn statement(&mut self) {
-        match self.random.percent(65) {
-            true => self.immediate(),
-            false => self.program_only(),
+        match self.random.weighted(&[55, 25, 20]) {
+            0 => self.calm(),
+            1 => self.immediate(),
+            _ => self.program_only(),
+        }
+    }
+
+    fn calm(&mut self) {
+        if self.random.percent(20) {
+            self.condition();
+        }
+        match self.random.weighted(&[60, 35, 5]) {
+            0 => self.assignment(),
+            1 => self.print(),
+            _ => self.remark(),
         }
     }
 

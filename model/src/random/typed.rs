@@ -6,7 +6,7 @@ use super::{Random, Size};
 
 /// The kept bytes of a typed line: mostly one that has a reading.
 pub fn line(random: &mut Random, setting: Setting) -> Vec<u8> {
-    let mut line = match random.weighted(&[25, 8, 22, 14, 8, 12, 7, 2]) {
+    let mut line = match random.weighted(&[45, 14, 20, 14, 7, 11, 6, 2]) {
         0 => b"RUN".to_vec(),
         1 => jump(random, setting),
         2 => immediate(random, setting),
