@@ -193,7 +193,7 @@ fn which_edits_clear_the_stacks() {
         assert_eq!(record.gosubs.depth, record.fors.depth);
         record.gosubs.depth
     };
-    for typed in ["10", "10 GOSUB 20", "30 END", "NEW", "CLEAR"] {
+    for typed in ["10", "10  ", "10 GOSUB 20", "30 END", "NEW", "CLEAR"] {
         assert_eq!(edited(typed), 0, "{typed}");
     }
     for typed in ["", "30", "30  ", "LIST", "30 NONSENSE", "A=1"] {
@@ -475,6 +475,7 @@ fn arithmetic() {
         ("PRINT 1+2 OR 4-1;", " 6 "),
         ("PRINT -7/2,7/-(2);", ""),
         ("PRINT #8000<0,1>2,2>1,2=2,2<>2;", " 1  0  1  1  0 "),
+        ("PRINT 2<=2,2>=2,3<=2,2>=3,2<2,2>2;", " 1  1  0  0  0  0 "),
         ("PRINT STAT;", " 48 "),
         ("PRINT TOP;", " 2 "),
     ];

@@ -288,7 +288,7 @@ fn refused_by_both(gate: &mut Gate, stop: u8) {
 fn bad_page() {
     let long = [&b"\0\x0a\x4bREM"[..], &[b'X'; 68], b"\r\xff\xff"].concat();
     let just_too_long = [&b"\0\x0a\x4bREM "[..], &[b'X'; 67], b"\r\xff\xff"].concat();
-    let pages: [&[u8]; 18] = [
+    let pages: [&[u8]; 19] = [
         b"\0\0",
         b"\xff\0",
         b"\0\x0a\x08 END\r",
@@ -305,6 +305,7 @@ fn bad_page() {
         b"\0\x0a\x08 END\r\0\x0a\x08 END\r\xff\xff",
         b"\0\x0a\x08 END\r\0\x09\x08 END\r\xff\xff",
         b"\0\x0a\x09REM \x7f\r\xff\xff",
+        b"\0\x0a\x09REM _\r\xff\xff",
         &long,
         &just_too_long,
     ];
