@@ -337,43 +337,44 @@ fn sound_pages() {
     }
 }
 
+/// Each makes a record with full stacks unfit for a page whose only place is 7.
+const SPOILS: [fn(&mut Record); 15] = [
+    |record| record.flags = 8,
+    |record| record.flags = 255,
+    |record| record.gosubs.depth = 9,
+    |record| record.gosubs.depth = u32::MAX,
+    |record| record.dos.depth = 9,
+    |record| record.fors.depth = 5,
+    |record| record.gosubs.places[7] = Place(6),
+    |record| record.dos.places[0] = Place(0),
+    |record| record.dos.places[3] = Place::IMMEDIATE,
+    |record| record.fors.entries[3].place = Place::IMMEDIATE,
+    |record| record.fors.entries[0].place = Place(8),
+    |record| record.fors.entries[2].variable = 26,
+    |record| record.paused = Some(Pause::After(Place(0))),
+    |record| record.paused = Some(Pause::After(Place::IMMEDIATE)),
+    |record| record.paused = Some(Pause::After(Place(5000))),
+];
+
 #[test]
 fn record_does_not_fit() {
     let place = Place(7);
-    let entry = ForEntry {
-        place,
-        ..ForEntry::default()
-    };
-    type Change = fn(&mut Record);
-    let spoils: [Change; 15] = [
-        |record| record.flags = 8,
-        |record| record.flags = 255,
-        |record| record.gosubs.depth = 9,
-        |record| record.gosubs.depth = u32::MAX,
-        |record| record.dos.depth = 9,
-        |record| record.fors.depth = 5,
-        |record| record.gosubs.places[7] = Place(6),
-        |record| record.dos.places[0] = Place(0),
-        |record| record.dos.places[3] = Place::IMMEDIATE,
-        |record| record.fors.entries[3].place = Place::IMMEDIATE,
-        |record| record.fors.entries[0].place = Place(8),
-        |record| record.fors.entries[2].variable = 26,
-        |record| record.paused = Some(Pause::After(Place(0))),
-        |record| record.paused = Some(Pause::After(Place::IMMEDIATE)),
-        |record| record.paused = Some(Pause::After(Place(5000))),
-    ];
     let mut gate = Gate::with(&["10 END"]);
     for _ in 0..8 {
         gate.record.gosubs.push(place);
         gate.record.dos.push(place);
     }
-    for _ in 0..4 {
-        gate.record.fors.push(entry);
+    for variable in [0, 25, 25, 8] {
+        gate.record.fors.push(ForEntry {
+            variable,
+            place,
+            ..ForEntry::default()
+        });
     }
     gate.record.gosubs.places[3] = Place::IMMEDIATE;
     gate.record.paused = Some(Pause::After(place));
     let sound = gate.record.clone();
-    for spoil in spoils {
+    for spoil in SPOILS {
         spoil(&mut gate.record);
         refused_by_both(&mut gate, 19);
         gate.record = sound.clone();
