@@ -102,6 +102,7 @@ text-plain b e = go (isText b) (isPlain b) (by-class (λ b x. not (isText b) || 
   go true true t e = refl
   go true false t e = absurd t
   go false y t e = cc
+
   either : (x : Bool) → T (not x || true)
   either true = tt
   either false = tt

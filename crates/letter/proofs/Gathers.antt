@@ -46,7 +46,7 @@ module _ {input : List ℕ} {at : ℕ} {slots : List ℕ} {t : Tally} {i : ℕ} 
       let lim : ℕ = length slots in
       let n : i + 1 - at ≡ suc (i - at) = omega arith in
       let step : gatherFrom lim (keptIn slots t) (i - at) (drop i input) ≡ gatherFrom lim (keptIn slots' t') (i + 1 - at) (drop (i + 1) input) =
-          rw (n, add-one i, e) (ap (gatherFrom lim (keptIn slots t) (i - at)) (drop-cons input i 0 h) ∙ other-first lim (keptIn slots t) (i - at) (getD input i 0) (drop (suc i) input) o) in
+      rw (n, add-one i, e) (ap (gatherFrom lim (keptIn slots t) (i - at)) (drop-cons input i 0 h) ∙ other-first lim (keptIn slots t) (i - at) (getD input i 0) (drop (suc i) input) o) in
       record { ahead = omega arith; fits = omega arith; left = rw l (g .left ∙ step) }
 
   -- no CR was met

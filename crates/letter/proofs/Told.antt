@@ -59,6 +59,7 @@ module _ (lim at : ℕ) (input : List ℕ) where
     by-mark g e false l =
         let r : Got (at + g .taken) g false = got g false e l in
         line (record { line = g; got = r; count = refl; fits = r .fine .fits; text = front g e })
+
     go : (o : Option Gathered) → gather lim (drop at input) ≡ o → Tells (answer at o)
     go none e = no-cr e
     go (some g) e = by-mark g e (g .line .long) refl

@@ -4,8 +4,7 @@ ghost use mathlib.Core.Path.{_≡_};
 ghost use mathlib.Core.List.{_++_};
 ghost use lib.ListN.{length, take, drop, replicate};
 ghost use Rattle.nibl.specs.Bytes.{classOf, isSpace, isDigit, isCapital, isHexDigit, isText, isQuotable};
-ghost use Rattle.nibl.specs.Typing.{keep};
-ghost use Rattle.nibl.specs.Typing.{gather as gathered};
+ghost use Rattle.nibl.specs.Typing.{keep, gather as gathered};
 ghost use Rattle.letter.specs.Slots.{answer, held, keptIn};
 
 // The class of each byte value, a comment before every sixteenth: 0 dropped, 1 CR, 2 erase, 3 discard, 4 space,
@@ -352,9 +351,9 @@ pub enum Gathering {
 }
 
 // How many of the slots hold kept bytes, and whether one more than there are slots would have been kept.
-pub struct Tally {
-    pub count: usize,
-    pub long: bool,
+struct Tally {
+    count: usize,
+    long: bool,
 }
 
 // One byte of the line that is no CR.
@@ -371,11 +370,12 @@ fn keep_byte(line: &mut [u8], t: Tally, b: u8) -> Tally
         return t;
     }
     if class == 2 {
-        if n == 0 {
+        if n < 1 {
             return t;
         }
+        let less = n - 1;
         return Tally {
-            count: n - 1,
+            count: less,
             long: long,
         };
     }
@@ -387,8 +387,9 @@ fn keep_byte(line: &mut [u8], t: Tally, b: u8) -> Tally
     }
     if n < line.len() {
         line[n] = b;
+        let more = n + 1;
         return Tally {
-            count: n + 1,
+            count: more,
             long: long,
         };
     }

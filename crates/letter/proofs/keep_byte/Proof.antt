@@ -31,9 +31,6 @@ returns-2 c =
     let e : classOf (s .args .b) ≡ 2 = sym (c .before .before .before .class-of .ensures .0) ∙ c .before .if2 .taken in
     (refl, (omega arith, slot-erases (s .args .line .now) t (s .pre) (s .args .b) e (t .count) (omega arith)))
 
-sub-t9 : tie.Need-sub-t9
-sub-t9 c = search needs
-
 returns-3 : tie.Need-returns-3
 returns-3 c =
     let s = c .before .before .before .before .before in
@@ -51,8 +48,8 @@ returns-4 c =
 slice-write-line : tie.Need-slice-write-line
 slice-write-line c = search needs
 
-add-t12 : tie.Need-add-t12
-add-t12 c = search needs
+add-more : tie.Need-add-more
+add-more c = search needs
 
 same-length : tie.Need-same-length
 same-length c = search needs
@@ -83,11 +80,10 @@ keep-byte-spec =
     class-of-requires
     returns
     returns-2
-    sub-t9
     returns-3
     returns-4
     slice-write-line
-    add-t12
+    add-more
     same-length
     returns-5
     returns-6)
