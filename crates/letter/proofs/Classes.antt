@@ -1,7 +1,7 @@
 -- The class table's rule, and the classes against the byte tests of the definition.
 --     table            an entry is the class of its place, at most 8
 --     space, digit ..  a byte has the class exactly when it passes the test
---     text-plain       a text byte is plain: neither dropped nor CR, erase or discard
+--     text-plain, digit-plain  a text byte, and a digit, is plain: neither dropped nor CR, erase or discard
 -- Assumes nothing.
 use mathlib.Core.Path.{_≡_, _∙_, refl, subst, sym, ap}
 use mathlib.Core.Bool.{Bool, true, false, not, _&&_, _||_}
@@ -9,8 +9,8 @@ use mathlib.Core.List.{List}
 use Prim.Native.Nat.{ℕ, _<_, _≤_}
 use native.Mathlib.Omega.{arith}
 use lib.Dec.{T, eqb, leb, ltb, eqb→eq, leb→le}
-use lib.ListN.{length, getD}
-use borrow.Author.Tests.{ltb-true, ltb-false, ne-eqb, le-leb, lt-leb}
+use lib.ListN.{getD}
+use borrow.Author.Tests.{ltb-true, ltb-false, lt-ltb, eqb-true, ne-eqb, le-leb, lt-leb}
 use Rattle.nibl.specs.Bytes.{classOf, isSpace, isDigit, isCapital, isText}
 use Rattle.letter.proofs.Table.{left, right, values, every, at}
 
@@ -106,3 +106,10 @@ text-plain b e = go (isText b) (isPlain b) (by-class (λ b x. not (isText b) || 
   either : (x : Bool) → T (not x || true)
   either true = tt
   either false = tt
+
+pub digit-plain : (b : ℕ) → isDigit b ≡ true → isPlain b ≡ true
+digit-plain b e = let c : classOf b ≡ 5 = eqb-true (classOf b) 5 (digit b ∙ e) in lt-ltb 3 (classOf b) (omega arith)
+
+-- no plain byte is 0, 10, 13, 21 or 95: each by `plain-not n refl`
+pub plain-not : (n : ℕ) → isPlain n ≡ false → (b : ℕ) → isPlain b ≡ true → not (eqb b n) ≡ true
+plain-not n o b p = ap not (ne-eqb b n (λ e. let z : _≡_ {A = ℕ} 0 1 = cc (ap isPlain e) in omega arith))

@@ -1,11 +1,10 @@
 -- One byte of a typed line, by its class: on what is kept, and on the slots that hold it. Assumes nothing.
-use mathlib.Core.Path.{_≡_, _∙_, refl, ap, sym}
-use mathlib.Core.Bool.{Bool, true, false}
+use mathlib.Core.Path.{_≡_, sym}
+use mathlib.Core.Bool.{true, false}
 use mathlib.Core.List.{List, [], _∷_, _++_, append-assoc}
 use Prim.Native.Nat.{ℕ, _+_, _-_, _<_, _≤_}
 use native.Mathlib.Numerals.{add-one}
 use native.Mathlib.Omega.{arith}
-use lib.Dec.{eqb}
 use lib.ListN.{length, take, set, replicate, replicate-append-replicate}
 use lib.Seq.{length-take-le, take-take, take-suc-set}
 use borrow.Author.Tests.{lt-ltb, le-ltb, ne-eqb}

@@ -1,14 +1,14 @@
 -- What each answer of gathering tells its caller. Assumes nothing.
-use mathlib.Core.Path.{_≡_, _∙_, refl, ap, sym}
+use mathlib.Core.Path.{_≡_, refl}
 use mathlib.Core.Bool.{Bool, true, false}
-use mathlib.Core.List.{List, [], _∷_, _++_}
+use mathlib.Core.List.{List}
 use mathlib.Core.Option.{Option, none, some}
 use Prim.Native.Nat.{ℕ, _+_, _-_, _<_, _≤_}
 use native.Mathlib.Omega.{arith}
 use lib.ListN.{length, take, drop, replicate, length-drop}
 use lib.Seq.{take-append-seam}
 use Rattle.nibl.specs.Bytes.{if_then_else_}
-use Rattle.nibl.specs.Typing.{Kept, Gathered, gather}
+use Rattle.nibl.specs.Typing.{Gathered, gather}
 use Rattle.letter.specs.declared.Gathering.{Gathering}
 use Rattle.letter.specs.declared.Gathering.the-variants.{Line, TooLong, NoCr}
 use Rattle.letter.specs.Slots.{answer, padded, held}

@@ -1,22 +1,22 @@
 -- Laws of the definition's gathering, for any limit, that callers and the demands cite.
 --     typed, typed-lf    a plain line typed within the limit, with or without the LF of the line before, comes back as it is
 --     taken              a gathered line is plain and within the limit, and its bytes were there to take
+--     no-cr, no-cr-left  nothing is gathered exactly where no byte is a CR
 --     all-text           text is plain
 -- Assumes nothing.
 use mathlib.Core.Path.{_≡_, _∙_, refl, ap, sym}
 use mathlib.Core.Logic.{_⊎_, inl, inr, ⊎-elim}
-use mathlib.Core.Bool.{Bool, true, false}
+use mathlib.Core.Bool.{Bool, true, false, not}
 use mathlib.Core.List.{List, [], _∷_, _++_, append-assoc, append-nil}
-use mathlib.Core.Option.{Option, none, some}
+use mathlib.Core.Option.{none, some}
 use Prim.Native.Nat.{ℕ, zero, suc, _+_, _-_, _<_, _≤_}
-use native.Mathlib.Numerals.{add-one}
 use native.Mathlib.Omega.{arith}
 use lib.Dec.{eqb, ltb}
 use lib.ListN.{length, take, length-append, length-take}
-use borrow.Author.Tests.{lt-ltb, ltb-true, ltb-false, eqb-true, eqb-false}
-use Rattle.nibl.specs.Bytes.{classOf, All, none as every-none, each, isText}
+use borrow.Author.Tests.{lt-ltb, ltb-true, ltb-false, eqb-true, eqb-false, ne-eqb, not-true}
+use Rattle.nibl.specs.Bytes.{classOf, All, none as every-none, each, isText, notCR}
 use Rattle.nibl.specs.Typing.{Kept, kept, keep, Gathered, gatherFrom, gather}
-use Rattle.letter.proofs.Classes.{isPlain, text-plain}
+use Rattle.letter.proofs.Classes.{isPlain, text-plain, plain-not, cr}
 use Rattle.letter.proofs.Keeping.{Keepable, drops, erases, discards, keeps, overflows}
 use Rattle.letter.proofs.Gathers.{cr-first, other-first}
 
@@ -25,8 +25,15 @@ pub all-of : {p q : ℕ → Bool} {s : List ℕ} → ((b : ℕ) → p b ≡ true
 all-of f every-none = every-none
 all-of f (each e a) = each (f _ e) (all-of f a)
 
+pub all-append : {p : ℕ → Bool} {s t : List ℕ} → All p s → All p t → All p (s ++ t)
+all-append every-none b = b
+all-append (each e a) b = each e (all-append a b)
+
 pub all-text : {s : List ℕ} → All isText s → All isPlain s
 all-text a = all-of text-plain a
+
+pub all-not-cr : {s : List ℕ} → All isPlain s → All notCR s
+all-not-cr a = all-of (plain-not 13 refl) a
 
 -- a plain byte has none of the four classes that gathering acts on
 plain-other : (b k : ℕ) → k ≤ 3 → isPlain b ≡ true → classOf b ≡ k → ⊥
@@ -76,10 +83,6 @@ all-take zero a = every-none
 all-take (suc n) every-none = every-none
 all-take (suc n) (each e a) = each e (all-take n a)
 
-all-snoc : {p : ℕ → Bool} {s : List ℕ} {b : ℕ} → All p s → p b ≡ true → All p (s ++ (b ∷ []))
-all-snoc every-none e = each e every-none
-all-snoc (each d a) e = each d (all-snoc a e)
-
 equal? : (x y : ℕ) → (x ≡ y) ⊎ (x ≡ y → ⊥)
 equal? x y = go (eqb x y) refl where
   go : (t : Bool) → eqb x y ≡ t → (x ≡ y) ⊎ (x ≡ y → ⊥)
@@ -100,7 +103,7 @@ module _ (lim : ℕ) (k : Kept) (b : ℕ) (f : Fine lim k) where
   longer : (classOf b ≡ 1 → ⊥) → Keepable b → length (k .bytes) < lim → Fine lim (kept (k .bytes ++ (b ∷ [])) (k .long))
   longer o c r =
       let p : 3 < classOf b = omega (arith, o, c .drop, c .erase, c .discard) in
-      record { plain = all-snoc (f .plain) (lt-ltb 3 (classOf b) p); fits = omega (arith, length-append (k .bytes) (b ∷ [])) }
+      record { plain = all-append (f .plain) (each (lt-ltb 3 (classOf b) p) every-none); fits = omega (arith, length-append (k .bytes) (b ∷ [])) }
 
   keep-fine : (classOf b ≡ 1 → ⊥) → Fine lim (keep lim k b)
   keep-fine o =
@@ -131,3 +134,27 @@ taken-from lim k n (b ∷ s) g f e =
 pub taken : (lim : ℕ) (s : List ℕ) (g : Gathered) → gather lim s ≡ some g → Taken lim 0 (length s) g
 unfolding gather
 taken lim s g e = taken-from lim (kept [] false) 0 s g (nothing lim) e
+
+-- "no CR left": exactly where there is none, whatever the limit
+none-from : (lim : ℕ) (k : Kept) (n : ℕ) (s : List ℕ) → All notCR s → gatherFrom lim k n s ≡ none
+unfolding gatherFrom
+none-from lim k n [] a = refl
+none-from lim k n (b ∷ s) (each e a) =
+    other-first lim k n b s (eqb-false (classOf b) 1 (cr b ∙ not-true (eqb b 13) e)) ∙ none-from lim (keep lim k b) (suc n) s a
+
+pub no-cr : (lim : ℕ) (s : List ℕ) → All notCR s → gather lim s ≡ none
+unfolding gather
+no-cr lim s a = none-from lim (kept [] false) 0 s a
+
+all-from : (lim : ℕ) (k : Kept) (n : ℕ) (s : List ℕ) → gatherFrom lim k n s ≡ none → All notCR s
+all-from lim k n [] e = every-none
+all-from lim k n (b ∷ s) e =
+    ⊎-elim (λ c. let q : some (record { line = k; taken = suc n }) ≡ none = sym (cr-first lim k n b s c) ∙ e in
+    let z : _≡_ {A = ℕ} 0 1 = cc in
+    absurd (omega arith))
+    (λ c. each (ap not (sym (cr b) ∙ ne-eqb (classOf b) 1 c)) (all-from lim (keep lim k b) (suc n) s (sym (other-first lim k n b s c) ∙ e)))
+    (equal? (classOf b) 1)
+
+pub no-cr-left : (lim : ℕ) (s : List ℕ) → gather lim s ≡ none → All notCR s
+unfolding gather
+no-cr-left lim s e = all-from lim (kept [] false) 0 s e

@@ -1,5 +1,5 @@
 -- `letter::gather` meets its contract: what the definition gathers is what it would gather from i on, with what the slots hold. Assumes nothing.
-use Prim.Native.Nat.{ℕ, _-_}
+use Prim.Native.Nat.{_-_}
 use mathlib.Core.Path.{_≡_, _∙_, refl, sym}
 use native.Mathlib.Omega.{arith}
 use borrow.Author.Needs.{needs}

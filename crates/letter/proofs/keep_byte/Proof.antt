@@ -1,5 +1,5 @@
 -- `letter::keep_byte` meets its contract: each way out by the law of its class. Assumes nothing.
-use Prim.Native.Nat.{ℕ, _-_}
+use Prim.Native.Nat.{_-_}
 use mathlib.Core.Path.{_≡_, _∙_, refl, sym}
 use native.Mathlib.Omega.{arith}
 use lib.ListN.{length, length-set}
