@@ -2,14 +2,22 @@
 // the sign counts. Nothing here traps: what has no value is answered by its stop number.
 ghost use Prim.Native.Nat.{_≤_};
 ghost use mathlib.Core.Path.{_≡_};
-ghost use Rattle.nibl.specs.Values.{add16, sub16, mul16, not16, less16, bit, magnitude, isNegative, mod16, apply, is};
+ghost use lib.ListN.{length};
+ghost use Rattle.nibl.specs.Values.{add16, sub16, mul16, not16, less16, bit, magnitude, isNegative, mod16, apply, is, digits, printed};
 ghost use Rattle.nibl.specs.Tree.{over};
 ghost use Rattle.value.specs.Operators.{valueOf, opOf};
+ghost use Rattle.value.specs.Writes.{Writes, DigitsAt, signByte};
 
 // A value, or the stop number of the refusal.
 pub enum Value {
     Is(u16),
     No(u8),
+}
+
+// The position after an item that was written, or that it does not fit the output.
+pub enum Wrote {
+    To(usize),
+    Full,
 }
 
 pub fn add(a: u16, b: u16) -> u16
@@ -121,4 +129,68 @@ pub fn apply(op: u8, a: u16, b: u16) -> Value
         5 => Value::Is(a | b),
         _ => Value::Is(if holds(op, a, b) { 1 } else { 0 }),
     }
+}
+
+// Writes an item from a position of the output on, whole or not at all.
+pub fn write_item(output: &mut [u8], at: usize, item: &[u8]) -> Wrote
+    ensures { λ r. ⌜ Writes (now (output .entry)) at (now (item .entry)) r (now (output .exit)) ⌝ }
+{
+    if output.len() < at {
+        return Wrote::Full;
+    }
+    if output.len() - at < item.len() {
+        return Wrote::Full;
+    }
+    let mut i = 0;
+    while i < item.len() {
+        output[at + i] = item[i];
+        i += 1;
+    }
+    Wrote::To(at + item.len())
+}
+
+// Puts the digits of n before the last of the eight bytes, the last digit first, and says where they begin.
+fn put_digits(bytes: &mut [u8; 8], n: u16) -> usize
+    requires { ⌜ length (now bytes) ≡ 8 ⌝ }
+    ensures { λ r. ⌜ DigitsAt (now (bytes .entry)) n r (now (bytes .exit)) ⌝ }
+{
+    // how many digits there may still be
+    let mut room: usize = 5;
+    let mut left = n;
+    while 9 < left {
+        bytes[room + 1] = (48 + left % 10) as u8;
+        left = left / 10;
+        room -= 1;
+    }
+    bytes[room + 1] = (48 + left) as u8;
+    room + 1
+}
+
+// A number's digits, without leading zeros, as LIST writes a line number.
+pub fn write_digits(output: &mut [u8], at: usize, n: u16) -> Wrote
+    ensures { λ r. ⌜ Writes (now (output .entry)) at (digits n) r (now (output .exit)) ⌝ }
+{
+    let mut bytes = [32u8; 8];
+    let first = put_digits(&mut bytes, n);
+    write_item(output, at, &bytes[first..7])
+}
+
+// "-" or a space.
+fn sign_byte(v: u16) -> u8
+    ensures { λ r. ⌜ r ≡ signByte v ⌝ }
+{
+    if is_negative(v) {
+        return 45;
+    }
+    32
+}
+
+// A value as PRINT writes it: its sign, its digits and a space.
+pub fn write_number(output: &mut [u8], at: usize, v: u16) -> Wrote
+    ensures { λ r. ⌜ Writes (now (output .entry)) at (printed v) r (now (output .exit)) ⌝ }
+{
+    let mut bytes = [32u8; 8];
+    let sign = put_digits(&mut bytes, size(v)) - 1;
+    bytes[sign] = sign_byte(v);
+    write_item(output, at, &bytes[sign..])
 }
