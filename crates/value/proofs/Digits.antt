@@ -9,7 +9,8 @@ use native.Mathlib.Omega.{arith}
 use lib.ListN.{length, take, drop, set, getD, length-append, length-drop, length-set}
 use lib.Seq.{drop-cons, getD-set-same, drop-set-lt, take-at, take-all}
 use lib.Dec.{ltb}
-use borrow.Author.Tests.{lt-ltb, le-ltb, ltb-true, ltb-false}
+use borrow.Author.Tests.{lt-ltb, le-ltb, ltb-true, ltb-false, le-leb}
+use Rattle.nibl.specs.Bytes.{isDigit, All, none, each, decimalValue}
 use Rattle.nibl.specs.Values.{digitsN, digits, printed, magnitude}
 use Rattle.value.specs.Writes.{DigitsAt, signByte}
 
@@ -130,3 +131,42 @@ module _ {before after : List ℕ} {n first : ℕ} (d : DigitsAt before n first 
       let q : first - 1 + 1 ≡ first = omega arith in
       let h : length (signByte v ∷ (digits n ++ (32 ∷ []))) ≤ 8 - (first - 1) = simp length-append (omega arith) in
       rw (put-before after (first - 1) (signByte v) g, q, d .bytes, space, take-all _ _ h, e)
+
+-- ---- what the digits say
+
+pub digits-value : (k n : ℕ) (ds : List ℕ) → n < 10 ^ k → decimalValue 0 (digitsN k n ds) ≡ decimalValue n ds
+digits-value zero n ds h = ap (λ v. decimalValue v ds) (omega arith)
+digits-value (suc k) n ds h =
+    let p : 10 ^ suc k ≡ 10 ^ k * 10 = pow-suc 10 k in
+    digits-case (λ l. decimalValue 0 l ≡ decimalValue n ds) k n ds
+    (λ g. ap (λ v. decimalValue v ds) (omega arith))
+    (λ g. digits-value k (n / 10) ((48 + n % 10) ∷ ds) (omega arith) ∙ ap (λ v. decimalValue v ds) (omega arith))
+
+-- reading a number's digits gives the number
+pub value-digits : (n : ℕ) → n < 100000 → decimalValue 0 (digits n) ≡ n
+unfolding digits
+value-digits n h = digits-value 5 n [] h
+
+digit-byte : (n : ℕ) → n < 10 → isDigit (48 + n) ≡ true
+digit-byte n h = rw (le-leb 48 (48 + n) (omega arith), le-leb (48 + n) 57 (omega arith))
+
+digits-all : (k n : ℕ) (ds : List ℕ) → All isDigit ds → All isDigit (digitsN k n ds)
+digits-all zero n ds e = e
+digits-all (suc k) n ds e =
+    digits-case (All isDigit) k n ds (λ h. each (digit-byte n h) e)
+    (λ h. digits-all k (n / 10) ((48 + n % 10) ∷ ds) (each (digit-byte (n % 10) (omega arith)) e))
+
+pub digits-are : (n : ℕ) → All isDigit (digits n)
+unfolding digits
+digits-are n = digits-all 5 n [] none
+
+-- only 0 has a first digit 0
+digits-first : (k n : ℕ) (ds : List ℕ) → 0 < n → n < 10 ^ k → 48 < getD (digitsN k n ds) 0 0
+digits-first zero n ds z h = absurd (omega arith)
+digits-first (suc k) n ds z h =
+    let p : 10 ^ suc k ≡ 10 ^ k * 10 = pow-suc 10 k in
+    digits-case (λ l. 48 < getD l 0 0) k n ds (λ g. omega arith) (λ g. digits-first k (n / 10) ((48 + n % 10) ∷ ds) (omega arith) (omega arith))
+
+pub no-leading-zero : (n : ℕ) → 0 < n → n < 100000 → 48 < getD (digits n) 0 0
+unfolding digits
+no-leading-zero n z h = digits-first 5 n [] z h

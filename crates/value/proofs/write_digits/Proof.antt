@@ -3,10 +3,6 @@ use mathlib.Core.Path.{refl}
 use Rattle.value.proofs.Digits.{digits-part}
 use Rattle.value.proofs.write_digits.Statement.{statement}
 use Rattle.value.proofs.write_digits.Tie as tie
-use Rattle.value.proofs.write_digits.Reads as reads
-use Rattle.value.proofs.write_digits.Lts as lts
-use Rattle.value.proofs.put_digits.Reads as put-digits-reads
-use Rattle.value.proofs.write_item.Reads as write-item-reads
 
 put-digits-requires : tie.Need-put-digits-requires
 put-digits-requires c κs = search needs

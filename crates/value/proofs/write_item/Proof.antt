@@ -8,8 +8,6 @@ use lib.Seq.{sets, take-length}
 use Rattle.value.proofs.Writing.{sets-more, writes-whole, writes-none}
 use Rattle.value.proofs.write_item.Statement.{statement}
 use Rattle.value.proofs.write_item.Tie as tie
-use Rattle.value.proofs.write_item.Reads as reads
-use Rattle.value.proofs.write_item.Lts as lts
 
 abbrev Inv-loop : tie.InvT-loop
 Inv-loop output₀ at item i₀ output i = (i ≤ length item) × (length output ≡ length output₀) × (output ≡ sets output₀ at (take i item))

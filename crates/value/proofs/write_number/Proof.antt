@@ -5,12 +5,6 @@ use lib.ListN.{length-set}
 use Rattle.value.proofs.Digits.{digits-few, printed-part}
 use Rattle.value.proofs.write_number.Statement.{statement}
 use Rattle.value.proofs.write_number.Tie as tie
-use Rattle.value.proofs.write_number.Reads as reads
-use Rattle.value.proofs.write_number.Lts as lts
-use Rattle.value.proofs.put_digits.Reads as put-digits-reads
-use Rattle.value.proofs.sign_byte.Reads as sign-byte-reads
-use Rattle.value.proofs.size.Reads as size-reads
-use Rattle.value.proofs.write_item.Reads as write-item-reads
 
 size-requires : tie.Need-size-requires
 size-requires c κs = search needs
