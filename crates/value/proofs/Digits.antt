@@ -1,6 +1,6 @@
 -- Laws of a number's digits, for this crate's proofs and for callers to cite. Assumes nothing.
 use Prim.Native.Nat.{ℕ, zero, suc, _+_, _-_, _*_, _/_, _%_, _^_, _≤_, _<_}
-use mathlib.Core.Path.{_≡_, refl, sym, ap, _∙_, subst}
+use mathlib.Core.Path.{_≡_, refl, sym, ap, _∙_}
 use mathlib.Core.Bool.{Bool, true, false}
 use mathlib.Core.List.{List, [], _∷_, _++_}
 use native.Mathlib.Nat.{pow-suc}
@@ -69,12 +69,12 @@ collected-turn {bytes = bytes} {room = suc (suc m)} {left = left} c h =
     let g : suc (suc m) + 1 < length bytes = omega arith in
     rw e
     (record {
-    low = omega arith;
-    high = omega arith;
-    small = omega arith;
-    first-long = c .first-long;
-    long = simp length-set (c .long);
-    done = rw (i, put-before bytes (suc (suc m) + 1) (48 + left % 10) g, j) (sym (digits-step (suc m) left _ h) ∙ c .done)
+      low = omega arith;
+      high = omega arith;
+      small = omega arith;
+      first-long = c .first-long;
+      long = simp length-set (c .long);
+      done = rw (i, put-before bytes (suc (suc m) + 1) (48 + left % 10) g, j) (sym (digits-step (suc m) left _ h) ∙ c .done);
     })
 
 pub collected-end : {before bytes : List ℕ} {n room left : ℕ} → Collected before n bytes room left → left < 10
@@ -86,8 +86,8 @@ collected-end {before = before} {bytes = bytes} {n = n} {room = suc m} {left = l
     let g : suc m + 1 < length bytes = omega arith in
     let after = set bytes (suc m + 1) (48 + left) in
     let e : drop (suc m + 1) after ≡ digits n ++ drop 7 before =
-        rw (put-before bytes (suc m + 1) (48 + left) g, j)
-        (sym (digits-last m left _ h) ∙ c .done ∙ digits-before 5 n [] (drop 7 before)) in
+    rw (put-before bytes (suc m + 1) (48 + left) g, j)
+    (sym (digits-last m left _ h) ∙ c .done ∙ digits-before 5 n [] (drop 7 before)) in
     let l = simp (length-append, length-drop, length-set, c .long, c .first-long) at (ap length e) in
     record { long = simp length-set (c .long ∙ sym (c .first-long)); begin = omega arith; bytes = e }
 

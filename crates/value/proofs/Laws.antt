@@ -1,6 +1,6 @@
 -- Laws of the operators, for this crate's proofs and for callers to cite. Assumes nothing.
 use Prim.Native.Nat.{ℕ, _+_, _-_, _*_, _/_, _^_, _≤_, _<_}
-use mathlib.Core.Path.{_≡_, refl, ap, subst⁻¹}
+use mathlib.Core.Path.{_≡_, refl, subst⁻¹}
 use mathlib.Core.Bool.{Bool, true, false, not, Bool·beq}
 use native.Mathlib.Nat.{lt-of-le-of-lt, le-of-lt, mul-le-mul-left, mul-lt-mul-of-pos-right, div-le-self, mod-le}
 use native.Mathlib.Omega.{arith}
@@ -11,8 +11,10 @@ use lib.Dec.{ltb, eqb}
 use borrow.Author.Tests.{ltb-true, ltb-false, ne-eqb}
 use Rattle.nibl.specs.Bytes.{if_then_else_}
 use Rattle.nibl.specs.Tree.{Op, times, over, both, plus, minus, either, equal, less, greater, atMost, atLeast, unequal}
-use Rattle.nibl.specs.Values.{Value, is, no, bit, less16, mod16, apply, magnitude, isNegative, differ, quotient16, sub16, unlessZero}
-use Rattle.value.specs.Operators.{operators, opOf}
+use Rattle.nibl.specs.Values.{is, no, bit, less16, mod16, apply, magnitude, isNegative, differ, quotient16, sub16, unlessZero}
+use Rattle.value.specs.Operators.{valueOf, operators, opOf}
+use Rattle.value.specs.declared.Value.{Value}
+use Rattle.value.specs.declared.Value.the-variants.{Is, No}
 
 -- a product of two numbers of k bits has at most twice as many
 pub product-below : (k : ℕ) {a b : ℕ} → a < 2 ^ k → b < 2 ^ k → a * b < 2 ^ (k + k)
@@ -102,3 +104,11 @@ apply-below greater a b v ha hb e = below (bit-below (less16 b a)) e
 apply-below atMost a b v ha hb e = below (bit-below (not (less16 b a))) e
 apply-below atLeast a b v ha hb e = below (bit-below (not (less16 a b))) e
 apply-below unequal a b v ha hb e = below (bit-below (not (eqb a b))) e
+
+-- ---- an answer is determined by what it stands for
+
+pub value-same : (r s : Value) → valueOf r ≡ valueOf s → r ≡ s
+value-same (Is v) (Is w) e = let q : v ≡ w = cc in cc
+value-same (No m) (No n) e = let q : m ≡ n = cc in cc
+value-same (Is v) (No n) e = let z : _≡_ {A = ℕ} 0 1 = cc in absurd (omega arith)
+value-same (No m) (Is w) e = let z : _≡_ {A = ℕ} 0 1 = cc in absurd (omega arith)

@@ -6,9 +6,9 @@ use native.Mathlib.Nat.{add-zero}
 use native.Mathlib.Numerals.{add-one}
 use native.Mathlib.Omega.{arith}
 use lib.ListN.{length, getD, take, set}
-use lib.Seq.{sets, length-sets, take-suc, length-take-le}
+use lib.Seq.{sets, take-suc, length-take-le}
 use borrow.Author.Tests.{le-leb, lt-leb}
-use Rattle.value.specs.Writes.{Writes}
+use Rattle.value.specs.Writes.{Writes, wroteOf}
 use Rattle.value.specs.declared.Wrote.{Wrote}
 use Rattle.value.specs.declared.Wrote.the-variants.{To, Full}
 
@@ -31,3 +31,14 @@ module _ (output item : List ℕ) (at : ℕ) where
 
   pub writes-none : length output < at + length item → Writes output at item Full output
   writes-none h = let e = lt-leb _ _ h in record { answer = rw e; output = rw e }
+
+wrote-same : (r s : Wrote) → wroteOf r ≡ wroteOf s → r ≡ s
+wrote-same (To m) (To n) e = let q : m ≡ n = cc in cc
+wrote-same Full Full e = refl
+wrote-same (To m) Full e = let z : _≡_ {A = ℕ} 0 1 = cc in absurd (omega arith)
+wrote-same Full (To n) e = let z : _≡_ {A = ℕ} 0 1 = cc in absurd (omega arith)
+
+-- the answer and the output after it are determined
+pub writes-same : {before item after after' : List ℕ} {at : ℕ} {r s : Wrote} → Writes before at item r after → Writes before at item s after'
+    → (r ≡ s) × (after ≡ after')
+writes-same {r = r} {s = s} p q = (wrote-same r s (p .answer ∙ sym (q .answer)), p .output ∙ sym (q .output))

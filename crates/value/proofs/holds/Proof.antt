@@ -1,6 +1,5 @@
 -- `holds` meets its contract: an arm for each relation. Assumes nothing.
 use borrow.Author.Needs.{needs}
-use mathlib.Core.Path.{refl}
 use Prim.Native.Nat.{_≤_}
 use native.Mathlib.Omega.{arith}
 use Rattle.nibl.specs.Values.{apply}

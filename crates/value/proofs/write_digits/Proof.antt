@@ -1,3 +1,4 @@
+-- `write_digits` meets its contract: the part that is written is the digits. Assumes nothing.
 use borrow.Author.Needs.{needs}
 use mathlib.Core.Path.{refl}
 use Rattle.value.proofs.Digits.{digits-part}

@@ -1,3 +1,4 @@
+-- `write_number` meets its contract: the part that is written is the sign, the digits and the space. Assumes nothing.
 use borrow.Author.Needs.{needs}
 use mathlib.Core.Path.{refl}
 use native.Mathlib.Omega.{arith}
