@@ -5,7 +5,7 @@ ghost use mathlib.Core.Bool.{true};
 ghost use lib.ListN.{length, drop, getD};
 ghost use lib.Seq.{slice};
 ghost use Rattle.nibl.specs.Bytes.{isSpace, isDigit, isCapital, isHexDigit, isQuotable, front, past, decimalValue};
-ghost use Rattle.nibl.specs.Words.{isSymbol, pairs, numberOr};
+ghost use Rattle.nibl.specs.Words.{keywords, commands, isSymbol, pairs, numberOr};
 ghost use Rattle.nibl.specs.Read.{lettersStep, digitsStep, hexStep, quotedStep, stepIn};
 ghost use Rattle.word.specs.Found.{passing, keyOf, seat, keysOf, tableOf, signStep, hexDigit, Stands};
 
@@ -194,4 +194,178 @@ fn number_of(k: u64, commands: bool) -> u8
     } else {
         place(&KEYWORDS, k)
     }
+}
+
+// The run of capitals that starts at `from`: one letter is a variable, more are a keyword or nothing.
+fn letters(text: &[u8], from: usize, commands: bool) -> Word
+    requires { ⌜ (from < length (now text)) × (isCapital (getD (now text) from 0) ≡ true) ⌝ }
+    ensures { λ r. ⌜ Stands (lettersStep (tableOf commands) (front isCapital (drop from (now (text .entry)))) (past isCapital (drop from (now (text .entry))))) (now (text .entry)) from r ⌝ }
+{
+    let to = run_end(text, from, CAPITAL);
+    let n = to - from;
+    if n == 1 {
+        return Word::Variable(text[from] - 65, Cursor { at: to });
+    }
+    if 6 < n {
+        return Word::Wrong;
+    }
+    let k = number_of(key(text, from, to), commands);
+    if k == 0 {
+        return Word::Wrong;
+    }
+    Word::Sign(k, Cursor { at: to })
+}
+
+fn digit(b: u8) -> u32
+    requires { ⌜ isDigit b ≡ true ⌝ }
+    ensures { λ r. ⌜ r ≡ b - 48 ⌝ }
+{
+    (b - 48) as u32
+}
+
+// The constant whose first digit stands at `from`. Once it is too large, more digits keep it so.
+fn decimal(text: &[u8], from: usize) -> Word
+    requires { ⌜ (from < length (now text)) × (isDigit (getD (now text) from 0) ≡ true) ⌝ }
+    ensures { λ r. ⌜ Stands (digitsStep (decimalValue 0 (front isDigit (drop from (now (text .entry))))) (past isDigit (drop from (now (text .entry))))) (now (text .entry)) from r ⌝ }
+{
+    let mut v: u32 = 0;
+    let mut i = from;
+    while i < text.len() {
+        let b = text[i];
+        if !is_digit(b) {
+            break;
+        }
+        v = v * 10 + digit(b);
+        if 32767 < v {
+            return Word::Wrong;
+        }
+        i += 1;
+    }
+    Word::Decimal(v as u16, Cursor { at: i })
+}
+
+fn hex_digit(b: u8) -> u16
+    requires { ⌜ isHexDigit b ≡ true ⌝ }
+    ensures { λ r. ⌜ r ≡ hexDigit b ⌝ }
+{
+    if b < 58 {
+        return (b - 48) as u16;
+    }
+    (b - 55) as u16
+}
+
+// The constant whose digits start at `from`, past the "#". Its low 16 bits count: the top digit falls out.
+fn hex(text: &[u8], from: usize) -> Word
+    requires { ⌜ from ≤ length (now text) ⌝ }
+    ensures { λ r. ⌜ Stands (hexStep (front isHexDigit (drop from (now (text .entry)))) (past isHexDigit (drop from (now (text .entry))))) (now (text .entry)) from r ⌝ }
+{
+    let mut v: u16 = 0;
+    let mut i = from;
+    while i < text.len() {
+        let b = text[i];
+        if !is_hex_digit(b) {
+            break;
+        }
+        v = v % 4096 * 16 + hex_digit(b);
+        i += 1;
+    }
+    if i == from {
+        return Word::Wrong;
+    }
+    Word::Hex(v, Cursor { at: i })
+}
+
+// The string whose first byte stands at `from`, past the opening quote.
+fn quoted(text: &[u8], from: usize) -> Word
+    ensures { λ r. ⌜ Stands (quotedStep (front isQuotable (drop from (now (text .entry)))) (past isQuotable (drop from (now (text .entry))))) (now (text .entry)) from r ⌝ }
+{
+    let to = run_end(text, from, QUOTABLE);
+    if text.len() <= to {
+        return Word::Wrong;
+    }
+    if text[to] != 34 {
+        return Word::Wrong;
+    }
+    Word::Text(from, to, Cursor { at: to + 1 })
+}
+
+// The number of <= >= <>; 0 where two bytes are none of them.
+fn pair(a: u8, b: u8) -> u8
+    ensures { λ r. ⌜ r ≡ numberOr 0 (pairs a b) ⌝ }
+{
+    if a == 60 {
+        if b == 61 {
+            return 1;
+        }
+        if b == 62 {
+            return 3;
+        }
+        return 0;
+    }
+    if a == 62 {
+        if b == 61 {
+            return 2;
+        }
+    }
+    0
+}
+
+// A pair or a symbol.
+fn symbol(text: &[u8], from: usize) -> Word
+    requires { ⌜ from < length (now text) ⌝ }
+    ensures { λ r. ⌜ Stands (signStep (getD (now (text .entry)) from 0) (drop (from + 1) (now (text .entry)))) (now (text .entry)) from r ⌝ }
+{
+    let a = text[from];
+    let n = from + 1;
+    if !is_symbol(a) {
+        return Word::Wrong;
+    }
+    if n < text.len() {
+        let k = pair(a, text[n]);
+        if k != 0 {
+            return Word::Sign(k, Cursor { at: n + 1 });
+        }
+        return Word::Sign(a, Cursor { at: n });
+    }
+    Word::Sign(a, Cursor { at: n })
+}
+
+// The word at a cursor, past any spaces, by the keywords or by the commands.
+fn word_in(text: &[u8], from: usize, commands: bool) -> Word
+    ensures { λ r. ⌜ Stands (stepIn (tableOf commands) (drop from (now (text .entry)))) (now (text .entry)) from r ⌝ }
+{
+    let i = run_end(text, from, SPACE);
+    if text.len() <= i {
+        return Word::End;
+    }
+    let b = text[i];
+    if is_capital(b) {
+        return letters(text, i, commands);
+    }
+    if is_digit(b) {
+        return decimal(text, i);
+    }
+    if b == 35 {
+        return hex(text, i + 1);
+    }
+    if b == 34 {
+        return quoted(text, i + 1);
+    }
+    symbol(text, i)
+}
+
+// The word that stands at a cursor of any text.
+pub fn word_at(text: &[u8], c: Cursor) -> Word
+    ensures { λ r. ⌜ Stands (stepIn keywords (drop (c .at) (now (text .entry)))) (now (text .entry)) (c .at) r ⌝ }
+{
+    let from = c.at;
+    word_in(text, from, false)
+}
+
+// The word that stands at a cursor, where commands are the keywords: at the front of an immediate line.
+pub fn command_at(text: &[u8], c: Cursor) -> Word
+    ensures { λ r. ⌜ Stands (stepIn commands (drop (c .at) (now (text .entry)))) (now (text .entry)) (c .at) r ⌝ }
+{
+    let from = c.at;
+    word_in(text, from, true)
 }
