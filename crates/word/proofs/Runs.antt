@@ -73,13 +73,14 @@ pub record Parted (p : ℕ → Bool) (s : List ℕ) : Type 0 where
   pub rest : past p s ≡ drop (length (front p s)) s
   pub short : length (front p s) ≤ length s
   pub stops : starts p (past p s) ≡ false
+  pub each : all p (front p s) ≡ true
 
 parted-step : (p : ℕ → Bool) (b : ℕ) (s : List ℕ) → Parted p s → (t : Bool) → p b ≡ t → Parted p (b ∷ s)
-parted-step p b s h true e = record { run = rw e (ap (λ (l : List ℕ). b ∷ l) (h .run)); rest = rw e (h .rest); short = rw e (omega arith); stops = rw e (h .stops) }
-parted-step p b s h false e = record { run = rw e refl; rest = rw e refl; short = rw e (omega arith); stops = rw (e, past) e }
+parted-step p b s h true e = record { run = rw e (ap (λ (l : List ℕ). b ∷ l) (h .run)); rest = rw e (h .rest); short = rw e (omega arith); stops = rw e (h .stops); each = rw e (rw e (h .each)) }
+parted-step p b s h false e = record { run = rw e refl; rest = rw e refl; short = rw e (omega arith); stops = rw (e, past) e; each = rw e refl }
 
 pub parted : (p : ℕ → Bool) (s : List ℕ) → Parted p s
-parted p [] = record { run = refl; rest = refl; short = omega arith; stops = refl }
+parted p [] = record { run = refl; rest = refl; short = omega arith; stops = refl; each = refl }
 parted p (b ∷ s) = parted-step p b s (parted p s) (p b) refl
 
 slice-front : (f n : ℕ) (l : List ℕ) → slice f (f + n) l ≡ take n (drop f l)
@@ -92,11 +93,11 @@ abbrev pub runEnd : (ℕ → Bool) → List ℕ → ℕ → ℕ
 runEnd p text from = from + length (front p (drop from text))
 
 module _ (p : ℕ → Bool) (text : List ℕ) where
-  pub run-at : (from : ℕ) → front p (drop from text) ≡ slice from (runEnd p text from) text
-  run-at from = parted p (drop from text) .run ∙ sym (slice-front from (length (front p (drop from text))) text)
+  pub run-at : (from to : ℕ) → to ≡ runEnd p text from → front p (drop from text) ≡ slice from to text
+  run-at from to e = rw e (parted p (drop from text) .run ∙ sym (slice-front from (length (front p (drop from text))) text))
 
-  pub rest-at : (from : ℕ) → past p (drop from text) ≡ drop (runEnd p text from) text
-  rest-at from = parted p (drop from text) .rest ∙ drop-drop (length (front p (drop from text))) from text
+  pub rest-at : (from to : ℕ) → to ≡ runEnd p text from → past p (drop from text) ≡ drop to text
+  rest-at from to e = rw e (parted p (drop from text) .rest ∙ drop-drop (length (front p (drop from text))) from text)
 
   pub end-within : (from : ℕ) → from ≤ length text → runEnd p text from ≤ length text
   end-within from h = omega (arith, parted p (drop from text) .short, length-drop from text)
@@ -112,3 +113,14 @@ module _ (p : ℕ → Bool) (text : List ℕ) where
 
   pub end-stop : (i : ℕ) → starts p (drop i text) ≡ false → runEnd p text i ≡ i
   end-stop i e = rw (front-stop p (drop i text) e) (omega arith)
+
+  -- what follows the run that starts at `from`, where a later end is known to be its end and the run to stop there
+  pub rest-stop : (from i : ℕ) → runEnd p text i ≡ runEnd p text from → starts p (drop i text) ≡ false → past p (drop from text) ≡ drop i text
+  rest-stop from i e f = rest-at from i (sym (end-stop i f) ∙ e)
+
+  -- a byte that passes makes a run
+  pub run-cons : (from : ℕ) → from < length text → p (getD text from 0) ≡ true → front p (drop from text) ≡ getD text from 0 ∷ front p (drop (from + 1) text)
+  run-cons from h e = rw (at-byte text from h) (front-go p (getD text from 0) (drop (from + 1) text) e)
+
+  pub end-past : (from : ℕ) → from < length text → p (getD text from 0) ≡ true → from < runEnd p text from
+  end-past from h e = rw (run-cons from h e) (omega arith)

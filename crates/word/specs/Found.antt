@@ -6,9 +6,9 @@ use mathlib.Core.List.{List, [], _∷_, map}
 use lib.Dec.{eqb}
 use lib.ListN.{length, drop}
 use lib.Seq.{slice}
-use Rattle.nibl.specs.Bytes.{if_then_else_, isSpace, isDigit, isCapital, isQuotable}
+use Rattle.nibl.specs.Bytes.{if_then_else_, isSpace, isDigit, isCapital, isHexDigit, isQuotable, front, past, decimalValue}
 use Rattle.nibl.specs.Words.{variable, decimal, hex, string, sign, keywords, commands, isSymbol}
-use Rattle.nibl.specs.Read.{Step, ended, wrong, got, symbolStep}
+use Rattle.nibl.specs.Read.{Step, ended, wrong, got, lettersStep, digitsStep, hexStep, quotedStep, symbolStep}
 use Rattle.word.specs.declared.Cursor.{Cursor}
 use Rattle.word.specs.declared.Word.{Word}
 use Rattle.word.specs.declared.Word.the-variants.{Variable, Decimal, Hex, Text, Sign, End, Wrong}
@@ -33,9 +33,9 @@ Inside at n (Sign k c) = (at < c .at) × (c .at ≤ n)
 Inside at n End = Unit {0}
 Inside at n Wrong = Unit {0}
 
--- the word r, read at a position of a text, is this step
-pub record Stands (step : Step) (text : List ℕ) (at : ℕ) (r : Word) : Type 0 where
-  pub same : stepOf text r ≡ step
+-- the word r, read at a position of a text, is what the definition's `step` finds there
+pub record Stands (step : List ℕ → Step) (text : List ℕ) (at : ℕ) (r : Word) : Type 0 where
+  pub same : stepOf text r ≡ step (drop at text)
   pub inside : Inside at (length text) r
 
 -- what the runs consist of, by number
@@ -63,5 +63,20 @@ keysOf b = map keyOf (tableOf b)
 abbrev pub hexDigit : ℕ → ℕ
 hexDigit d = if isDigit d then d - 48 else d - 55
 
-abbrev pub signStep : ℕ → List ℕ → Step
-signStep b s = if isSymbol b then symbolStep b s else wrong
+-- The kinds of word, each as a step
+abbrev pub lettersAt : List (List ℕ) → List ℕ → Step
+lettersAt table s = lettersStep table (front isCapital s) (past isCapital s)
+
+abbrev pub decimalAt : List ℕ → Step
+decimalAt s = digitsStep (decimalValue 0 (front isDigit s)) (past isDigit s)
+
+-- past the "#", and past the opening quote
+abbrev pub hexAt : List ℕ → Step
+hexAt s = hexStep (front isHexDigit s) (past isHexDigit s)
+
+abbrev pub quotedAt : List ℕ → Step
+quotedAt s = quotedStep (front isQuotable s) (past isQuotable s)
+
+abbrev pub symbolAt : List ℕ → Step
+symbolAt [] = wrong
+symbolAt (b ∷ s) = if isSymbol b then symbolStep b s else wrong

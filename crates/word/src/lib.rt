@@ -4,10 +4,11 @@ ghost use mathlib.Core.Path.{_≡_};
 ghost use mathlib.Core.Bool.{true};
 ghost use lib.ListN.{length, drop, getD};
 ghost use lib.Seq.{slice};
-ghost use Rattle.nibl.specs.Bytes.{isSpace, isDigit, isCapital, isHexDigit, isQuotable, front, past, decimalValue};
+ghost use Rattle.nibl.specs.Bytes.{isDigit, isCapital, isHexDigit, isQuotable, front};
 ghost use Rattle.nibl.specs.Words.{keywords, commands, isSymbol, pairs, numberOr};
-ghost use Rattle.nibl.specs.Read.{lettersStep, digitsStep, hexStep, quotedStep, stepIn};
-ghost use Rattle.word.specs.Found.{passing, keyOf, seat, keysOf, tableOf, signStep, hexDigit, Stands};
+ghost use Rattle.nibl.specs.Read.{stepIn};
+ghost use Rattle.word.specs.Found.{passing, keyOf, seat, tableOf, keysOf, hexDigit};
+ghost use Rattle.word.specs.Found.{Stands, lettersAt, decimalAt, hexAt, quotedAt, symbolAt};
 
 // Where a reader stands in a text.
 pub struct Cursor {
@@ -199,7 +200,7 @@ fn number_of(k: u64, commands: bool) -> u8
 // The run of capitals that starts at `from`: one letter is a variable, more are a keyword or nothing.
 fn letters(text: &[u8], from: usize, commands: bool) -> Word
     requires { ⌜ (from < length (now text)) × (isCapital (getD (now text) from 0) ≡ true) ⌝ }
-    ensures { λ r. ⌜ Stands (lettersStep (tableOf commands) (front isCapital (drop from (now (text .entry)))) (past isCapital (drop from (now (text .entry))))) (now (text .entry)) from r ⌝ }
+    ensures { λ r. ⌜ Stands (lettersAt (tableOf commands)) (now (text .entry)) from r ⌝ }
 {
     let to = run_end(text, from, CAPITAL);
     let n = to - from;
@@ -218,7 +219,7 @@ fn letters(text: &[u8], from: usize, commands: bool) -> Word
 
 fn digit(b: u8) -> u32
     requires { ⌜ isDigit b ≡ true ⌝ }
-    ensures { λ r. ⌜ r ≡ b - 48 ⌝ }
+    ensures { λ r. ⌜ (r ≡ b - 48) × (r ≤ 9) ⌝ }
 {
     (b - 48) as u32
 }
@@ -226,7 +227,7 @@ fn digit(b: u8) -> u32
 // The constant whose first digit stands at `from`. Once it is too large, more digits keep it so.
 fn decimal(text: &[u8], from: usize) -> Word
     requires { ⌜ (from < length (now text)) × (isDigit (getD (now text) from 0) ≡ true) ⌝ }
-    ensures { λ r. ⌜ Stands (digitsStep (decimalValue 0 (front isDigit (drop from (now (text .entry))))) (past isDigit (drop from (now (text .entry))))) (now (text .entry)) from r ⌝ }
+    ensures { λ r. ⌜ Stands decimalAt (now (text .entry)) from r ⌝ }
 {
     let mut v: u32 = 0;
     let mut i = from;
@@ -246,9 +247,9 @@ fn decimal(text: &[u8], from: usize) -> Word
 
 fn hex_digit(b: u8) -> u16
     requires { ⌜ isHexDigit b ≡ true ⌝ }
-    ensures { λ r. ⌜ r ≡ hexDigit b ⌝ }
+    ensures { λ r. ⌜ (r ≡ hexDigit b) × (r ≤ 15) ⌝ }
 {
-    if b < 58 {
+    if is_digit(b) {
         return (b - 48) as u16;
     }
     (b - 55) as u16
@@ -257,7 +258,7 @@ fn hex_digit(b: u8) -> u16
 // The constant whose digits start at `from`, past the "#". Its low 16 bits count: the top digit falls out.
 fn hex(text: &[u8], from: usize) -> Word
     requires { ⌜ from ≤ length (now text) ⌝ }
-    ensures { λ r. ⌜ Stands (hexStep (front isHexDigit (drop from (now (text .entry)))) (past isHexDigit (drop from (now (text .entry))))) (now (text .entry)) from r ⌝ }
+    ensures { λ r. ⌜ Stands hexAt (now (text .entry)) from r ⌝ }
 {
     let mut v: u16 = 0;
     let mut i = from;
@@ -277,7 +278,7 @@ fn hex(text: &[u8], from: usize) -> Word
 
 // The string whose first byte stands at `from`, past the opening quote.
 fn quoted(text: &[u8], from: usize) -> Word
-    ensures { λ r. ⌜ Stands (quotedStep (front isQuotable (drop from (now (text .entry)))) (past isQuotable (drop from (now (text .entry))))) (now (text .entry)) from r ⌝ }
+    ensures { λ r. ⌜ Stands quotedAt (now (text .entry)) from r ⌝ }
 {
     let to = run_end(text, from, QUOTABLE);
     if text.len() <= to {
@@ -313,7 +314,7 @@ fn pair(a: u8, b: u8) -> u8
 // A pair or a symbol.
 fn symbol(text: &[u8], from: usize) -> Word
     requires { ⌜ from < length (now text) ⌝ }
-    ensures { λ r. ⌜ Stands (signStep (getD (now (text .entry)) from 0) (drop (from + 1) (now (text .entry)))) (now (text .entry)) from r ⌝ }
+    ensures { λ r. ⌜ Stands symbolAt (now (text .entry)) from r ⌝ }
 {
     let a = text[from];
     let n = from + 1;
@@ -332,7 +333,7 @@ fn symbol(text: &[u8], from: usize) -> Word
 
 // The word at a cursor, past any spaces, by the keywords or by the commands.
 fn word_in(text: &[u8], from: usize, commands: bool) -> Word
-    ensures { λ r. ⌜ Stands (stepIn (tableOf commands) (drop from (now (text .entry)))) (now (text .entry)) from r ⌝ }
+    ensures { λ r. ⌜ Stands (stepIn (tableOf commands)) (now (text .entry)) from r ⌝ }
 {
     let i = run_end(text, from, SPACE);
     if text.len() <= i {
@@ -356,7 +357,7 @@ fn word_in(text: &[u8], from: usize, commands: bool) -> Word
 
 // The word that stands at a cursor of any text.
 pub fn word_at(text: &[u8], c: Cursor) -> Word
-    ensures { λ r. ⌜ Stands (stepIn keywords (drop (c .at) (now (text .entry)))) (now (text .entry)) (c .at) r ⌝ }
+    ensures { λ r. ⌜ Stands (stepIn keywords) (now (text .entry)) (c .at) r ⌝ }
 {
     let from = c.at;
     word_in(text, from, false)
@@ -364,7 +365,7 @@ pub fn word_at(text: &[u8], c: Cursor) -> Word
 
 // The word that stands at a cursor, where commands are the keywords: at the front of an immediate line.
 pub fn command_at(text: &[u8], c: Cursor) -> Word
-    ensures { λ r. ⌜ Stands (stepIn commands (drop (c .at) (now (text .entry)))) (now (text .entry)) (c .at) r ⌝ }
+    ensures { λ r. ⌜ Stands (stepIn commands) (now (text .entry)) (c .at) r ⌝ }
 {
     let from = c.at;
     word_in(text, from, true)
