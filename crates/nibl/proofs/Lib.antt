@@ -1,2 +1,5 @@
 pub mod Sizes
 pub mod Stacks
+pub mod Words
+pub mod Over
+pub mod Rules
