@@ -3,3 +3,4 @@ pub mod Stacks
 pub mod Words
 pub mod Over
 pub mod Rules
+pub mod Sound

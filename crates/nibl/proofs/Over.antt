@@ -55,6 +55,9 @@ pub passed-length : {s s' : List ℕ} → Passed s s' → length s' ≤ length s
 passed-length here = omega arith
 passed-length (byte e p) = let h = passed-length p in omega arith
 
+pub outside-length : {s s' : List ℕ} → Outside s s' → length s' ≤ length s
+outside-length p = passed-length (outside-passed p)
+
 -- positions are counted from the end: those of the rest are those of the text
 pub passed-drop : {s s' : List ℕ} → Passed s s' → (n : ℕ) → n ≤ length s' → drop (length s - n) s ≡ drop (length s' - n) s'
 passed-drop here n h = refl

@@ -66,7 +66,103 @@ module _ {A : Type 0} {P : A → List ℕ → Type 0} where
       go wrong h = neither
       go (got w t) (said h) = f w t h
 
-  -- cases by a number
-  pub data Cases (Q : ℕ → Reader A → Reader A → Type 0) : List (ℕ × Reader A) → List (ℕ × Reader A) → Type 0 where
-    [] : Cases Q [] []
-    _∷_ : {c d : ℕ × Reader A} {cs ds : List (ℕ × Reader A)} → Q (c .0) (c .1) (d .1) → Cases Q cs ds → Cases Q (c ∷ cs) (d ∷ ds)
+-- the ways on from what is found
+module _ {A B : Type 0} {P : A → List ℕ → Type 0} where
+  pub or-else : {Q : B → Type 0} {f g : Found A} {k k' : A → List ℕ → B} (r r' : List ℕ → B) (s : List ℕ) → Same P f g
+      → ((a : A) (t : List ℕ) → P a t → Alike Q (k a t) (k' a t)) → Alike Q (r s) (r' s) → Alike Q (orElse f k r s) (orElse g k' r' s)
+  or-else r r' s (alike nil) h i = i
+  or-else r r' s (alike (one {a} {s = t} p)) h i = h a t p
+
+  pub and-then : {Q : B → List ℕ → Type 0} {f g : Found A} {k k' : A → Reader B} → Same P f g
+      → ((a : A) (t : List ℕ) → P a t → Same Q (k a t) (k' a t)) → Same Q (andThen f k) (andThen g k')
+  and-then (alike nil) h = neither
+  and-then (alike (one {a} {s = t} p)) h = h a t p
+
+pub as-so : {A : Type 0} {P Q : A → List ℕ → Type 0} {f g : Found A} → ((a : A) (t : List ℕ) → P a t → Q a t) → Same P f g → Same Q f g
+as-so h (alike nil) = neither
+as-so h (alike (one {a} {s = t} p)) = gives (h a t p)
+
+-- cases by a number
+module _ {C : Type 0} where
+  infixr 5 _and_
+  pub data Cases (Q : ℕ → C → C → Type 0) : List (ℕ × C) → List (ℕ × C) → Type 0 where
+    noMore : Cases Q [] []
+    _and_ : {n : ℕ} {a b : C} {cs ds : List (ℕ × C)} → Q n a b → Cases Q cs ds → Cases Q ((n, a) ∷ cs) ((n, b) ∷ ds)
+
+  pub chosen : {Q : ℕ → C → C → Type 0} {cs ds : List (ℕ × C)} {r r' : C} (k : ℕ) → Cases Q cs ds → Q k r r' → Q k (choose cs r k) (choose ds r' k)
+  chosen k noMore q = q
+  chosen {Q} {r} {r'} k (_and_ {n} {a} {b} {cs} {ds} h c) q = go (eqb k n) refl (chosen k c q)
+    where
+      go : (t : Bool) → eqb k n ≡ t → Q k (choose cs r k) (choose ds r' k) → Q k (if t then a else choose cs r k) (if t then b else choose ds r' k)
+      go true e i = rw (eqb-true k n e) h
+      go false e i = i
+
+-- a reader for what follows the sign of a number
+abbrev pub Case : {A : Type 0} → (A → List ℕ → Type 0) → List ℕ → List ℕ → ℕ → Reader A → Reader A → Type 0
+Case P s t n r r' = W s (sign n) t → Same P (r t) (r' t)
+
+-- one word of a kind
+pub sign-same : (s : List ℕ) → Same (λ k t. W s (sign k) t) (aSign s) (aSign s)
+unfolding aSign
+sign-same s = by-word s go
+  where
+    go : (w : Token) (t : List ℕ) → W s w t → Same (λ k t. W s (sign k) t) (signOf w t) (signOf w t)
+    go (variable v) t h = neither
+    go (decimal n) t h = neither
+    go (hex n) t h = neither
+    go (string bs) t h = neither
+    go (sign k) t h = gives h
+
+pub variable-same : (s : List ℕ) → Same (λ v t. W s (variable v) t) (aVariable s) (aVariable s)
+unfolding aVariable
+variable-same s = by-word s go
+  where
+    go : (w : Token) (t : List ℕ) → W s w t → Same (λ v t. W s (variable v) t) (variableOf w t) (variableOf w t)
+    go (variable v) t h = gives h
+    go (decimal n) t h = neither
+    go (hex n) t h = neither
+    go (string bs) t h = neither
+    go (sign k) t h = neither
+
+pub decimal-same : (s : List ℕ) → Same (λ n t. W s (decimal n) t) (aDecimal s) (aDecimal s)
+unfolding aDecimal
+decimal-same s = by-word s go
+  where
+    go : (w : Token) (t : List ℕ) → W s w t → Same (λ n t. W s (decimal n) t) (decimalOf w t) (decimalOf w t)
+    go (variable v) t h = neither
+    go (decimal n) t h = gives h
+    go (hex n) t h = neither
+    go (string bs) t h = neither
+    go (sign k) t h = neither
+
+pub string-same : (s : List ℕ) → Same (λ bs t. W s (string bs) t) (aString s) (aString s)
+unfolding aString
+string-same s = by-word s go
+  where
+    go : (w : Token) (t : List ℕ) → W s w t → Same (λ bs t. W s (string bs) t) (stringOf w t) (stringOf w t)
+    go (variable v) t h = neither
+    go (decimal n) t h = neither
+    go (hex n) t h = neither
+    go (string bs) t h = gives h
+    go (sign k) t h = neither
+
+-- a word of a name, that stands here or not
+module _ {A : Type 0} {P : A → List ℕ → Type 0} (name : String) (s : List ℕ) where
+  pub if-key : {r r' : Reader A} (q q' : Reader A) → ((t : List ℕ) → Key W name s t → Same P (r t) (r' t)) → Same P (q s) (q' s) → Same P (ifKey name r q s) (ifKey name r' q' s)
+  unfolding ifKey
+  if-key q q' f g =
+      or-else q q' s (sign-same s) (λ k t h. chosen {Q = Case P s t} k (f t and noMore) (λ _. g) h) g
+
+  pub by-key : {r r' : Reader A} → ((t : List ℕ) → Key W name s t → Same P (r t) (r' t)) → Same P (key name r s) (key name r' s)
+  by-key f = if-key fail fail f neither
+
+  pub by-may : {r r' : Reader A} → ((t : List ℕ) → May W name s t → Same P (r t) (r' t)) → Same P (may name r s) (may name r' s)
+  by-may {r} {r'} f = if-key r r' (λ t k. f t (aWord k)) (f s noWord)
+
+pub joint-same : (js : Joints) (s : List ℕ) → Same (λ o t. Joint W js s o t) (aJoint js s) (aJoint js s)
+unfolding aJoint _>>=_
+joint-same js s = and-then (sign-same s) (λ k t h. go (jointOf js k) k t h refl)
+  where
+    go : (o : Option Op) (k : ℕ) (t : List ℕ) → W s (sign k) t → jointOf js k ≡ o → Same (λ o t. Joint W js s o t) (jointFound o t) (jointFound o t)
+    go none k t h e = neither
+    go (some o) k t h e = gives (joint h e)
