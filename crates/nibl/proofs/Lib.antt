@@ -4,3 +4,4 @@ pub mod Words
 pub mod Over
 pub mod Rules
 pub mod Sound
+pub mod Statements

@@ -41,6 +41,10 @@ passed-all : {p : ℕ → Bool} → ((b : ℕ) → p b ≡ true → isText b ≡
 passed-all f done s = here
 passed-all f (each {b} e a) s = byte (f b e) (passed-all f a s)
 
+pub text-passed : {s : List ℕ} → All isText s → Passed s []
+text-passed done = here
+text-passed (each e a) = byte e (text-passed a)
+
 pub outside-passed : {s s' : List ℕ} → Outside s s' → Passed s s'
 outside-passed here = here
 outside-passed (byte {b} e p) = byte (and-left (isText b) (not (eqb b 34)) e) (outside-passed p)

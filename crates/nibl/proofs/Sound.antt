@@ -15,7 +15,7 @@ use Rattle.nibl.proofs.Over.{Outside, here, outside-trans, outside-leng
 use Rattle.nibl.proofs.Rules.{Alike, alike, it, same, Ok, nil, one, W, Same, neither, gives, by-word, or-else, and-then, as-so, Cases, noMore, _and_, chosen, Case, sign-same, if-key, by-key, by-may, joint-same}
 
 -- A reading is not empty
-may-out : {name : String} {s s' : List ℕ} → May W name s s' → Outside s s'
+pub may-out : {name : String} {s s' : List ℕ} → May W name s s' → Outside s s'
 may-out noWord = here
 may-out (aWord k) = word-over k .out
 
