@@ -5,3 +5,4 @@ pub mod Over
 pub mod Rules
 pub mod Sound
 pub mod Statements
+pub mod Lines

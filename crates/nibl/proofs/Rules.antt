@@ -73,6 +73,11 @@ module _ {A B : Type 0} {P : A → List ℕ → Type 0} where
   or-else r r' s (alike nil) h i = i
   or-else r r' s (alike (one {a} {s = t} p)) h i = h a t p
 
+  pub or-ok : {Q : B → Type 0} {f : Found A} {k : A → List ℕ → Option B} (r : List ℕ → Option B) (s : List ℕ) → Same P f f
+      → ((a : A) (t : List ℕ) → P a t → OkSome Q (k a t)) → OkSome Q (r s) → OkSome Q (orElse f k r s)
+  or-ok r s (alike nil) h i = i
+  or-ok r s (alike (one {a} {s = t} p)) h i = h a t p
+
   pub and-then : {Q : B → List ℕ → Type 0} {f g : Found A} {k k' : A → Reader B} → Same P f g
       → ((a : A) (t : List ℕ) → P a t → Same Q (k a t) (k' a t)) → Same Q (andThen f k) (andThen g k')
   and-then (alike nil) h = neither
