@@ -6,3 +6,5 @@ pub mod Rules
 pub mod Sound
 pub mod Statements
 pub mod Lines
+pub mod Next
+pub mod Complete

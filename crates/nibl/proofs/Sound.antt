@@ -10,7 +10,7 @@ use lib.ListN.{length}
 use Rattle.nibl.specs.Words.{Token, variable, decimal, hex, string, sign, keywords, number, Word}
 use Rattle.nibl.specs.Grammar.{Joints, factorJoints, termJoints, sumJoints, Key, May, noWord, aWord, Joint, joint, Factor, Term, Sum, Relation, aVariable, aConstant, aHex, aStat, aTop, inBrackets, aByte, aNot, aMod, aFactor, factors, aTerm, lessTerm, terms, aSum, related}
 use Rattle.nibl.specs.Tree.{Op, Expr, var, const, stat, top, byteAt, invert, negate, modulo, two}
-use Rattle.nibl.specs.Read.{Found, Reader, give, fail, _>>=_, Part, factor as factorPart, term as termPart, sum as sumPart, relation as relationPart, factors as factorsPart, terms as termsPart, related as relatedPart, aJoint, factorCases, factorOf, onward, part, readN, rank, read}
+use Rattle.nibl.specs.Read.{Found, Reader, give, byWord, ifKey, may, _>>=_, Part, factor as factorPart, term as termPart, sum as sumPart, relation as relationPart, factors as factorsPart, terms as termsPart, related as relatedPart, aJoint, factorCases, factorOf, onward, part, readN, rank, read}
 use Rattle.nibl.proofs.Over.{Outside, here, outside-trans, outside-length, Over, _⨾_, word-over}
 use Rattle.nibl.proofs.Rules.{Alike, alike, it, same, Ok, nil, one, W, Same, neither, gives, by-word, or-else, and-then, as-so, Cases, noMore, _and_, chosen, Case, sign-same, if-key, by-key, by-may, joint-same}
 
@@ -157,3 +157,33 @@ read-eq p s =
 pub read-same : (p : Part) (s : List ℕ) → Same (Reads p s) (read p s) (read p s)
 unfolding read
 read-same p s = readN-same (suc (measure p s)) (suc (measure p s)) p s (omega arith) (omega arith)
+
+-- and so part by part
+pub read-factor : (s : List ℕ) → read factorPart s ≡ byWord (factorOf read) s
+unfolding part
+read-factor s = read-eq factorPart s
+
+pub read-term : (s : List ℕ) → read termPart s ≡ (read factorPart >>= (λ a. read (factorsPart a))) s
+unfolding part
+read-term s = read-eq termPart s
+
+pub read-sum : (s : List ℕ)
+    → read sumPart s ≡ ifKey "-" (read termPart >>= (λ a. read (termsPart (negate a)))) (may "+" (read termPart >>= (λ a. read (termsPart a)))) s
+unfolding part
+read-sum s = read-eq sumPart s
+
+pub read-relation : (s : List ℕ) → read relationPart s ≡ (read sumPart >>= (λ a. read (relatedPart a))) s
+unfolding part
+read-relation s = read-eq relationPart s
+
+pub read-factors : (a : Expr) (s : List ℕ) → read (factorsPart a) s ≡ onward read factorJoints factorPart (λ b. read (factorsPart b)) a s
+unfolding part
+read-factors a s = read-eq (factorsPart a) s
+
+pub read-terms : (a : Expr) (s : List ℕ) → read (termsPart a) s ≡ onward read termJoints termPart (λ b. read (termsPart b)) a s
+unfolding part
+read-terms a s = read-eq (termsPart a) s
+
+pub read-related : (a : Expr) (s : List ℕ) → read (relatedPart a) s ≡ onward read sumJoints sumPart give a s
+unfolding part
+read-related a s = read-eq (relatedPart a) s
