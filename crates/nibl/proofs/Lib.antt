@@ -8,3 +8,4 @@ pub mod Statements
 pub mod Lines
 pub mod Next
 pub mod Complete
+pub mod Whole

@@ -65,6 +65,15 @@ unfolding reading membersN
 reading-eq s = same (members-by (membersN (length s)) reading s (λ u l. membersN-same (length s) (suc (length u)) u l (omega arith)))
 
 -- Replies
+pub replied-one : (s : List ℕ) → replied 1 s ≡ orElse (read relation s) lastReplied unread s
+unfolding replied
+replied-one s = refl
+
+pub replied-more : (n : ℕ) (s : List ℕ)
+    → replied (suc (suc n)) s ≡ orElse ((read relation >>= (λ a. key "," (give a))) s) (λ a t. consSome a (replied (suc n) t)) unread s
+unfolding replied
+replied-more n s = refl
+
 found-one : {A : Type 0} {P : A → List ℕ → Type 0} {B : Type 0} {f : Found A} → Ok P f → isFound f ≡ true → ((a : A) (t : List ℕ) → P a t → B) → B
 found-one nil e g = absurd (false≢true e)
 found-one (one {a} {s = t} p) e g = g a t p
