@@ -105,6 +105,14 @@ replied-ok (suc (suc n)) s =
     (λ a u h. more-reply n s (h .before) u a (h .reads) (h .comma) (replied-ok (suc n) u)) nil
 
 -- Typed lines
+pub typed-blank : (s : List ℕ) → all isSpace s ≡ true → typed s ≡ some blank
+unfolding typed
+typed-blank s e = rw (e, typed)
+
+pub typed-other : (s : List ℕ) → all isSpace s ≡ false → typed s ≡ orElse (aDecimal s) numbered unnumbered s
+unfolding typed
+typed-other s e = rw (e, typed)
+
 abbrev Reads : List ℕ → Option Typed → Type 0
 Reads s = OkSome (Line W C s)
 
@@ -125,7 +133,7 @@ numbered-ok s n t w = go (all isSpace t) refl
     go true e = one (aDelete w (true-all isSpace t e))
     go false e = storing-ok s t n w (it (reading-same t))
 
-command-same : (s : List ℕ) → Same (λ k t. C s (sign k) t) (onStep (stepIn commands s) signOf) (onStep (stepIn commands s) signOf)
+pub command-same : (s : List ℕ) → Same (λ k t. C s (sign k) t) (onStep (stepIn commands s) signOf) (onStep (stepIn commands s) signOf)
 command-same s = go (stepIn commands s) (step-says commands s)
   where
     go : (r : Step) → Says commands s r → Same (λ k t. C s (sign k) t) (onStep r signOf) (onStep r signOf)

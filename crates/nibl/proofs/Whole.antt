@@ -7,17 +7,18 @@ use mathlib.Core.List.{List, [], _∷_, _++_}
 use mathlib.Core.Option.{Option, none, some}
 use native.Mathlib.Omega.{arith}
 use lib.ListN.{length}
+use lib.Dec.{eqb}
 use Rattle.nibl.specs.Bytes.{isSpace, isText, All, all}
-use Rattle.nibl.specs.Words.{Token, variable, decimal, hex, string, sign, keywords, commands, command, number, placeIn, Word, spaced, letter, letters, digits, hexDigits, quoted, pair, symbol}
+use Rattle.nibl.specs.Words.{Token, variable, decimal, hex, string, sign, keywords, commands, command, number, placeIn, there, Word, spaced, letter, letters, digits, hexDigits, quoted, pair, symbol}
 use Rattle.nibl.specs.Grammar.{Key, May, noWord, aWord, Factor, Relation, Either, whole, parted, PrintWord, pr, printed, AnItem, aString, aStored, aValue, Items, oneItem, moreItems, LastSemicolon, noSemicolon, aSemicolon, AStep, noStep, someStep, Variables, oneVariable, moreVariables}
 use Rattle.nibl.specs.Grammar.{Statement, aLetVar, aLetStat, aLetByte, aLetText, aLetCopy, aGoto, aGosub, aReturn, aPrint, anIf, aDo, anUntil, aFor, aNext, anInput, anInputText, aRemark, anEnd, Members, lastMember, moreMembers, Reply, lastReply, enough, moreReply, Line, aBlank, aDelete, aStore, aNew, aClear, aRun, aList, aListFrom, anImmediate}
 use Rattle.nibl.specs.Tree.{Expr, Item, stored, value, Stmt, letVar, letStat, letByte, letCopy, letText, goto, gosub, until, print, for, inputText, Member, Typed, blank, new, clear, run, delete, list, store, immediate}
-use Rattle.nibl.specs.Read.{Found, nothing, found, Reader, give, _>>=_, byWord, relation, factor, read, aRelation, assigned, letOf, anItem, joined, printing, statementOf, aStatement, statement, ended?, member, reading, replied, typed, may, key, consSome}
+use Rattle.nibl.specs.Read.{Found, nothing, found, Reader, give, _>>=_, byWord, relation, factor, read, aRelation, assigned, letOf, anItem, joined, printing, statementOf, aStatement, statement, ended?, member, reading, replied, typed, key, consSome, orElse, choose, stepIn, got, signOr, aDecimal, commandCases, immediately, numbered, unnumbered}
 use Rattle.nibl.specs.Read.{aVariable as variableRead, aString as stringRead}
-use Rattle.nibl.proofs.Words.{all-true, word-unspaced}
-use Rattle.nibl.proofs.Rules.{W}
+use Rattle.nibl.proofs.Words.{all-true, word-unspaced, word-complete, word-unique, retabled, of-table, of-pairs, no-symbol, letters-at}
+use Rattle.nibl.proofs.Rules.{W, it, Ok, nil, one, decimal-same}
 use Rattle.nibl.proofs.Statements.{joined-eq, items-join, variables-join, statement-eq}
-use Rattle.nibl.proofs.Lines.{C, reading-eq, replied-one, replied-more}
+use Rattle.nibl.proofs.Lines.{C, command-same, reading-eq, replied-one, replied-more, typed-blank, typed-other}
 use Rattle.nibl.proofs.Next.{nextIs, next-at, next-spaces, _or_, not-left, not-right, isKey, isString, isDecimal, word-at, variable-at, decimal-at, string-at, string-not, decimal-not, key-at, key-not, then-at}
 use Rattle.nibl.proofs.Complete.{goesOn, unrelated, relation-first, factor-complete, relation-complete}
 
@@ -192,3 +193,66 @@ replied-complete (enough {s} r k) = replied-one s ∙ rw (relation-complete r (n
 replied-complete (moreReply {n} {s} {u} {a} r k es) =
     let e : (read relation >>= (λ b. key "," (give b))) s ≡ found a u = then-at (read relation) _ _ (relation-complete r (next-at goesOn k)) ∙ key-at "," _ _ k in
     replied-more n s ∙ rw e (ap (consSome a) (replied-complete es))
+
+-- Typed lines
+-- a command is no number
+command-undecimal : {s t : List ℕ} {k : ℕ} → C s (sign k) t → aDecimal s ≡ nothing
+command-undecimal {s} c = go (it (decimal-same s))
+  where
+    go : {f : Found ℕ} → Ok (λ n u. W s (decimal n) u) f → f ≡ nothing
+    go nil = refl
+    go (one w) =
+        let e = word-unique commands c (retabled keywords commands refl w) .0 in
+        let z : _≡_ {A = ℕ} 0 1 = cc in absurd (omega arith)
+
+command-step : {s t : List ℕ} {k : ℕ} → C s (sign k) t → typed s ≡ choose commandCases (λ u. immediately s) k t
+command-step {s} c = typed-other s (word-unspaced commands c) ∙ rw (command-undecimal c, word-complete commands c)
+
+-- nor the beginning of a statement
+abbrev unspelled : List ℕ → Bool
+unspelled w = not (there (placeIn keywords w))
+
+signless : (o : Option ℕ) (s t : List ℕ) (w : Token) → not (there o) ≡ true → signOr o s ≡ got w t → _≡_ {A = ℕ} 0 1
+signless none s t w h e = cc
+signless (some k) s t w h e = absurd (false≢true h)
+
+no-command : {s t u : List ℕ} {k : ℕ} {w : Token} (d : List ℕ → Option Typed) → C s (sign k) t → stepIn keywords s ≡ got w u → choose commandCases d k ≡ d
+unfolding stepIn
+no-command d (spaced c) e = no-command d c e
+no-command {u} {w} d (letters {c} {d = b} {k} {cs} {s} r h) e =
+    let z = signless (placeIn keywords (c ∷ b ∷ cs)) s u w (of-table unspelled 128 commands (c ∷ b ∷ cs) k refl h) (sym (letters-at keywords c (b ∷ cs) s r) ∙ e) in
+    absurd (omega arith)
+no-command d (pair {a} {b} {k} h) e = of-pairs (λ x y n. choose commandCases d n ≡ d) a b k refl refl refl h
+no-command d (symbol {b} h n) e =
+    rw (no-symbol (λ x. eqb x 128) b refl h, no-symbol (λ x. eqb x 129) b refl h, no-symbol (λ x. eqb x 130) b refl h, no-symbol (λ x. eqb x 131) b refl h)
+
+uncommanded : {s u : List ℕ} {w : Token} → W s w u → unnumbered s ≡ immediately s
+uncommanded {s} w = go (it (command-same s))
+  where
+    go : {f : Found ℕ} → Ok (λ k t. C s (sign k) t) f → orElse f (choose commandCases (λ t. immediately s)) immediately s ≡ immediately s
+    go nil = refl
+    go (one {s = t} c) = ap (λ (r : List ℕ → Option Typed). r t) (no-command (λ t. immediately s) c (word-complete keywords w))
+
+immediate-complete : {s t : List ℕ} {q : Stmt} → Statement W s q t → All isSpace t → typed s ≡ some (immediate q)
+immediate-complete {s} q a =
+    let f = statement-word q in
+    typed-other s (word-unspaced keywords (f .at)) ∙ rw (decimal-not s (not-right (goesOn or isKey "THEN") isDecimal s (statement-first q)))
+    (uncommanded (f .at) ∙ rw (statement-complete q (next-spaces continues a)) (rw (all-true a)))
+
+numbered-step : {s t : List ℕ} {n : ℕ} → W s (decimal n) t → typed s ≡ numbered n t
+numbered-step {s} w = typed-other s (word-unspaced keywords w) ∙ rw (decimal-at w)
+
+members-unspaced : {s : List ℕ} {ms : List Member} → Members W s ms → all isSpace s ≡ false
+members-unspaced (lastMember q a) = word-unspaced keywords (statement-word q .at)
+members-unspaced (moreMembers q k ms) = word-unspaced keywords (statement-word q .at)
+
+pub typed-complete : {s : List ℕ} {y : Typed} → Line W C s y → typed s ≡ some y
+typed-complete (aBlank {s} a) = typed-blank s (all-true a)
+typed-complete (aDelete w a) = numbered-step w ∙ rw (all-true a, numbered)
+typed-complete (aStore w ms) = numbered-step w ∙ rw (members-unspaced ms, numbered) (rw (reading-complete ms))
+typed-complete (aNew c a) = command-step c ∙ rw (all-true a)
+typed-complete (aClear c a) = command-step c ∙ rw (all-true a)
+typed-complete (aRun c a) = command-step c ∙ rw (all-true a)
+typed-complete (aList {t} c a) = command-step c ∙ rw (decimal-not t (next-spaces isDecimal a)) (rw (all-true a))
+typed-complete (aListFrom c w a) = command-step c ∙ rw (decimal-at w) (rw (all-true a))
+typed-complete (anImmediate q a) = immediate-complete q a

@@ -8,8 +8,8 @@ use native.Mathlib.Omega.{arith}
 use borrow.Author.Tests.{leb-true, le-leb, lt-leb, eqb-true, ne-eqb, not-true}
 use lib.ListN.{length, drop, length-append}
 use lib.Dec.{leb, eqb}
-use Rattle.nibl.specs.Bytes.{if_then_else_, isSpace, isDigit, isCapital, isHexDigit, isText, isQuotable, All, none as done, each, starts, front, past, all, decimalValue, hexValue}
-use Rattle.nibl.specs.Words.{Token, variable, decimal, hex, string, sign, keywords, placeIn, pairs, there, pairsWith, isSymbol, Run, Word, spaced, letter, letters, digits, hexDigits, quoted, pair, symbol}
+use Rattle.nibl.specs.Bytes.{if_then_else_, same, isSpace, isDigit, isCapital, isHexDigit, isText, isQuotable, All, none as done, each, starts, front, past, all, decimalValue, hexValue}
+use Rattle.nibl.specs.Words.{Token, variable, decimal, hex, string, sign, keywords, placeFrom, placeIn, pairs, there, pairsWith, isSymbol, Run, Word, spaced, letter, letters, digits, hexDigits, quoted, pair, symbol}
 use Rattle.nibl.specs.Read.{Step, ended, wrong, got, signOr, lettersStep, digitsStep, hexStep, quotedStep, pairOr, symbolStep, wordStep, stepIn}
 
 -- Tests
@@ -225,9 +225,30 @@ module _ (table : List (List ℕ)) where
       rw (no-symbol isCapital b refl e, wordStep) (rw (no-symbol isDigit b refl e)
       (rw (no-symbol (λ x. eqb x 35) b refl e) (rw (no-symbol (λ x. eqb x 34) b refl e) (rw e))))
 
+-- a spelling of a table has what each entry has
+same-spelling : (xs ys : List ℕ) → same xs ys ≡ true → xs ≡ ys
+same-spelling [] [] e = refl
+same-spelling [] (y ∷ ys) e = absurd (false≢true e)
+same-spelling (x ∷ xs) [] e = absurd (false≢true e)
+same-spelling (x ∷ xs) (y ∷ ys) e =
+    let h = eqb-true x y (and-left (eqb x y) (same xs ys) e) in
+    let i = same-spelling xs ys (and-right (eqb x y) (same xs ys) e) in cc
+
+abbrev pub entries : (List ℕ → Bool) → List (List ℕ) → Bool
+entries p [] = true
+entries p (w ∷ ws) = p w && entries p ws
+
+pub of-table : (p : List ℕ → Bool) (n : ℕ) (table : List (List ℕ)) (w : List ℕ) (k : ℕ) → entries p table ≡ true → placeFrom n table w ≡ some k → p w ≡ true
+of-table p n [] w k a e = let z : _≡_ {A = ℕ} 0 1 = cc in absurd (omega arith)
+of-table p n (v ∷ vs) w k a e = go (same v w) refl (of-table p (suc n) vs w k (and-right (p v) (entries p vs) a)) e
+  where
+    go : (t : Bool) → same v w ≡ t → (placeFrom (suc n) vs w ≡ some k → p w ≡ true) → (if t then some n else placeFrom (suc n) vs w) ≡ some k → p w ≡ true
+    go true h f i = subst (λ (x : List ℕ). p x ≡ true) (same-spelling v w h) (and-left (p v) (entries p vs) a)
+    go false h f i = f i
+
 -- Complete
 module _ (table : List (List ℕ)) where
-  letters-at : (b : ℕ) (cs s : List ℕ) → Run isCapital (b ∷ cs) s → stepIn table (b ∷ cs ++ s) ≡ lettersStep table (b ∷ cs) s
+  pub letters-at : (b : ℕ) (cs s : List ℕ) → Run isCapital (b ∷ cs) s → stepIn table (b ∷ cs ++ s) ≡ lettersStep table (b ∷ cs) s
   letters-at b cs s r =
       let c : isCapital b ≡ true = r .some in
       step-word table b (cs ++ s) (capital-other b c .0) ∙ word-capital table b (cs ++ s) c
