@@ -9,3 +9,5 @@ pub mod Lines
 pub mod Next
 pub mod Complete
 pub mod Whole
+pub mod Exact
+pub mod Ends
