@@ -33,7 +33,7 @@ pub data Passed : List ℕ → List ℕ → Type 0 where
   here : {s : List ℕ} → Passed s s
   byte : {b : ℕ} {s s' : List ℕ} → isText b ≡ true → Passed s s' → Passed (b ∷ s) s'
 
-passed-trans : {s t u : List ℕ} → Passed s t → Passed t u → Passed s u
+pub passed-trans : {s t u : List ℕ} → Passed s t → Passed t u → Passed s u
 passed-trans here q = q
 passed-trans (byte e p) q = byte e (passed-trans p q)
 

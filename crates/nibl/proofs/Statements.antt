@@ -85,7 +85,7 @@ statement-left (anInputText k d f) = outside (word-over k ⨾ word-over d ⨾ fa
 statement-left (aRemark k a) = let h = word-over k in taken (omega arith) (passed-text (outside-passed (h .out)) a)
 statement-left (anEnd k) = outside (word-over k)
 
-left-passed : {s s' : List ℕ} → Left s s' → Passed s s'
+pub left-passed : {s s' : List ℕ} → Left s s' → Passed s s'
 left-passed (outside o) = outside-passed (o .out)
 left-passed (taken l a) = text-passed a
 

@@ -75,10 +75,10 @@ pub between : (lo hi b : ℕ) → leb lo b && leb b hi ≡ true → (lo ≤ b) �
 between lo hi b e = (leb-true lo b (and-left (leb lo b) (leb b hi) e), leb-true b hi (and-right (leb lo b) (leb b hi) e))
 
 -- the classes do not meet
-capital-other : (b : ℕ) → isCapital b ≡ true → (isSpace b ≡ false) × (isDigit b ≡ false)
+pub capital-other : (b : ℕ) → isCapital b ≡ true → (isSpace b ≡ false) × (isDigit b ≡ false)
 capital-other b e = let h = between 65 90 b e in (ne-eqb b 32 (omega arith), rw (le-leb 48 b (omega arith), lt-leb b 57 (omega arith)))
 
-digit-other : (b : ℕ) → isDigit b ≡ true → (isSpace b ≡ false) × (isCapital b ≡ false)
+pub digit-other : (b : ℕ) → isDigit b ≡ true → (isSpace b ≡ false) × (isCapital b ≡ false)
 digit-other b e = let h = between 48 57 b e in (ne-eqb b 32 (omega arith), rw (lt-leb 65 b (omega arith)))
 
 -- Runs
