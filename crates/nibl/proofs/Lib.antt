@@ -1,3 +1,4 @@
+pub mod Determined
 pub mod Sizes
 pub mod Stacks
 pub mod Words
@@ -11,3 +12,5 @@ pub mod Complete
 pub mod Whole
 pub mod Exact
 pub mod Ends
+pub mod Desk
+pub mod Quotients

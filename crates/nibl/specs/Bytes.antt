@@ -82,7 +82,7 @@ abbrev pub past : (ℕ → Bool) → List ℕ → List ℕ
 past p [] = []
 past p (b ∷ s) = if p b then past p s else b ∷ s
 
-abbrev pub all : (ℕ → Bool) → List ℕ → Bool
+abbrev pub all : {A : Type 0} → (A → Bool) → List A → Bool
 all p [] = true
 all p (b ∷ s) = p b && all p s
 

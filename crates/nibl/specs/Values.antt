@@ -7,10 +7,13 @@ use lib.Bits.{bitAnd, bitOr}
 use Rattle.nibl.specs.Bytes.{if_then_else_}
 use Rattle.nibl.specs.Tree.{Op, times, over, both, plus, minus, either, equal, less, greater, atMost, atLeast, unequal}
 
--- a value, or the number of the refusal
-pub data Value : Type 0 where
-  is : ℕ → Value
-  no : ℕ → Value
+-- what was asked for, or the number of the refusal
+pub data Result (A : Type 0) : Type 0 where
+  is : A → Result A
+  no : ℕ → Result A
+
+abbrev pub Value : Type 0
+Value = Result ℕ
 
 -- "sums, differences and products wrap on purpose, keeping the low 16 bits"
 abbrev pub add16 : ℕ → ℕ → ℕ

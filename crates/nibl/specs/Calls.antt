@@ -1,0 +1,247 @@
+-- A run within its budget, and the two calls: from all that is lent to all that is left.
+use Prim.Native.Nat.{ℕ, zero, suc, _+_, _-_}
+use mathlib.Core.Bool.{Bool, true, false, not, _&&_, _||_}
+use mathlib.Core.List.{List, [], _∷_, _++_}
+use mathlib.Core.Option.{Option, none, some}
+use lib.ListN.{length, getD, drop, replicate}
+use lib.Dec.{leb, eqb}
+use Rattle.nibl.specs.Bytes.{if_then_else_, notCR, front}
+use Rattle.nibl.specs.Tree.{Stmt, letVar, letStat, letByte, letCopy, letText, goto, gosub, until, return, loop, remark, end, print, ifThen, for, next, input, inputText}
+use Rattle.nibl.specs.Tree.{Member, Typed, blank, new, clear, run, delete, list, store, immediate}
+use Rattle.nibl.specs.Read.{Found, nothing, found, member, typed}
+use Rattle.nibl.specs.Values.{digits}
+use Rattle.nibl.specs.Typing.{Kept, Gathered, gather}
+use Rattle.nibl.specs.Page.{Stored, isEnd, isGood, recordsOf, programBytes, lineOf, fits, mark, hasLine, without, with, onto}
+use Rattle.nibl.specs.Meaning.{World, Env, withSession, withOutput, Next, on, skip, go, stop, Done, done, put, went, place, exec}
+use Rattle.nibl.specs.declared.PlaceStack.{PlaceStack}
+use Rattle.nibl.specs.declared.ForStack.{ForStack}
+use Rattle.nibl.specs.declared.Paused.{Paused}
+use Rattle.nibl.specs.declared.Paused.the-variants.{Nowhere, Start, At}
+use Rattle.nibl.specs.declared.Session.{Session}
+use Rattle.nibl.specs.declared.Call.{Call}
+use Rattle.nibl.specs.declared.StopLine.{StopLine}
+use Rattle.nibl.specs.declared.StopLine.the-variants as stopLine
+use Rattle.nibl.specs.declared.Answer.{Answer}
+
+-- all that a call is lent, and all that it leaves
+pub record Lent : Type 0 where
+  pub session : Session
+  pub page : List ℕ
+  pub memory : List ℕ
+  pub input : List ℕ
+  pub output : List ℕ
+  pub call : Call
+
+pub record Outcome : Type 0 where
+  pub answer : Answer
+  pub session : Session
+  pub page : List ℕ
+  pub memory : List ℕ
+  pub output : List ℕ
+
+-- How a run ended: the stop, the lines of the members it ran, what position of the page it stands at, and the world then.
+-- A run's steps are the lines' number.
+pub record Ran : Type 0 where
+  pub stop : ℕ
+  pub lines : List ℕ
+  pub at : ℕ
+  pub world : World
+
+abbrev pub ran : ℕ → ℕ → World → Ran
+ran n q w = record { stop = n; lines = []; at = q; world = w }
+
+-- one step more, before these
+abbrev pub stepped : ℕ → Ran → Ran
+stepped l r = record { stop = r .stop; lines = l ∷ r .lines; at = r .at; world = r .world }
+
+-- Where the text begins that is next at a position: there, after a ":"; else in the record that stands there, if one does
+unfoldable pub textFrom : List ℕ → ℕ → Option ℕ
+textFrom page q =
+    if leb 1 q && eqb (getD page (q - 1) 0) 58 then some q
+    else if isEnd (drop q page) then none
+    else some (q + 3)
+
+abbrev pub lineFrom : List ℕ → ℕ → List ℕ
+lineFrom page a = front notCR (drop a page)
+
+abbrev pub envAt : Env → ℕ → Env
+envAt e p = record { lim = e .lim; page = e .page; input = e .input; sense = e .sense; here = p }
+
+-- what follows a step that ended so: text is from a on, the statement's place is p
+abbrev pub onward : Done → ℕ → ℕ → (ℕ → World → Ran) → Ran
+onward (done on w) p cr k = k (suc p) w
+onward (done skip w) p cr k = k (suc cr) w
+onward (done (go q) w) p cr k = k q w
+onward (done (stop n) w) p cr k = ran n p w
+
+-- the first member of the text from a on is run, and then k; every text of a good page has a reading
+abbrev pub step : Env → ℕ → World → Found Member → (ℕ → World → Ran) → Ran
+step e a w nothing k = ran 5 a w
+step e a w (found m s) k =
+    let n = length (lineFrom (e .page) a) in
+    let p = a + (n - m .left) in
+    stepped (lineOf (e .page) p) (onward (exec (envAt e p) (m .statement) w) p (a + n) k)
+
+-- "Past the last line it is 0 at any budget"; "budget spent and a statement still to run: paused"
+unfoldable pub runFrom : ℕ → Env → ℕ → World → Ran
+runFrom zero e q w = elim (textFrom (e .page) q) [ none ↦ ran 0 q w | some a ↦ ran 14 q w ]
+runFrom (suc k) e q w =
+    elim (textFrom (e .page) q) [ none ↦ ran 0 q w | some a ↦ step e a w (member (lineFrom (e .page) a)) (runFrom k e) ]
+
+-- Changes of the record: "only 14 sets" a pause
+abbrev pub withPaused : Session → Paused → Session
+withPaused s p = record { vars = s .vars; flags = s .flags; gosubs = s .gosubs; dos = s .dos; fors = s .fors; paused = p }
+
+abbrev pub emptied : PlaceStack → PlaceStack
+emptied g = record { depth = 0; places = g .places }
+
+abbrev pub emptiedFor : ForStack → ForStack
+emptiedFor f = record { depth = 0; entries = f .entries }
+
+abbrev pub clearStacks : Session → Session
+clearStacks s =
+    record { vars = s .vars; flags = s .flags; gosubs = emptied (s .gosubs); dos = emptied (s .dos); fors = emptiedFor (s .fors); paused = s .paused }
+
+-- "CLEAR zeroes variables and clears stacks"
+abbrev pub cleared : Session → Session
+cleared s =
+    record { vars = replicate 26 0; flags = s .flags; gosubs = emptied (s .gosubs); dos = emptied (s .dos); fors = emptiedFor (s .fors); paused = s .paused }
+
+abbrev pub pausedAt : ℕ → Paused
+pausedAt zero = Start
+pausedAt (suc p) = At (place p)
+
+-- Outcomes
+abbrev pub outcome : ℕ → StopLine → ℕ → World → List ℕ → Outcome
+outcome n l steps w page =
+    record { answer = record { stop = n; line = l; steps = steps; inpos = w .inpos; outpos = w .outpos };
+      session = w .session; page = page; memory = w .memory; output = w .output }
+
+-- a stop that no program statement gave
+abbrev pub stops : ℕ → World → List ℕ → Outcome
+stops n w page = outcome n stopLine.NoLine 0 w page
+
+-- "there is none for 0, for 14"
+abbrev pub stopAt : ℕ → List ℕ → StopLine
+stopAt n [] = stopLine.NoLine
+stopAt n (l ∷ []) = if eqb n 0 || eqb n 14 then stopLine.NoLine else stopLine.At (record { 0 = l })
+stopAt n (l ∷ m ∷ ls) = stopAt n (m ∷ ls)
+
+abbrev pub pausing : ℕ → ℕ → World → World
+pausing n q w = if eqb n 14 then withSession w (withPaused (w .session) (pausedAt q)) else w
+
+abbrev pub ended : Ran → List ℕ → Outcome
+ended r page = outcome (r .stop) (stopAt (r .stop) (r .lines)) (length (r .lines)) (pausing (r .stop) (r .at) (r .world)) page
+
+-- The first refusals: "a length, position or budget outside the above", then 18, 19; 0 for none
+abbrev pub inRange : Lent → Bool
+inRange x =
+    leb 2 (length (x .page)) && (leb (length (x .page)) 4096 && (leb (length (x .memory)) 4096
+    && (leb (length (x .input)) 65535 && (leb (length (x .output)) 65535
+    && (leb (x .call .inpos) (length (x .input)) && (leb (x .call .outpos) (length (x .output)) && leb (x .call .budget) 65535))))))
+
+unfoldable pub firstRefusal : ℕ → Lent → ℕ
+firstRefusal lim x =
+    if not (inRange x) then 1
+    else if not (isGood lim (x .page)) then 18
+    else if not (fits (x .page) (x .session)) then 19
+    else 0
+
+abbrev pub worldOf : Lent → World
+worldOf x = record { session = x .session; memory = x .memory; output = x .output; outpos = x .call .outpos; inpos = x .call .inpos }
+
+-- "A call past its first refusals ends any pause"
+abbrev pub begun : Lent → ℕ → World
+begun x taken =
+    record { session = withPaused (x .session) Nowhere; memory = x .memory; output = x .output; outpos = x .call .outpos; inpos = x .call .inpos + taken }
+
+abbrev pub envOf : ℕ → Lent → Env
+envOf lim x = record { lim = lim; page = x .page; input = x .input; sense = x .call .sense; here = mark }
+
+-- What a typed line does
+
+-- "DO, UNTIL, FOR, NEXT or INPUT in an immediate line"
+abbrev pub needsProgram : Stmt → Bool
+needsProgram (letVar v a) = false
+needsProgram (letStat a) = false
+needsProgram (letByte a b) = false
+needsProgram (letCopy a b) = false
+needsProgram (letText a bs) = false
+needsProgram (goto a) = false
+needsProgram (gosub a) = false
+needsProgram (until a) = true
+needsProgram return = false
+needsProgram loop = true
+needsProgram remark = false
+needsProgram end = false
+needsProgram (print is b) = false
+needsProgram (ifThen a q) = needsProgram q
+needsProgram (for v a b c) = true
+needsProgram (next v) = true
+needsProgram (input vs) = true
+needsProgram (inputText a) = true
+
+-- "An edit that changes the page, or replaces a line by itself, clears the three stacks"
+unfoldable pub edited : List ℕ → World → List Stored → Outcome
+edited page w rs =
+    if leb (length (programBytes rs)) (length page) then stops 0 (withSession w (clearStacks (w .session))) (onto page rs)
+    else stops 2 w page
+
+-- "digits without leading zeros, text, CR, LF"
+abbrev pub listed : Stored → List ℕ
+listed r = digits (r .line) ++ (r .text ++ (13 ∷ 10 ∷ []))
+
+unfoldable pub listFrom : ℕ → List Stored → World → Done
+listFrom n [] w = done on w
+listFrom n (r ∷ rs) w = elim (leb n (r .line)) [ true ↦ went (put (listed r) w) (listFrom n rs) | false ↦ listFrom n rs w ]
+
+-- after the immediate statement, "not counted", which runs on or ends the line
+abbrev pub immediately : ℕ → Env → Done → Outcome
+immediately budget e (done on w) = stops 0 w (e .page)
+immediately budget e (done skip w) = stops 0 w (e .page)
+immediately budget e (done (go q) w) = ended (runFrom budget e q w) (e .page)
+immediately budget e (done (stop n) w) = stops n w (e .page)
+
+unfoldable pub obey : ℕ → Env → World → Typed → Outcome
+obey budget e w blank = stops 0 w (e .page)
+obey budget e w new = edited (e .page) w []
+obey budget e w clear = stops 0 (withSession w (cleared (w .session))) (e .page)
+obey budget e w run = ended (runFrom budget e 0 (withSession w (cleared (w .session)))) (e .page)
+obey budget e w (delete n) =
+    elim (hasLine n (recordsOf (e .page))) [ true ↦ edited (e .page) w (without n (recordsOf (e .page))) | false ↦ stops 0 w (e .page) ]
+obey budget e w (list n) = immediately budget e (listFrom n (recordsOf (e .page)) w)
+obey budget e w (store n t ms) = edited (e .page) w (with (record { line = n; text = t }) (recordsOf (e .page)))
+obey budget e w (immediate q) = elim (needsProgram q) [ true ↦ stops 3 w (e .page) | false ↦ immediately budget e (exec e q w) ]
+
+abbrev pub obeyRead : ℕ → Env → World → Option Typed → Outcome
+obeyRead budget e w none = stops 5 w (e .page)
+obeyRead budget e w (some t) = obey budget e w t
+
+abbrev pub obeyLine : ℕ → Lent → Option Gathered → Outcome
+obeyLine lim x none = stops 7 (worldOf x) (x .page)
+obeyLine lim x (some g) =
+    elim (g .line .long) [ true ↦ stops 5 (begun x (g .taken)) (x .page)
+    | false ↦ obeyRead (x .call .budget) (envOf lim x) (begun x (g .taken)) (typed (g .line .bytes)) ]
+
+-- "Two calls exist: take one typed line, and continue a paused run"
+unfoldable pub takeLineIn : ℕ → Lent → Outcome
+takeLineIn lim x =
+    elim (firstRefusal lim x) [ zero ↦ obeyLine lim x (gather lim (drop (x .call .inpos) (x .input))) | suc n ↦ stops (suc n) (worldOf x) (x .page) ]
+
+abbrev pub continueFrom : ℕ → Lent → Paused → Outcome
+continueFrom lim x Nowhere = stops 0 (begun x 0) (x .page)
+continueFrom lim x Start = ended (runFrom (x .call .budget) (envOf lim x) 0 (begun x 0)) (x .page)
+continueFrom lim x (At p) = ended (runFrom (x .call .budget) (envOf lim x) (suc (p .0)) (begun x 0)) (x .page)
+
+unfoldable pub continueRunIn : ℕ → Lent → Outcome
+continueRunIn lim x = elim (firstRefusal lim x) [ zero ↦ continueFrom lim x (x .session .paused) | suc n ↦ stops (suc n) (worldOf x) (x .page) ]
+
+-- "at most 72"
+abbrev pub limit : ℕ
+limit = 72
+
+unfoldable pub takeLine : Lent → Outcome
+takeLine x = takeLineIn limit x
+
+unfoldable pub continueRun : Lent → Outcome
+continueRun x = continueRunIn limit x
