@@ -14,7 +14,7 @@ use Rattle.nibl.specs.Read.{Found, nothing, found, Reader, give, _>>=_, 
 use Rattle.nibl.specs.Read.{lastReply as lastReplied}
 use Rattle.nibl.proofs.Words.{if-split, or-cases, true-all, Says, spaces, noWord, aWord, step-says}
 use Rattle.nibl.proofs.Over.{Over, word-over}
-use Rattle.nibl.proofs.Rules.{Alike, alike, it, same, Ok, nil, one, OkSome, W, Same, neither, gives, or-else, or-ok, and-then, ok-found, ok-some, Cases, noMore, _and_, chosen, decimal-same, by-key}
+use Rattle.nibl.proofs.Rules.{Alike, alike, it, same, Ok, nil, one, OkSome, W, Same, neither, gives, by-step, kinds, or-else, or-ok, and-then, ok-found, ok-some, Cases, noMore, _and_, chosen, decimal-same, by-key}
 use Rattle.nibl.proofs.Sound.{read-same}
 use Rattle.nibl.proofs.Statements.{statement-left, left-short, statement-same}
 
@@ -134,16 +134,7 @@ numbered-ok s n t w = go (all isSpace t) refl
     go false e = storing-ok s t n w (it (reading-same t))
 
 pub command-same : (s : List ℕ) → Same (λ k t. C s (sign k) t) (onStep (stepIn commands s) signOf) (onStep (stepIn commands s) signOf)
-command-same s = go (stepIn commands s) (step-says commands s)
-  where
-    go : (r : Step) → Says commands s r → Same (λ k t. C s (sign k) t) (onStep r signOf) (onStep r signOf)
-    go ended h = neither
-    go wrong h = neither
-    go (got (variable v) t) h = neither
-    go (got (decimal n) t) h = neither
-    go (got (hex n) t) h = neither
-    go (got (string bs) t) h = neither
-    go (got (sign k) t) (aWord h) = gives h
+command-same s = by-step commands s (λ w t h. kinds C s w t h .3)
 
 -- what follows the command of a number
 abbrev Command : List ℕ → List ℕ → ℕ → (List ℕ → Option Typed) → (List ℕ → Option Typed) → Type 0

@@ -2,7 +2,7 @@
 use Prim.Native.Nat.{ℕ, zero, suc}
 use Prim.Native.String.{String}
 use mathlib.Core.Path.{_≡_, refl, sym, ap, _∙_}
-use mathlib.Core.Bool.{Bool, true, false, not, _&&_, _||_, false≢true}
+use mathlib.Core.Bool.{Bool, true, false, not, _&&_, _||_, true≢false, false≢true}
 use mathlib.Core.List.{List, [], _∷_}
 use mathlib.Core.Option.{Option, none, some}
 use native.Mathlib.Omega.{arith}
@@ -14,7 +14,7 @@ use Rattle.nibl.specs.Grammar.{Joints, jointOf, Key, Joint, joint}
 use Rattle.nibl.specs.Tree.{Op}
 use Rattle.nibl.specs.Read.{Step, ended, wrong, got, stepIn, Found, nothing, found, Reader, onStep, byWord, choose, andThen, _>>=_, orElse, variableOf, decimalOf, stringOf, signOf, aVariable, aDecimal, aString, aSign, ifKey, jointFound, aJoint}
 use Rattle.nibl.proofs.Words.{and-left, and-right, word-complete, ended-complete}
-use Rattle.nibl.proofs.Rules.{W}
+use Rattle.nibl.proofs.Rules.{it, Ok, nil, one, none-found, W, string-same, decimal-same, sign-same, joint-same}
 
 -- whether a word of a kind stands next
 abbrev pub isNext : (Token → Bool) → Step → Bool
@@ -113,46 +113,18 @@ pub string-at : {s t bs : List ℕ} → W s (string bs) t → aString s ≡ foun
 unfolding aString
 string-at h = word-at stringOf h
 
+-- a word of a kind that does not stand next is not found
 pub string-not : (s : List ℕ) → nextIs isString s ≡ false → aString s ≡ nothing
-unfolding aString nextIs
-string-not s h = go (stepIn keywords s) h
-  where
-    go : (r : Step) → isNext isString r ≡ false → onStep r stringOf ≡ nothing
-    go ended e = refl
-    go wrong e = refl
-    go (got (variable v) t) e = refl
-    go (got (decimal n) t) e = refl
-    go (got (hex n) t) e = refl
-    go (got (string bs) t) e = absurd (false≢true (sym e))
-    go (got (sign k) t) e = refl
+string-not s h = none-found (it (string-same s)) (λ bs t w. true≢false (sym (next-at isString w) ∙ h))
 
 pub decimal-not : (s : List ℕ) → nextIs isDecimal s ≡ false → aDecimal s ≡ nothing
-unfolding aDecimal nextIs
-decimal-not s h = go (stepIn keywords s) h
-  where
-    go : (r : Step) → isNext isDecimal r ≡ false → onStep r decimalOf ≡ nothing
-    go ended e = refl
-    go wrong e = refl
-    go (got (variable v) t) e = refl
-    go (got (decimal n) t) e = absurd (false≢true (sym e))
-    go (got (hex n) t) e = refl
-    go (got (string bs) t) e = refl
-    go (got (sign k) t) e = refl
+decimal-not s h = none-found (it (decimal-same s)) (λ n t w. true≢false (sym (next-at isDecimal w) ∙ h))
 
--- no sign that passes: what a reader by the next sign does elsewhere
-module _ {B : Type 0} (p : ℕ → Bool) (k : ℕ → List ℕ → B) (r : List ℕ → B) (s : List ℕ) (f : (n : ℕ) (t : List ℕ) → p n ≡ false → k n t ≡ r s) where
-  pub sign-not : nextIs (isSign p) s ≡ false → orElse (aSign s) k r s ≡ r s
-  unfolding aSign nextIs
-  sign-not h = go (stepIn keywords s) h
-    where
-      go : (x : Step) → isNext (isSign p) x ≡ false → orElse (onStep x signOf) k r s ≡ r s
-      go ended e = refl
-      go wrong e = refl
-      go (got (variable v) t) e = refl
-      go (got (decimal n) t) e = refl
-      go (got (hex n) t) e = refl
-      go (got (string bs) t) e = refl
-      go (got (sign n) t) e = f n t e
+pub joint-not : (js : Joints) (s : List ℕ) → nextIs (joins js) s ≡ false → aJoint js s ≡ nothing
+joint-not js s h = none-found (it (joint-same js s)) go
+  where
+    go : (o : Op) (t : List ℕ) → Joint W js s o t → ⊥
+    go o t (joint w e) = true≢false (sym (next-at (joins js) w ∙ rw e) ∙ h)
 
 module _ {A : Type 0} (name : String) (r q : Reader A) where
   pub key-at : {s t : List ℕ} → Key W name s t → ifKey name r q s ≡ r t
@@ -161,7 +133,11 @@ module _ {A : Type 0} (name : String) (r q : Reader A) where
 
   pub key-not : (s : List ℕ) → nextIs (isKey name) s ≡ false → ifKey name r q s ≡ q s
   unfolding ifKey
-  key-not s h = sign-not (λ k. eqb k (number name)) (choose ((number name, r) ∷ []) (λ t. q s)) q s (λ n t e. rw e) h
+  key-not s h = go (it (sign-same s))
+    where
+      go : {f : Found ℕ} → Ok (λ k t. W s (sign k) t) f → orElse f (choose ((number name, r) ∷ []) (λ t. q s)) q s ≡ q s
+      go nil = refl
+      go (one w) = rw (sym (next-at (isKey name) w) ∙ h)
 
 pub then-at : {A B : Type 0} (r : Reader A) (k : A → Reader B) (s : List ℕ) {t : List ℕ} {a : A} → r s ≡ found a t → (r >>= k) s ≡ k a t
 unfolding _>>=_
@@ -170,23 +146,6 @@ then-at r k s e = ap (λ f. andThen f k) e
 pub joint-at : {js : Joints} {o : Op} {s t : List ℕ} → Joint W js s o t → aJoint js s ≡ found o t
 unfolding aJoint
 joint-at {js} (joint {k} h e) = then-at aSign _ _ (sign-at h) ∙ rw e
-
-pub joint-not : (js : Joints) (s : List ℕ) → nextIs (joins js) s ≡ false → aJoint js s ≡ nothing
-unfolding aJoint _>>=_ aSign nextIs
-joint-not js s h = go (stepIn keywords s) h
-  where
-    none-found : (o : Option Op) (t : List ℕ) → isOp o ≡ false → jointFound o t ≡ nothing
-    none-found none t e = refl
-    none-found (some o) t e = absurd (false≢true (sym e))
-
-    go : (x : Step) → isNext (joins js) x ≡ false → andThen (onStep x signOf) (λ k. jointFound (jointOf js k)) ≡ nothing
-    go ended e = refl
-    go wrong e = refl
-    go (got (variable v) t) e = refl
-    go (got (decimal n) t) e = refl
-    go (got (hex n) t) e = refl
-    go (got (string bs) t) e = refl
-    go (got (sign k) t) e = none-found (jointOf js k) t e
 
 -- the signs of one list are none of another's
 abbrev pub apart : Joints → Joints → Bool

@@ -44,6 +44,11 @@ ok-found (one p) = p
 pub ok-some : {A : Type 0} {P : A → Type 0} {a : A} → OkSome P (some a) → P a
 ok-some (one p) = p
 
+-- nothing that cannot be is found
+pub none-found : {A : Type 0} {P : A → List ℕ → Type 0} {f : Found A} → Ok P f → ((a : A) (t : List ℕ) → P a t → ⊥) → f ≡ nothing
+none-found nil h = refl
+none-found (one {a} {s = t} p) h = absurd (h a t p)
+
 abbrev pub W : List ℕ → Token → List ℕ → Type 0
 W = Word keywords
 
@@ -58,13 +63,17 @@ module _ {A : Type 0} {P : A → List ℕ → Type 0} where
   gives p = alike (one p)
 
   -- by the next word
-  pub by-word : (s : List ℕ) {k k' : Token → Reader A} → ((w : Token) (t : List ℕ) → W s w t → Same P (k w t) (k' w t)) → Same P (byWord k s) (byWord k' s)
-  by-word s {k} {k'} f = go (stepIn keywords s) (step-says keywords s)
+  pub by-step : (table : List (List ℕ)) (s : List ℕ) {k k' : Token → Reader A} → ((w : Token) (t : List ℕ) → Word table s w t → Same P (k w t) (k' w t))
+      → Same P (onStep (stepIn table s) k) (onStep (stepIn table s) k')
+  by-step table s {k} {k'} f = go (step-says table s)
     where
-      go : (r : Step) → Says keywords s r → Same P (onStep r k) (onStep r k')
-      go ended h = neither
-      go wrong h = neither
-      go (got w t) (said h) = f w t h
+      go : {r : Step} → Says table s r → Same P (onStep r k) (onStep r k')
+      go (spaces a) = neither
+      go noneSaid = neither
+      go (said {w} {s' = t} h) = f w t h
+
+  pub by-word : (s : List ℕ) {k k' : Token → Reader A} → ((w : Token) (t : List ℕ) → W s w t → Same P (k w t) (k' w t)) → Same P (byWord k s) (byWord k' s)
+  by-word = by-step keywords
 
 -- the ways on from what is found
 module _ {A B : Type 0} {P : A → List ℕ → Type 0} where
@@ -107,49 +116,32 @@ abbrev pub Case : {A : Type 0} → (A → List ℕ → Type 0) → List ℕ → 
 Case P s t n r r' = W s (sign n) t → Same P (r t) (r' t)
 
 -- one word of a kind
-pub sign-same : (s : List ℕ) → Same (λ k t. W s (sign k) t) (aSign s) (aSign s)
-unfolding aSign
-sign-same s = by-word s go
-  where
-    go : (w : Token) (t : List ℕ) → W s w t → Same (λ k t. W s (sign k) t) (signOf w t) (signOf w t)
-    go (variable v) t h = neither
-    go (decimal n) t h = neither
-    go (hex n) t h = neither
-    go (string bs) t h = neither
-    go (sign k) t h = gives h
+module _ (D : List ℕ → Token → List ℕ → Type 0) (s : List ℕ) where
+  abbrev pub Kind : {A : Type 0} → (A → Token) → Found A → Type 0
+  Kind make f = Same (λ a t. D s (make a) t) f f
+
+  pub kinds : (w : Token) (t : List ℕ) → D s w t → Kind variable (variableOf w t) × Kind decimal (decimalOf w t) × Kind string (stringOf w t) × Kind sign (signOf w t)
+  kinds (variable v) t h = (gives h, neither, neither, neither)
+  kinds (decimal n) t h = (neither, gives h, neither, neither)
+  kinds (hex n) t h = (neither, neither, neither, neither)
+  kinds (string bs) t h = (neither, neither, gives h, neither)
+  kinds (sign k) t h = (neither, neither, neither, gives h)
 
 pub variable-same : (s : List ℕ) → Same (λ v t. W s (variable v) t) (aVariable s) (aVariable s)
 unfolding aVariable
-variable-same s = by-word s go
-  where
-    go : (w : Token) (t : List ℕ) → W s w t → Same (λ v t. W s (variable v) t) (variableOf w t) (variableOf w t)
-    go (variable v) t h = gives h
-    go (decimal n) t h = neither
-    go (hex n) t h = neither
-    go (string bs) t h = neither
-    go (sign k) t h = neither
+variable-same s = by-word s (λ w t h. kinds W s w t h .0)
 
 pub decimal-same : (s : List ℕ) → Same (λ n t. W s (decimal n) t) (aDecimal s) (aDecimal s)
 unfolding aDecimal
-decimal-same s = by-word s go
-  where
-    go : (w : Token) (t : List ℕ) → W s w t → Same (λ n t. W s (decimal n) t) (decimalOf w t) (decimalOf w t)
-    go (variable v) t h = neither
-    go (decimal n) t h = gives h
-    go (hex n) t h = neither
-    go (string bs) t h = neither
-    go (sign k) t h = neither
+decimal-same s = by-word s (λ w t h. kinds W s w t h .1)
 
 pub string-same : (s : List ℕ) → Same (λ bs t. W s (string bs) t) (aString s) (aString s)
 unfolding aString
-string-same s = by-word s go
-  where
-    go : (w : Token) (t : List ℕ) → W s w t → Same (λ bs t. W s (string bs) t) (stringOf w t) (stringOf w t)
-    go (variable v) t h = neither
-    go (decimal n) t h = neither
-    go (hex n) t h = neither
-    go (string bs) t h = gives h
-    go (sign k) t h = neither
+string-same s = by-word s (λ w t h. kinds W s w t h .2)
+
+pub sign-same : (s : List ℕ) → Same (λ k t. W s (sign k) t) (aSign s) (aSign s)
+unfolding aSign
+sign-same s = by-word s (λ w t h. kinds W s w t h .3)
 
 -- a word of a name, that stands here or not
 module _ {A : Type 0} {P : A → List ℕ → Type 0} (name : String) (s : List ℕ) where

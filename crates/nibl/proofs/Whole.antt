@@ -16,7 +16,7 @@ use Rattle.nibl.specs.Tree.{Expr, Item, stored, value, Stmt, letVar, let
 use Rattle.nibl.specs.Read.{Found, nothing, found, Reader, give, _>>=_, byWord, relation, factor, read, aRelation, assigned, letOf, anItem, joined, printing, statementOf, aStatement, statement, ended?, member, reading, replied, typed, key, consSome, orElse, choose, stepIn, got, signOr, aDecimal, commandCases, immediately, numbered, unnumbered}
 use Rattle.nibl.specs.Read.{aVariable as variableRead, aString as stringRead}
 use Rattle.nibl.proofs.Words.{all-true, word-unspaced, word-complete, word-unique, retabled, of-table, of-pairs, no-symbol, letters-at}
-use Rattle.nibl.proofs.Rules.{W, it, Ok, nil, one, decimal-same}
+use Rattle.nibl.proofs.Rules.{W, it, Ok, nil, one, none-found, decimal-same}
 use Rattle.nibl.proofs.Statements.{joined-eq, items-join, variables-join, statement-eq}
 use Rattle.nibl.proofs.Lines.{C, command-same, reading-eq, replied-one, replied-more, typed-blank, typed-other}
 use Rattle.nibl.proofs.Next.{nextIs, next-at, next-spaces, _or_, not-left, not-right, isKey, isString, isDecimal, word-at, variable-at, decimal-at, string-at, string-not, decimal-not, key-at, key-not, then-at}
@@ -197,13 +197,10 @@ replied-complete (moreReply {n} {s} {u} {a} r k es) =
 -- Typed lines
 -- a command is no number
 command-undecimal : {s t : List ℕ} {k : ℕ} → C s (sign k) t → aDecimal s ≡ nothing
-command-undecimal {s} c = go (it (decimal-same s))
-  where
-    go : {f : Found ℕ} → Ok (λ n u. W s (decimal n) u) f → f ≡ nothing
-    go nil = refl
-    go (one w) =
-        let e = word-unique commands c (retabled keywords commands refl w) .0 in
-        let z : _≡_ {A = ℕ} 0 1 = cc in absurd (omega arith)
+command-undecimal {s} c =
+    none-found (it (decimal-same s)) (λ n u w.
+    let e = word-unique commands c (retabled keywords commands refl w) .0 in
+    let z : _≡_ {A = ℕ} 0 1 = cc in omega arith)
 
 command-step : {s t : List ℕ} {k : ℕ} → C s (sign k) t → typed s ≡ choose commandCases (λ u. immediately s) k t
 command-step {s} c = typed-other s (word-unspaced commands c) ∙ rw (command-undecimal c, word-complete commands c)
