@@ -1,13 +1,12 @@
 -- What the grammar reads, the readers find, where no word follows that would go on. Assumes nothing.
-use Prim.Native.Nat.{ℕ, zero, suc}
-use Prim.Native.String.{String}
-use mathlib.Core.Path.{_≡_, refl, sym, ap, _∙_}
-use mathlib.Core.Bool.{Bool, true, false}
-use mathlib.Core.List.{List, [], _∷_}
-use Rattle.nibl.specs.Words.{Token, variable, decimal, hex, string, sign}
-use Rattle.nibl.specs.Grammar.{Joints, factorJoints, termJoints, sumJoints, Key, May, noWord, aWord, Joint, joint, Factor, Term, Sum, Relation, aVariable, aConstant, aHex, aStat, aTop, inBrackets, aByte, aNot, aMod, aFactor, factors, aTerm, lessTerm, terms, aSum, related}
+use Prim.Native.Nat.{ℕ}
+use mathlib.Core.Path.{_≡_, refl, _∙_}
+use mathlib.Core.Bool.{Bool, false}
+use mathlib.Core.List.{List}
+use Rattle.nibl.specs.Words.{Token}
+use Rattle.nibl.specs.Grammar.{Joints, factorJoints, termJoints, sumJoints, May, noWord, aWord, Joint, Factor, Term, Sum, Relation, aVariable, aConstant, aHex, aStat, aTop, inBrackets, aByte, aNot, aMod, aFactor, factors, aTerm, lessTerm, terms, aSum, related}
 use Rattle.nibl.specs.Tree.{Op, Expr, two, negate}
-use Rattle.nibl.specs.Read.{Found, nothing, found, Reader, give, _>>=_, orElse, Part, factor as factorPart, term as termPart, sum as sumPart, relation as relationPart, factors as factorsPart, terms as termsPart, related as relatedPart, aJoint, factorOf, onward, read}
+use Rattle.nibl.specs.Read.{found, Reader, give, _>>=_, Part, factor as factorPart, term as termPart, sum as sumPart, relation as relationPart, factors as factorsPart, terms as termsPart, factorOf, onward, read}
 use Rattle.nibl.proofs.Rules.{W}
 use Rattle.nibl.proofs.Sound.{read-factor, read-term, read-sum, read-relation, read-factors, read-terms, read-related}
 use Rattle.nibl.proofs.Next.{nextIs, next-at, _or_, not-left, not-right, isKey, joins, isString, word-at, key-at, key-not, then-at, joint-at, joint-not, joint-other}
@@ -115,4 +114,4 @@ mutual
       read-relation s ∙ then-at (read sumPart) _ _ (sum-goes x (joint-other factorJoints refl j) ∙ terms-stop a t (joint-other termJoints refl j))
       ∙ read-related a t
       ∙ onward-go sumPart give a j
-        (sum-goes y (not-left (joins factorJoints) (joins termJoints) s' i) ∙ terms-stop b s' (not-right (joins factorJoints) (joins termJoints) s' i))
+      (sum-goes y (not-left (joins factorJoints) (joins termJoints) s' i) ∙ terms-stop b s' (not-right (joins factorJoints) (joins termJoints) s' i))

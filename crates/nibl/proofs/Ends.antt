@@ -1,27 +1,27 @@
 -- Which bytes a reading is of, and where its members end. Assumes nothing.
-use Prim.Native.Nat.{ℕ, zero, suc, _+_, _-_, _≤_, _<_}
-use mathlib.Core.Path.{_≡_, refl, sym, ap, _∙_, subst}
-use mathlib.Core.Bool.{Bool, true, false, not, _&&_, _||_, false≢true}
+use Prim.Native.Nat.{ℕ, suc, _-_, _≤_, _<_}
+use mathlib.Core.Path.{_≡_, refl, sym, ap, _∙_}
+use mathlib.Core.Bool.{Bool, true, false, not, false≢true}
 use mathlib.Core.List.{List, [], _∷_, _++_, append-assoc}
-use mathlib.Core.Option.{Option, none, some}
+use mathlib.Core.Option.{some}
 use native.Mathlib.Omega.{arith}
 use borrow.Author.Tests.{eqb-true, not-true}
 use lib.ListN.{length, take, drop, length-append, length-drop}
 use lib.Seq.{take-at}
 use lib.Dec.{eqb}
 use Rattle.nibl.specs.Bytes.{if_then_else_, same, isSpace, isDigit, isText, isQuotable, All, none as done, each, starts, past}
-use Rattle.nibl.specs.Words.{Token, decimal, string, sign, keywords, placeFrom, Run, Word, spaced, letter, letters, digits, hexDigits, quoted, pair, symbol}
+use Rattle.nibl.specs.Words.{Token, string, sign, placeFrom, Word, spaced, letter, letters, digits, hexDigits, quoted, pair, symbol}
 use Rattle.nibl.specs.Grammar.{Key, Statement, anIf, aRemark, Members, lastMember, moreMembers, Line, aBlank, aDelete, aStore, aNew, aClear, aRun, aList, aListFrom, anImmediate}
 use Rattle.nibl.specs.Tree.{Expr, Stmt, remark, ifThen, Member, Typed, store}
 use Rattle.nibl.specs.Read.{found, member, reading}
 use Rattle.nibl.proofs.Words.{and-right, of-pairs, no-symbol, capital-other, word-unique}
-use Rattle.nibl.proofs.Over.{Outside, here, byte, inQuotes, outside-trans, outside-passed, outside-length, Passed, passed-trans, passed-text, passed-length, passed-drop, passed-rest, text-passed, Over, word-over, decimal-ends}
+use Rattle.nibl.proofs.Over.{Outside, here, byte, inQuotes, outside-trans, outside-passed, outside-length, Passed, passed-trans, passed-text, passed-drop, passed-rest, text-passed, word-over}
 use Rattle.nibl.proofs.Rules.{W, it, ok-found}
 use Rattle.nibl.proofs.Statements.{Left, outside, taken, statement-left, left-passed}
 use Rattle.nibl.proofs.Lines.{C, AMember, atEnd, atColon, member-same, reading-sound}
 use Rattle.nibl.proofs.Next.{_or_, or-right, isKey, isDecimal}
 use Rattle.nibl.proofs.Complete.{goesOn}
-use Rattle.nibl.proofs.Whole.{First, statement-word, member-last, member-more, reading-complete}
+use Rattle.nibl.proofs.Whole.{statement-word, member-last, member-more, reading-complete}
 use Rattle.nibl.proofs.Exact.{members-unique}
 
 -- Only text bytes
@@ -146,7 +146,7 @@ after-more {s} {u} {n} o i =
       inside = omega arith;
       colon = e ∙ i .colon ∙ ap (λ (t : List ℕ). 58 ∷ t) (sym d);
       unquoted = rw e (outside-trans o (i .unquoted));
-      reads = rw d (i .reads)
+      reads = rw d (i .reads);
     }
 
 none-follow : {A : Type 0} {n : ℕ} {l rest : List Member} → Followed l n rest → l ≡ [] → A

@@ -1,10 +1,10 @@
 -- The grammar is exact, and no line has two readings. Assumes nothing.
-use Prim.Native.Nat.{ℕ, suc}
-use mathlib.Core.Path.{_≡_, refl, sym, ap, _∙_}
+use Prim.Native.Nat.{ℕ}
+use mathlib.Core.Path.{_≡_}
 use mathlib.Core.Bool.{false}
-use mathlib.Core.List.{List, [], _∷_}
+use mathlib.Core.List.{List}
 use mathlib.Core.Logic.{_↔_}
-use mathlib.Core.Option.{Option, none, some}
+use mathlib.Core.Option.{some}
 use Rattle.nibl.specs.Bytes.{isSpace, All}
 use Rattle.nibl.specs.Words.{Token, Word}
 use Rattle.nibl.specs.Grammar.{Relation, Statement, Members, Reply, Line}

@@ -1,20 +1,20 @@
 -- Statement lists, replies and typed lines: what the readers find is a reading, and no bound matters. Assumes nothing.
-use Prim.Native.Nat.{ℕ, zero, suc, _+_, _-_, _*_, _≤_, _<_}
-use mathlib.Core.Path.{_≡_, refl, sym, ap, _∙_, subst}
+use Prim.Native.Nat.{ℕ, zero, suc, _<_}
+use mathlib.Core.Path.{_≡_, refl}
 use mathlib.Core.Bool.{Bool, true, false, _||_, false≢true}
-use mathlib.Core.List.{List, [], _∷_, _++_}
-use mathlib.Core.Option.{Option, none, some}
+use mathlib.Core.List.{List, [], _∷_}
+use mathlib.Core.Option.{Option, some}
 use native.Mathlib.Omega.{arith}
 use lib.ListN.{length}
-use Rattle.nibl.specs.Bytes.{if_then_else_, isSpace, All, all}
-use Rattle.nibl.specs.Words.{Token, variable, decimal, hex, string, sign, keywords, commands, command, Word}
+use Rattle.nibl.specs.Bytes.{isSpace, All, all}
+use Rattle.nibl.specs.Words.{Token, decimal, sign, commands, Word}
 use Rattle.nibl.specs.Grammar.{Key, Relation, Statement, Members, lastMember, moreMembers, Reply, lastReply, enough, moreReply, Line, aBlank, aDelete, aStore, aNew, aClear, aRun, aList, aListFrom, anImmediate}
-use Rattle.nibl.specs.Tree.{Expr, Stmt, Member, Typed, blank, new, clear, run, delete, list, store, immediate}
-use Rattle.nibl.specs.Read.{Found, nothing, found, Reader, give, _>>=_, onStep, stepIn, Step, ended, wrong, got, key, orElse, isFound, signOf, relation, read, statement, ended?, member, unread, consSome, membersN, reading, replied, alone, storing, numbered, immediately, commandCases, unnumbered, typed, aDecimal, choose}
+use Rattle.nibl.specs.Tree.{Expr, Stmt, Member, Typed, blank, new, clear, run, delete, list, immediate}
+use Rattle.nibl.specs.Read.{Found, found, give, _>>=_, onStep, stepIn, key, orElse, isFound, signOf, relation, read, statement, member, unread, consSome, membersN, reading, replied, alone, storing, numbered, immediately, commandCases, unnumbered, typed, aDecimal}
 use Rattle.nibl.specs.Read.{lastReply as lastReplied}
-use Rattle.nibl.proofs.Words.{if-split, or-cases, true-all, Says, spaces, noWord, aWord, step-says}
-use Rattle.nibl.proofs.Over.{Over, word-over}
-use Rattle.nibl.proofs.Rules.{Alike, alike, it, same, Ok, nil, one, OkSome, W, Same, neither, gives, by-step, kinds, or-else, or-ok, and-then, ok-found, ok-some, Cases, noMore, _and_, chosen, decimal-same, by-key}
+use Rattle.nibl.proofs.Words.{if-split, or-cases, true-all}
+use Rattle.nibl.proofs.Over.{word-over}
+use Rattle.nibl.proofs.Rules.{Alike, alike, it, same, Ok, nil, one, OkSome, W, Same, gives, by-step, kinds, or-else, or-ok, and-then, ok-found, ok-some, Cases, noMore, _and_, chosen, decimal-same, by-key}
 use Rattle.nibl.proofs.Sound.{read-same}
 use Rattle.nibl.proofs.Statements.{statement-left, left-short, statement-same}
 
@@ -83,7 +83,7 @@ last-reply s a t r =
     let k : Same (λ b u. Key W "," t u) (key "," (give a) t) (key "," (give a) t) = by-key "," t (λ u c. gives c) in
     if-split (OkSome (Reply W 1 s)) (all isSpace t || isFound (key "," (give a) t))
     (λ e. or-cases (all isSpace t) (isFound (key "," (give a) t)) e (λ i. one (lastReply r (true-all isSpace t i)))
-        (λ i. found-one (it k) i (λ b u c. one (enough r c)))) (λ _. nil)
+    (λ i. found-one (it k) i (λ b u c. one (enough r c)))) (λ _. nil)
 
 more-reply : (n : ℕ) (s t u : List ℕ) (a : Expr) {o : Option (List Expr)} → Relation W s a t → Key W "," t u → OkSome (Reply W (suc n) u) o → OkSome (Reply W (suc (suc n)) s) (consSome a o)
 more-reply n s t u a r k nil = nil

@@ -1,5 +1,5 @@
 -- The word that stands next, and what each reader does at it. Assumes nothing.
-use Prim.Native.Nat.{ℕ, zero, suc}
+use Prim.Native.Nat.{ℕ}
 use Prim.Native.String.{String}
 use mathlib.Core.Path.{_≡_, refl, sym, ap, _∙_}
 use mathlib.Core.Bool.{Bool, true, false, not, _&&_, _||_, true≢false, false≢true}
@@ -9,10 +9,10 @@ use native.Mathlib.Omega.{arith}
 use borrow.Author.Tests.{eqb-true, eq-eqb, not-true}
 use lib.Dec.{eqb}
 use Rattle.nibl.specs.Bytes.{if_then_else_, isSpace, All}
-use Rattle.nibl.specs.Words.{Token, variable, decimal, hex, string, sign, keywords, number, Word}
+use Rattle.nibl.specs.Words.{Token, variable, decimal, hex, string, sign, keywords, number}
 use Rattle.nibl.specs.Grammar.{Joints, jointOf, Key, Joint, joint}
 use Rattle.nibl.specs.Tree.{Op}
-use Rattle.nibl.specs.Read.{Step, ended, wrong, got, stepIn, Found, nothing, found, Reader, onStep, byWord, choose, andThen, _>>=_, orElse, variableOf, decimalOf, stringOf, signOf, aVariable, aDecimal, aString, aSign, ifKey, jointFound, aJoint}
+use Rattle.nibl.specs.Read.{Step, ended, wrong, got, stepIn, Found, nothing, found, Reader, onStep, byWord, choose, andThen, _>>=_, orElse, variableOf, decimalOf, stringOf, signOf, aVariable, aDecimal, aString, aSign, ifKey, aJoint}
 use Rattle.nibl.proofs.Words.{and-left, and-right, word-complete, ended-complete}
 use Rattle.nibl.proofs.Rules.{it, Ok, nil, one, none-found, W, string-same, decimal-same, sign-same, joint-same}
 

@@ -1,17 +1,17 @@
 -- What stands before the rest of a reading: text bytes, with every quote paired. Assumes nothing.
-use Prim.Native.Nat.{ℕ, zero, suc, _+_, _-_, _≤_, _<_}
-use mathlib.Core.Path.{_≡_, refl, sym, ap, _∙_, subst}
-use mathlib.Core.Bool.{Bool, true, false, not, _&&_, _||_, false≢true}
-use mathlib.Core.List.{List, [], _∷_, _++_, append-assoc}
-use mathlib.Core.Option.{Option, none, some}
+use Prim.Native.Nat.{ℕ, suc, _-_, _≤_, _<_}
+use mathlib.Core.Path.{_≡_, refl, ap, _∙_}
+use mathlib.Core.Bool.{Bool, true, false, not, _&&_, false≢true}
+use mathlib.Core.List.{List, [], _∷_, _++_}
+use mathlib.Core.Option.{some}
 use native.Mathlib.Omega.{arith}
 use native.Mathlib.Nat.{sub-self}
-use borrow.Author.Tests.{leb-true, le-leb, lt-leb, eqb-true, ne-eqb, not-true}
+use borrow.Author.Tests.{le-leb, eqb-true, ne-eqb}
 use lib.ListN.{length, drop, length-append}
 use lib.Dec.{leb, eqb}
 use Rattle.nibl.specs.Bytes.{isSpace, isDigit, isCapital, isHexDigit, isText, isQuotable, All, none as done, each, starts}
-use Rattle.nibl.specs.Words.{Token, decimal, isSymbol, Run, Word, spaced, letter, letters, digits, hexDigits, quoted, pair, symbol}
-use Rattle.nibl.proofs.Words.{and-left, and-right, or-cases, of-symbols, of-pairs, between}
+use Rattle.nibl.specs.Words.{Token, decimal, Run, Word, spaced, letter, letters, digits, hexDigits, quoted, pair, symbol}
+use Rattle.nibl.proofs.Words.{and-left, or-cases, of-symbols, of-pairs, between}
 
 -- `Outside s s'`: s' is the end of s from a place on that stands outside every string, and what stands before is text
 pub data Outside : List ℕ → List ℕ → Type 0 where

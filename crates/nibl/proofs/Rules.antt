@@ -1,21 +1,19 @@
 -- Laws of the ways in which readers are made of readers. Each says of two readers at once that they find the same and that
 -- what they find is so: with one reader twice this is soundness, with two bounds of one reader it is that the bound does not matter.
 -- Assumes nothing.
-use Prim.Native.Nat.{ℕ, zero, suc, _+_, _-_, _*_, _≤_, _<_}
+use Prim.Native.Nat.{ℕ}
 use Prim.Native.String.{String}
-use mathlib.Core.Path.{_≡_, refl, sym, ap, _∙_, subst}
+use mathlib.Core.Path.{_≡_, refl}
 use mathlib.Core.Bool.{Bool, true, false}
 use mathlib.Core.List.{List, [], _∷_}
 use mathlib.Core.Option.{Option, none, some}
-use native.Mathlib.Omega.{arith}
 use borrow.Author.Tests.{eqb-true}
-use lib.ListN.{length}
 use lib.Dec.{eqb}
 use Rattle.nibl.specs.Bytes.{if_then_else_}
-use Rattle.nibl.specs.Words.{Token, variable, decimal, hex, string, sign, keywords, number, Word}
+use Rattle.nibl.specs.Words.{Token, variable, decimal, hex, string, sign, keywords, Word}
 use Rattle.nibl.specs.Grammar.{Joints, jointOf, Key, May, noWord, aWord, Joint, joint}
 use Rattle.nibl.specs.Tree.{Op}
-use Rattle.nibl.specs.Read.{Step, ended, wrong, got, stepIn, Found, nothing, found, Reader, give, fail, onStep, byWord, choose, andThen, _>>=_, orElse, variableOf, decimalOf, stringOf, signOf, aVariable, aDecimal, aString, aSign, ifKey, key, may, jointFound, aJoint}
+use Rattle.nibl.specs.Read.{Step, stepIn, Found, nothing, found, Reader, fail, onStep, byWord, choose, andThen, _>>=_, orElse, variableOf, decimalOf, stringOf, signOf, aVariable, aDecimal, aString, aSign, ifKey, key, may, jointFound, aJoint}
 use Rattle.nibl.proofs.Words.{Says, spaces, aWord as said, noWord as noneSaid, step-says}
 
 -- two things are the same, and it is so

@@ -1,18 +1,16 @@
 -- What the readers find is a reading, and the bound of a reader does not matter. Assumes nothing.
 use Prim.Native.Nat.{ℕ, zero, suc, _+_, _-_, _*_, _≤_, _<_}
 use Prim.Native.String.{String}
-use mathlib.Core.Path.{_≡_, refl, sym, ap, _∙_, subst}
-use mathlib.Core.Bool.{Bool, true, false}
-use mathlib.Core.List.{List, [], _∷_}
-use mathlib.Core.Option.{Option, none, some}
+use mathlib.Core.Path.{_≡_}
+use mathlib.Core.List.{List}
 use native.Mathlib.Omega.{arith}
 use lib.ListN.{length}
-use Rattle.nibl.specs.Words.{Token, variable, decimal, hex, string, sign, keywords, number, Word}
-use Rattle.nibl.specs.Grammar.{Joints, factorJoints, termJoints, sumJoints, Key, May, noWord, aWord, Joint, joint, Factor, Term, Sum, Relation, aVariable, aConstant, aHex, aStat, aTop, inBrackets, aByte, aNot, aMod, aFactor, factors, aTerm, lessTerm, terms, aSum, related}
-use Rattle.nibl.specs.Tree.{Op, Expr, var, const, stat, top, byteAt, invert, negate, modulo, two}
-use Rattle.nibl.specs.Read.{Found, Reader, give, byWord, ifKey, may, _>>=_, Part, factor as factorPart, term as termPart, sum as sumPart, relation as relationPart, factors as factorsPart, terms as termsPart, related as relatedPart, aJoint, factorCases, factorOf, onward, part, readN, rank, read}
+use Rattle.nibl.specs.Words.{Token, variable, decimal, hex, string, sign}
+use Rattle.nibl.specs.Grammar.{Joints, factorJoints, termJoints, sumJoints, May, noWord, aWord, Joint, joint, Factor, Term, Sum, Relation, aVariable, aConstant, aHex, aStat, aTop, inBrackets, aByte, aNot, aMod, aFactor, factors, aTerm, lessTerm, terms, aSum, related}
+use Rattle.nibl.specs.Tree.{Op, Expr, negate, two}
+use Rattle.nibl.specs.Read.{Reader, give, byWord, ifKey, may, _>>=_, Part, factor as factorPart, term as termPart, sum as sumPart, relation as relationPart, factors as factorsPart, terms as termsPart, related as relatedPart, factorCases, factorOf, onward, part, readN, rank, read}
 use Rattle.nibl.proofs.Over.{Outside, here, outside-trans, outside-length, Over, _⨾_, word-over}
-use Rattle.nibl.proofs.Rules.{Alike, alike, it, same, Ok, nil, one, W, Same, neither, gives, by-word, or-else, and-then, as-so, Cases, noMore, _and_, chosen, Case, sign-same, if-key, by-key, by-may, joint-same}
+use Rattle.nibl.proofs.Rules.{same, W, Same, neither, gives, by-word, or-else, and-then, as-so, Cases, noMore, _and_, chosen, Case, if-key, by-key, by-may, joint-same}
 
 -- A reading is not empty
 pub may-out : {name : String} {s s' : List ℕ} → May W name s s' → Outside s s'
@@ -86,10 +84,10 @@ module _ (rd rd' : Part → Reader Expr) where
       and (λ k. and-then (h factorPart t (omega arith)) (λ a u f. gives (aByte k f)))
       and (λ k. and-then (h factorPart t (omega arith)) (λ a u f. gives (aNot k f)))
       and (λ k. by-key "(" t (λ u i.
-          and-then (h relationPart u (omega (arith, word-over i .short))) (λ a v r.
-          by-key "," v (λ x c.
-          and-then (h relationPart x (omega (arith, word-over i .short, relation-over r .short, word-over c .short))) (λ b y q.
-          by-key ")" y (λ z j. gives (aMod k i r c q j)))))))
+      and-then (h relationPart u (omega (arith, word-over i .short))) (λ a v r.
+      by-key "," v (λ x c.
+      and-then (h relationPart x (omega (arith, word-over i .short, relation-over r .short, word-over c .short))) (λ b y q.
+      by-key ")" y (λ z j. gives (aMod k i r c q j)))))))
       and noMore
 
   factor-same : (s : List ℕ) → Below (4 * length s) → (w : Token) (t : List ℕ) → W s w t → Same (Factor W s) (factorOf rd w t) (factorOf rd' w t)
@@ -114,8 +112,8 @@ module _ (rd rd' : Part → Reader Expr) where
       and-then (h factorPart s (omega arith)) (λ a t f. as-so (λ b u r. r .1 s (aFactor f)) (h (factorsPart a) t (omega (arith, factor-over f .short))))
   part-same sumPart s h =
       let go : (f : Expr → Expr) (t : List ℕ) → length t ≤ length s → ((a : Expr) (u : List ℕ) → Term W t a u → Sum W s (f a) u)
-              → Same (Sum W s) ((rd termPart >>= (λ a. rd (termsPart (f a)))) t) ((rd' termPart >>= (λ a. rd' (termsPart (f a)))) t) =
-          λ f t l g. and-then (h termPart t (omega arith)) (λ a u r. as-so (λ b v q. q .1 s (g a u r)) (h (termsPart (f a)) u (omega (arith, term-over r .short)))) in
+      → Same (Sum W s) ((rd termPart >>= (λ a. rd (termsPart (f a)))) t) ((rd' termPart >>= (λ a. rd' (termsPart (f a)))) t) =
+      λ f t l g. and-then (h termPart t (omega arith)) (λ a u r. as-so (λ b v q. q .1 s (g a u r)) (h (termsPart (f a)) u (omega (arith, term-over r .short)))) in
       if-key "-" s _ _ (λ t k. go negate t (omega (arith, word-over k .short)) (λ a u r. lessTerm k r))
       (by-may "+" s (λ t m. go (λ a. a) t (outside-length (may-out m)) (λ a u r. aTerm m r)))
   part-same relationPart s h =

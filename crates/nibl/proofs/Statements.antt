@@ -1,22 +1,21 @@
 -- Statements: what the readers find is a reading, and no bound matters. Assumes nothing.
-use Prim.Native.Nat.{ℕ, zero, suc, _+_, _-_, _*_, _≤_, _<_}
+use Prim.Native.Nat.{ℕ, zero, suc, _<_}
 use Prim.Native.String.{String}
-use mathlib.Core.Path.{_≡_, refl, sym, ap, _∙_, subst}
-use mathlib.Core.Bool.{Bool, true, false}
-use mathlib.Core.List.{List, [], _∷_, _++_}
-use mathlib.Core.Option.{Option, none, some}
+use mathlib.Core.Path.{_≡_}
+use mathlib.Core.Bool.{Bool}
+use mathlib.Core.List.{List, [], _∷_}
 use native.Mathlib.Omega.{arith}
 use lib.ListN.{length}
-use Rattle.nibl.specs.Bytes.{isSpace, isText, All, none as done, each, all}
-use Rattle.nibl.specs.Words.{Token, variable, decimal, hex, string, sign, keywords, number, Word}
-use Rattle.nibl.specs.Grammar.{Key, May, noWord, aWord, Factor, Relation, Either, whole, parted, PrintWord, pr, printed, AnItem, aString, aStored, aValue, Items, oneItem, moreItems, LastSemicolon, noSemicolon, aSemicolon, AStep, noStep, someStep, Variables, oneVariable, moreVariables}
-use Rattle.nibl.specs.Grammar.{Statement, aLetVar, aLetStat, aLetByte, aLetText, aLetCopy, aGoto, aGosub, aReturn, aPrint, anIf, aDo, anUntil, aFor, aNext, anInput, anInputText, aRemark, anEnd, Members, lastMember, moreMembers}
-use Rattle.nibl.specs.Tree.{Expr, Item, text, stored, value, Stmt, letVar, letStat, letByte, letCopy, letText, goto, gosub, until, return, loop, remark, end, print, ifThen, for, next, input, inputText, Member}
-use Rattle.nibl.specs.Read.{Found, Reader, give, _>>=_, key, byWord, ifKey, orElse, Part, relation, factor, read, aRelation, assigned, letCases, letOf, anItem, joinedN, joined, printing, forTo, inputting, remarking, statementCases, statementOf, aStatement, statementN, statement, ended?, member, unread, consSome, membersN, reading}
-use Rattle.nibl.specs.Read.{aVariable as variableRead, aString as stringRead}
+use Rattle.nibl.specs.Bytes.{isText, All, all}
+use Rattle.nibl.specs.Words.{Token, variable, decimal, hex, string, sign}
+use Rattle.nibl.specs.Grammar.{Key, May, noWord, aWord, Relation, Either, whole, parted, PrintWord, pr, printed, AnItem, aString, aStored, aValue, Items, oneItem, moreItems, LastSemicolon, noSemicolon, aSemicolon, AStep, noStep, someStep, Variables, oneVariable, moreVariables}
+use Rattle.nibl.specs.Grammar.{Statement, aLetVar, aLetStat, aLetByte, aLetText, aLetCopy, aGoto, aGosub, aReturn, aPrint, anIf, aDo, anUntil, aFor, aNext, anInput, anInputText, aRemark, anEnd}
+use Rattle.nibl.specs.Tree.{Expr, Item, stored, value, Stmt, letVar, letStat, letByte, letCopy, goto, gosub, until, for, inputText}
+use Rattle.nibl.specs.Read.{Reader, give, _>>=_, ifKey, Part, relation, factor, read, assigned, letCases, letOf, anItem, joinedN, joined, printing, forTo, inputting, remarking, statementCases, statementOf, aStatement, statementN, statement}
+use Rattle.nibl.specs.Read.{aVariable as variableRead}
 use Rattle.nibl.proofs.Words.{if-split, true-all}
-use Rattle.nibl.proofs.Over.{Outside, here, outside-trans, outside-passed, outside-length, Passed, passed-text, passed-length, text-passed, Over, _⨾_, word-over}
-use Rattle.nibl.proofs.Rules.{Alike, alike, it, same, Ok, nil, one, OkSome, W, Same, neither, gives, by-word, or-else, and-then, as-so, Cases, noMore, _and_, chosen, Case, variable-same, string-same, if-key, by-key, by-may}
+use Rattle.nibl.proofs.Over.{Outside, here, outside-trans, outside-passed, outside-length, Passed, passed-text, text-passed, Over, _⨾_, word-over}
+use Rattle.nibl.proofs.Rules.{same, one, W, Same, neither, gives, by-word, or-else, and-then, Cases, noMore, _and_, chosen, Case, variable-same, string-same, if-key, by-key, by-may}
 use Rattle.nibl.proofs.Sound.{may-out, onto, factor-over, relation-over, Reads, read-same}
 
 -- What stands before the rest
@@ -152,8 +151,8 @@ let-cases r s t m =
     (λ k. assigned-same letStat t (λ a u v e x. aLetStat m k e x))
     and (λ k. and-then (read-same factor t) (λ a u f. assigned-same (letByte a) u (λ b v x e y. aLetByte m k f e y)))
     and (λ k. and-then (read-same factor t) (λ a u f. by-key "=" u (λ v e.
-        or-else _ _ v (string-same v) (λ bs x w. gives (aLetText m k f e w))
-        (by-key "$" v (λ x d. part-then factor (letCopy a) x (λ b y g. aLetCopy m k f e d g))))))
+    or-else _ _ v (string-same v) (λ bs x w. gives (aLetText m k f e w))
+    (by-key "$" v (λ x d. part-then factor (letCopy a) x (λ b y g. aLetCopy m k f e d g))))))
     and noMore
 
 let-same : (r s : List ℕ) → May W "LET" r s → (w : Token) (t : List ℕ) → W s w t → Same (Statement W r) (letOf w t) (letOf w t)
@@ -191,10 +190,10 @@ module _ (rd rd' : Reader Stmt) where
       (λ k. by-word t (let-same s t (aWord k)))
       and (λ k. part-then relation goto t (λ a u r. aGoto (whole k) r)) and (λ k. part-then relation gosub t (λ a u r. aGosub (whole k) r))
       and (λ k. if-key "TO" t _ _ (λ u j. part-then relation goto u (λ a v r. aGoto (parted k j) r))
-          (by-key "SUB" t (λ u j. part-then relation gosub u (λ a v r. aGosub (parted k j) r))))
+      (by-key "SUB" t (λ u j. part-then relation gosub u (λ a v r. aGosub (parted k j) r))))
       and (λ k. gives (aReturn k)) and (λ k. printing-same s t (pr k)) and (λ k. printing-same s t (printed k))
       and (λ k. and-then (read-same relation t) (λ a u r. by-may "THEN" u (λ x m.
-          and-then (h x (omega (arith, relation-over r .short, outside-length (may-out m)))) (λ q y b. gives (anIf k r m b)))))
+      and-then (h x (omega (arith, relation-over r .short, outside-length (may-out m)))) (λ q y b. gives (anIf k r m b)))))
       and (λ k. gives (aDo k)) and (λ k. part-then relation until t (λ a u r. anUntil k r)) and (λ k. for-same s t k)
       and (λ k. and-then (variable-same t) (λ v u w. gives (aNext k w))) and (λ k. input-same s t k)
       and (λ k. remark-same s t k) and (λ k. gives (anEnd k)) and let-cases s s t noWord

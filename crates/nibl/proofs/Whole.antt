@@ -1,26 +1,26 @@
 -- Statements, statement lists, replies and typed lines: what the grammar reads, the readers find. Assumes nothing.
-use Prim.Native.Nat.{ℕ, zero, suc}
+use Prim.Native.Nat.{ℕ, suc}
 use Prim.Native.String.{String}
 use mathlib.Core.Path.{_≡_, refl, sym, ap, _∙_}
-use mathlib.Core.Bool.{Bool, true, false, not, _||_, false≢true}
-use mathlib.Core.List.{List, [], _∷_, _++_}
+use mathlib.Core.Bool.{Bool, true, false, not, false≢true}
+use mathlib.Core.List.{List, [], _∷_}
 use mathlib.Core.Option.{Option, none, some}
 use native.Mathlib.Omega.{arith}
 use lib.ListN.{length}
 use lib.Dec.{eqb}
-use Rattle.nibl.specs.Bytes.{isSpace, isText, All, all}
-use Rattle.nibl.specs.Words.{Token, variable, decimal, hex, string, sign, keywords, commands, command, number, placeIn, there, Word, spaced, letter, letters, digits, hexDigits, quoted, pair, symbol}
-use Rattle.nibl.specs.Grammar.{Key, May, noWord, aWord, Factor, Relation, Either, whole, parted, PrintWord, pr, printed, AnItem, aString, aStored, aValue, Items, oneItem, moreItems, LastSemicolon, noSemicolon, aSemicolon, AStep, noStep, someStep, Variables, oneVariable, moreVariables}
+use Rattle.nibl.specs.Bytes.{isSpace, All, all}
+use Rattle.nibl.specs.Words.{Token, decimal, sign, keywords, commands, number, placeIn, there, spaced, letters, pair, symbol}
+use Rattle.nibl.specs.Grammar.{Key, May, noWord, aWord, Relation, Either, whole, parted, PrintWord, pr, printed, AnItem, aString, aStored, aValue, Items, oneItem, moreItems, noSemicolon, aSemicolon, noStep, someStep, Variables, oneVariable, moreVariables}
 use Rattle.nibl.specs.Grammar.{Statement, aLetVar, aLetStat, aLetByte, aLetText, aLetCopy, aGoto, aGosub, aReturn, aPrint, anIf, aDo, anUntil, aFor, aNext, anInput, anInputText, aRemark, anEnd, Members, lastMember, moreMembers, Reply, lastReply, enough, moreReply, Line, aBlank, aDelete, aStore, aNew, aClear, aRun, aList, aListFrom, anImmediate}
-use Rattle.nibl.specs.Tree.{Expr, Item, stored, value, Stmt, letVar, letStat, letByte, letCopy, letText, goto, gosub, until, print, for, inputText, Member, Typed, blank, new, clear, run, delete, list, store, immediate}
-use Rattle.nibl.specs.Read.{Found, nothing, found, Reader, give, _>>=_, byWord, relation, factor, read, aRelation, assigned, letOf, anItem, joined, printing, statementOf, aStatement, statement, ended?, member, reading, replied, typed, key, consSome, orElse, choose, stepIn, got, signOr, aDecimal, commandCases, immediately, numbered, unnumbered}
-use Rattle.nibl.specs.Read.{aVariable as variableRead, aString as stringRead}
+use Rattle.nibl.specs.Tree.{Expr, Item, Stmt, letVar, letStat, letByte, goto, gosub, until, for, Member, Typed, immediate}
+use Rattle.nibl.specs.Read.{Found, nothing, found, give, _>>=_, relation, factor, read, aRelation, assigned, letOf, anItem, joined, printing, statementOf, aStatement, statement, ended?, member, reading, replied, typed, key, consSome, orElse, choose, stepIn, got, signOr, aDecimal, commandCases, immediately, numbered, unnumbered}
+use Rattle.nibl.specs.Read.{aVariable as variableRead}
 use Rattle.nibl.proofs.Words.{all-true, word-unspaced, word-complete, word-unique, retabled, of-table, of-pairs, no-symbol, letters-at}
 use Rattle.nibl.proofs.Rules.{W, it, Ok, nil, one, none-found, decimal-same}
 use Rattle.nibl.proofs.Statements.{joined-eq, items-join, variables-join, statement-eq}
 use Rattle.nibl.proofs.Lines.{C, command-same, reading-eq, replied-one, replied-more, typed-blank, typed-other}
 use Rattle.nibl.proofs.Next.{nextIs, next-at, next-spaces, _or_, not-left, not-right, isKey, isString, isDecimal, word-at, variable-at, decimal-at, string-at, string-not, decimal-not, key-at, key-not, then-at}
-use Rattle.nibl.proofs.Complete.{goesOn, unrelated, relation-first, factor-complete, relation-complete}
+use Rattle.nibl.proofs.Complete.{goesOn, relation-first, factor-complete, relation-complete}
 
 -- a word that may go on a statement
 abbrev pub listed : Token → Bool

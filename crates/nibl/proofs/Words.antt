@@ -1,15 +1,14 @@
 -- The function of words finds exactly the words of the rule; so a text begins with at most one word. Assumes nothing.
-use Prim.Native.Nat.{ℕ, zero, suc, _+_, _-_, _%_, _≤_, _<_}
+use Prim.Native.Nat.{ℕ, suc, _%_, _≤_}
 use mathlib.Core.Path.{_≡_, refl, sym, ap, _∙_, subst}
 use mathlib.Core.Bool.{Bool, true, false, not, _&&_, _||_, false≢true}
 use mathlib.Core.List.{List, [], _∷_, _++_}
 use mathlib.Core.Option.{Option, none, some}
 use native.Mathlib.Omega.{arith}
 use borrow.Author.Tests.{leb-true, le-leb, lt-leb, eqb-true, ne-eqb, not-true}
-use lib.ListN.{length, drop, length-append}
 use lib.Dec.{leb, eqb}
-use Rattle.nibl.specs.Bytes.{if_then_else_, same, isSpace, isDigit, isCapital, isHexDigit, isText, isQuotable, All, none as done, each, starts, front, past, all, decimalValue, hexValue}
-use Rattle.nibl.specs.Words.{Token, variable, decimal, hex, string, sign, keywords, placeFrom, placeIn, pairs, there, pairsWith, isSymbol, Run, Word, spaced, letter, letters, digits, hexDigits, quoted, pair, symbol}
+use Rattle.nibl.specs.Bytes.{if_then_else_, same, isSpace, isDigit, isCapital, isHexDigit, isQuotable, All, none as done, each, starts, front, past, all, decimalValue, hexValue}
+use Rattle.nibl.specs.Words.{Token, variable, decimal, hex, string, sign, placeFrom, placeIn, pairs, there, pairsWith, isSymbol, Run, Word, spaced, letter, letters, digits, hexDigits, quoted, pair, symbol}
 use Rattle.nibl.specs.Read.{Step, ended, wrong, got, signOr, lettersStep, digitsStep, hexStep, quotedStep, pairOr, symbolStep, wordStep, stepIn}
 
 -- Tests
@@ -62,10 +61,10 @@ pub of-pairs : (P : ℕ → ℕ → ℕ → Type 0) (a b k : ℕ) → P 60 61 1 
 of-pairs P a b k x y z =
     let Q : Option ℕ → Type 0 = λ o. o ≡ some k → P a b k in
     let at : (c d n : ℕ) → P c d n → eqb a c && eqb b d ≡ true → some n ≡ some k → P a b k =
-        λ c d n h e i.
-        let f = eqb-true a c (and-left (eqb a c) (eqb b d) e) in
-        let g = eqb-true b d (and-right (eqb a c) (eqb b d) e) in
-        let j : n ≡ k = cc in rw (f, g, ← j) h in
+    λ c d n h e i.
+    let f = eqb-true a c (and-left (eqb a c) (eqb b d) e) in
+    let g = eqb-true b d (and-right (eqb a c) (eqb b d) e) in
+    let j : n ≡ k = cc in rw (f, g, ← j) h in
     if-split Q (eqb a 60 && eqb b 61) (at 60 61 1 x) (λ _.
     if-split Q (eqb a 62 && eqb b 61) (at 62 61 2 y) (λ _.
     if-split Q (eqb a 60 && eqb b 62) (at 60 62 3 z) (λ _ e. let n : _≡_ {A = ℕ} 0 1 = cc in absurd (omega arith))))
