@@ -74,12 +74,12 @@ hex-some [] s h = absurd (omega arith)
 hex-some (d ∷ ds) s h = refl
 
 module _ {text : List ℕ} {from v i : ℕ} (c : Hexed text from v i) where
-  pub hexed-go : (d : ℕ) → i < length text → isHexDigit (getD text i 0) ≡ true → d ≡ hexDigit (getD text i 0) → Hexed text from (v % 4096 * 16 + d) (i + 1)
-  hexed-go d h e f =
+  pub hexed-go : (u : ℕ) → i < length text → isHexDigit (getD text i 0) ≡ true → u ≡ v % 4096 * 16 + hexDigit (getD text i 0) → Hexed text from u (i + 1)
+  hexed-go u h e f =
       let b = getD text i 0 in
-      let ds = front isHexDigit (drop (i + 1) text) in
+      let low = hex-low u (v * 16 + hexDigit b) (front isHexDigit (drop (i + 1) text)) (omega arith) in
       record {
-        value = rw f (hex-low (v % 4096 * 16 + hexDigit b) (v * 16 + hexDigit b) ds (omega arith) ∙ sym (ap (λ (l : List ℕ). hexValue v l % 65536) (run-cons isHexDigit text i h e)) ∙ c .value);
+        value = low ∙ sym (ap (λ (l : List ℕ). hexValue v l % 65536) (run-cons isHexDigit text i h e)) ∙ c .value;
         end = sym (end-go isHexDigit text i h e) ∙ c .end;
       }
 
