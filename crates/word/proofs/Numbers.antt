@@ -1,5 +1,5 @@
 -- Constants, a digit at a time. Assumes nothing.
-use Prim.Native.Nat.{ℕ, zero, suc, _+_, _-_, _*_, _%_, _≤_, _<_}
+use Prim.Native.Nat.{ℕ, _+_, _-_, _*_, _%_, _≤_, _<_}
 use mathlib.Core.Path.{_≡_, _∙_, refl, ap, sym}
 use mathlib.Core.Bool.{Bool, true, false, _&&_, _||_, false≢true}
 use mathlib.Core.List.{List, [], _∷_}
@@ -12,7 +12,7 @@ use Rattle.nibl.specs.Words.{hex}
 use Rattle.nibl.specs.Read.{got, hexStep}
 use Rattle.word.specs.declared.Word.the-variants.{Decimal, Hex, Wrong}
 use Rattle.word.specs.Found.{hexDigit, decimalAt, hexAt, Stands}
-use Rattle.word.proofs.Runs.{between, runEnd, run-cons, front-stop, end-go, end-stop, end-past, end-within, rest-stop}
+use Rattle.word.proofs.Runs.{between, runEnd, run-cons, front-stop, end-go, end-stop, end-past, rest-stop}
 
 -- v is the value of the digits from `from` up to i
 pub record Counted (text : List ℕ) (from v i : ℕ) : Type 0 where

@@ -19,6 +19,10 @@ pub record Read (step : List ℕ → Step) (text : List ℕ) (at : ℕ) (w : Tok
   pub on : at < next .at
   pub within : next .at ≤ length text
 
+-- so what is left falls
+pub falls : {step : List ℕ → Step} {text : List ℕ} {at : ℕ} {w : Token} {next : Cursor} → Read step text at w next → length text - next .at < length text - at
+falls {text = text} {at = at} {next = next} r = let h = r .on in let k = r .within in omega arith
+
 -- The laws take the promise and what a match showed of the answer
 module _ {step : List ℕ → Step} {text : List ℕ} {at : ℕ} {r : Word} (w : Stands step text at r) where
   told : (q : Word) → r ≡ q → Stands step text at q
