@@ -1,0 +1,1 @@
+// The page: the walk along its records, and its edits.
