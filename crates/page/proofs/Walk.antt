@@ -5,9 +5,10 @@ use mathlib.Core.Path.{_≡_, refl, sym, ap, _∙_}
 use mathlib.Core.Logic.{⊎-elim}
 use mathlib.Core.Bool.{Bool, true, false, not, _&&_, _||_, true≢false}
 use mathlib.Core.List.{List, [], _∷_, _++_}
+use native.Mathlib.Nat.{add-zero}
 use native.Mathlib.Omega.{arith}
 use lib.ListN.{length, getD, take, drop, length-drop, List·getD-eq-default, drop-of-length-le}
-use lib.Seq.{length-take-le, take-all, drop-drop}
+use lib.Seq.{length-take-le, take-all, drop-drop, getD-drop}
 use lib.Dec.{ltb, leb, eqb}
 use borrow.Author.Tests.{ltb-true, ltb-false, leb-true, leb-false}
 use Rattle.nibl.specs.Bytes.{if_then_else_}
@@ -26,6 +27,17 @@ or-false true b e = absurd (true≢false e)
 pub or-right : (a b : Bool) → b ≡ true → (a || b) ≡ true
 or-right true b e = refl
 or-right false b e = e
+
+-- the bytes at a position of the page
+module _ (p : List ℕ) (at : ℕ) where
+  pub first-at : getD (drop at p) 0 0 ≡ getD p at 0
+  first-at = getD-drop at p 0 0 ∙ ap (λ (i : ℕ). getD p i 0) (add-zero at)
+
+  pub end-at : isEnd (drop at p) ≡ (eqb (getD p at 0) 255 && eqb (getD p (at + 1) 0) 255)
+  end-at = λ i. eqb (first-at i) 255 && eqb (getD-drop at p 1 0 i) 255
+
+  pub end-past : length p ≤ at → isEnd (drop at p) ≡ false
+  end-past h = rw (drop-of-length-le p {i = at} h)
 
 -- the record that stands here
 abbrev pub recordAt : List ℕ → Stored
