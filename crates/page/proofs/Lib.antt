@@ -1,3 +1,4 @@
 pub mod Walk
 pub mod Program
 pub mod Changes
+pub mod Texts

@@ -134,3 +134,26 @@ step q e =
     ∙ ap (λ (rs : List Stored). recordAt q ∷ rs)
     (records-enough (length q) (suc (length (drop (lengthAt q) q))) (drop (lengthAt q) q) (omega arith) (omega arith)
     ∙ ap (λ (p : List ℕ). recordsN (suc (length p)) p) (drop-size q e))
+
+-- what a turn of the walk knows: a record of n bytes stands at `at`
+pub record Met (p : List ℕ) (at n : ℕ) : Type 0 where
+  pub inside : at + 3 ≤ length p
+  pub next : at + n ≤ length p + 1
+  pub long : size (recordAt (drop at p)) ≡ n
+  pub records : recordsOf (drop at p) ≡ recordAt (drop at p) ∷ recordsOf (drop (at + n) p)
+
+pub met : (p : List ℕ) (at n : ℕ) → n ≡ sizeAt (drop at p) → 0 < n → Met p at n
+met p at n e h =
+    let q : List ℕ = drop at p in
+    let f = some-size q (omega arith) in
+    let l = length-drop at p in
+    let m = long q f in
+    let o = size-most q f in
+    record {
+      inside = omega arith;
+      next = omega arith;
+      long = sym (size-is q f) ∙ sym e;
+      records = step q f ∙ ap (λ (r : List ℕ). recordAt q ∷ recordsOf r) (ap (λ (k : ℕ). drop k q) (sym e) ∙ drop-drop n at p) }
+
+pub past : (p : List ℕ) (at n : ℕ) → n ≡ sizeAt (drop at p) → n ≤ 0 → recordsOf (drop at p) ≡ []
+past p at n e h = stop (drop at p) (none-size (drop at p) (omega arith))
