@@ -2,3 +2,5 @@ pub mod Walk
 pub mod Program
 pub mod Changes
 pub mod Texts
+pub mod Moves
+pub mod Edits

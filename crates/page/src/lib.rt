@@ -2,12 +2,15 @@
 // Any bytes whatever are looked at safely; what is said of a good page is said in proofs/.
 ghost use Prim.Native.Nat.{_+_, _-_, _≤_};
 ghost use mathlib.Core.Bool.{_&&_};
+ghost use mathlib.Core.List.{_++_};
 ghost use mathlib.Core.Option.{some};
 ghost use lib.Dec.{leb, eqb};
 ghost use mathlib.Core.Path.{_≡_};
-ghost use lib.ListN.{length, getD, drop};
-ghost use Rattle.nibl.specs.Page.{isEnd, find, lineAt, lineOf, used, usedBy, recordsOf};
+ghost use lib.ListN.{length, getD, take, drop};
+ghost use lib.Seq.{paste};
+ghost use Rattle.nibl.specs.Page.{recordBytes, isEnd, find, lineAt, lineOf, used, usedBy, recordsOf};
 ghost use Rattle.nibl.specs.Calls.{lineFrom, textFrom};
+ghost use Rattle.page.specs.Edits.{Seated, moved, spliced, changed, storeOf, deleteOf, newOf};
 ghost use Rattle.page.specs.Walk.{sizeAt, positionOf, reached, beginOf, textOf};
 use nibl::LineNumber;
 use nibl::Place;
@@ -29,6 +32,19 @@ pub enum Begins {
 pub enum Where {
     Page(usize),
     Line(usize),
+}
+
+// Where a line's record stands or is to stand, and how many bytes of that line are there.
+pub struct Seat {
+    pub at: usize,
+    pub gone: usize,
+}
+
+// How an edit ended. A page that has no room, and one that lacks the line, are as before.
+pub enum Edited {
+    Done,
+    NoRoom,
+    Absent,
 }
 
 // A byte, and 0 past the end.
@@ -210,4 +226,162 @@ pub fn text_from(page: &[u8], position: u32) -> Begins
         return Begins::Nowhere;
     }
     Begins::At(at + 3)
+}
+
+// The walk to a line's seat.
+fn find_seat(page: &[u8], number: LineNumber) -> Seat
+    ensures { λ r. ⌜ Seated (now (page .entry)) (number .0) r ⌝ }
+{
+    let n = number.0;
+    let mut at: usize = 0;
+    let mut size = size_at(page, at);
+    while 0 < size {
+        let line = line_at(page, at);
+        if line == n {
+            return Seat {
+                at: at,
+                gone: size,
+            };
+        }
+        if n < line {
+            return Seat {
+                at: at,
+                gone: 0,
+            };
+        }
+        at += size;
+        size = size_at(page, at);
+    }
+    Seat {
+        at: at,
+        gone: 0,
+    }
+}
+
+// n bytes go to a lower place, the first one first.
+fn move_left(s: &mut [u8], from: usize, to: usize, n: usize)
+    requires { ⌜ (to ≤ from) × (from + n ≤ length (now s)) ⌝ }
+    ensures { λ _. ⌜ now (s .exit) ≡ moved (now (s .entry)) from to n ⌝ }
+{
+    let mut i: usize = 0;
+    while i < n {
+        s[to + i] = s[from + i];
+        i += 1;
+    }
+}
+
+// n bytes go to a higher place, the last one first.
+fn move_right(s: &mut [u8], from: usize, to: usize, n: usize)
+    requires { ⌜ (from ≤ to) × (to + n ≤ length (now s)) ⌝ }
+    ensures { λ _. ⌜ now (s .exit) ≡ moved (now (s .entry)) from to n ⌝ }
+{
+    let mut j = n;
+    while 0 < j {
+        j -= 1;
+        s[to + j] = s[from + j];
+    }
+}
+
+// The mover: as if the bytes were taken whole first.
+fn shift(s: &mut [u8], from: usize, to: usize, n: usize)
+    requires { ⌜ (from + n ≤ length (now s)) × (to + n ≤ length (now s)) ⌝ }
+    ensures { λ _. ⌜ now (s .exit) ≡ moved (now (s .entry)) from to n ⌝ }
+{
+    if to <= from {
+        move_left(s, from, to, n);
+    } else {
+        move_right(s, from, to, n);
+    }
+}
+
+// A text goes into a slice at a position.
+fn put_text(s: &mut [u8], at: usize, text: &[u8])
+    requires { ⌜ at + length (now text) ≤ length (now s) ⌝ }
+    ensures { λ _. ⌜ now (s .exit) ≡ paste (now (s .entry)) at (now (text .entry)) (length (now (text .entry))) ⌝ }
+{
+    let mut i: usize = 0;
+    while i < text.len() {
+        s[at + i] = text[i];
+        i += 1;
+    }
+}
+
+// The record writer: a record goes to the front of a slice.
+fn put_record(s: &mut [u8], number: LineNumber, text: &[u8])
+    requires { ⌜ (length (now text) + 4 ≤ 255) × (length (now text) + 4 ≤ length (now s)) ⌝ }
+    ensures { λ _. ⌜ now (s .exit) ≡ recordBytes (record { line = number .0; text = now (text .entry) }) ++ drop (length (now (text .entry)) + 4) (now (s .entry)) ⌝ }
+{
+    let n = text.len();
+    let x = number.0;
+    s[0] = (x / 256) as u8;
+    s[1] = (x % 256) as u8;
+    s[2] = (n + 4) as u8;
+    put_text(s, 3, text);
+    s[3 + n] = 13;
+}
+
+// On the page from a seat on: `gone` bytes go, of the `top` that are in use, and a record comes.
+fn put_in(s: &mut [u8], gone: usize, top: usize, number: LineNumber, text: &[u8])
+    requires { ⌜ (gone ≤ top) × ((top ≤ length (now s)) × ((length (now text) + 4 ≤ 255) × (length (now text) + 4 + (top - gone) ≤ length (now s)))) ⌝ }
+    ensures { λ _. ⌜ now (s .exit) ≡ spliced (now (s .entry)) 0 gone top (recordBytes (record { line = number .0; text = now (text .entry) })) ⌝ }
+{
+    let size = text.len() + 4;
+    let rest = top - gone;
+    shift(s, gone, size, rest);
+    put_record(s, number, text);
+}
+
+// A record is inserted, or replaces the one of its number, whose room counts as free.
+pub fn store_line(page: &mut [u8], number: LineNumber, text: &[u8]) -> Edited
+    ensures { λ r. ⌜ changed (now (page .exit)) r ≡ storeOf (now (page .entry)) (number .0) (now (text .entry)) ⌝ }
+{
+    let seat = find_seat(page, number);
+    let at = seat.at;
+    let gone = seat.gone;
+    let top = used_from(page, at);
+    let room = page.len();
+    if room < top {
+        return Edited::NoRoom;
+    }
+    let size = text.len() + 4;
+    if 255 < size {
+        return Edited::NoRoom;
+    }
+    if room < top - gone + size {
+        return Edited::NoRoom;
+    }
+    put_in(&mut page[at..], gone, top - at, number, text);
+    Edited::Done
+}
+
+// The record of a line goes.
+pub fn delete_line(page: &mut [u8], number: LineNumber) -> Edited
+    ensures { λ r. ⌜ changed (now (page .exit)) r ≡ deleteOf (now (page .entry)) (number .0) ⌝ }
+{
+    let seat = find_seat(page, number);
+    let at = seat.at;
+    let gone = seat.gone;
+    if gone < 1 {
+        return Edited::Absent;
+    }
+    let top = used_from(page, at);
+    let room = page.len();
+    if room < top {
+        return Edited::NoRoom;
+    }
+    let left = top - at;
+    shift(&mut page[at..], gone, 0, left - gone);
+    Edited::Done
+}
+
+// NEW: the end mark comes first.
+pub fn new_page(page: &mut [u8]) -> Edited
+    ensures { λ r. ⌜ changed (now (page .exit)) r ≡ newOf (now (page .entry)) ⌝ }
+{
+    if page.len() < 2 {
+        return Edited::NoRoom;
+    }
+    page[0] = 255;
+    page[1] = 255;
+    Edited::Done
 }
