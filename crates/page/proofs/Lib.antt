@@ -4,3 +4,4 @@ pub mod Changes
 pub mod Texts
 pub mod Moves
 pub mod Edits
+pub mod Good
