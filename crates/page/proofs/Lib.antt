@@ -5,3 +5,4 @@ pub mod Texts
 pub mod Moves
 pub mod Edits
 pub mod Good
+pub mod Listings

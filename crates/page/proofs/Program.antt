@@ -14,8 +14,8 @@ use Rattle.nibl.specs.Bytes.{if_then_else_, isDigit, starts}
 use Rattle.nibl.specs.Read.{reading, membersN, member, statement, statementN, aStatement}
 use Rattle.nibl.specs.Values.{digits}
 use Rattle.nibl.specs.Page.{Stored, recordBytes, programBytes, isEnd, lineAt, lengthAt, textAt, hasReading, isStorable, isRecord, goodN, isGood, recordsN, recordsOf, size, usedBy, used}
-use Rattle.page.specs.Walk.{stopsAt, sizeAt}
-use Rattle.page.proofs.Walk.{by-cases, or-false, recordAt, records-some, records-none, stop, step, size-whole, size-is}
+use Rattle.page.specs.Walk.{stopsAt, recordAt, sizeAt}
+use Rattle.page.proofs.Walk.{by-cases, or-false, records-some, records-none, stop, step, size-whole, size-is}
 
 -- every one is a byte, as in a slice
 abbrev pub Bytes : List ℕ → Type 0

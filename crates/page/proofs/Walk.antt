@@ -13,7 +13,7 @@ use lib.Dec.{ltb, leb, eqb}
 use borrow.Author.Tests.{ltb-true, ltb-false, leb-true, leb-false}
 use Rattle.nibl.specs.Bytes.{if_then_else_}
 use Rattle.nibl.specs.Page.{Stored, isEnd, lineAt, lengthAt, textAt, recordsN, recordsOf, size, usedBy, used}
-use Rattle.page.specs.Walk.{stopsAt, sizeAt}
+use Rattle.page.specs.Walk.{stopsAt, recordAt, sizeAt}
 
 -- a test that is neither holds in neither way
 pub by-cases : {P : Type 0} (t : Bool) → (t ≡ true → P) → (t ≡ false → P) → P
@@ -38,10 +38,6 @@ module _ (p : List ℕ) (at : ℕ) where
 
   pub end-past : length p ≤ at → isEnd (drop at p) ≡ false
   end-past h = rw (drop-of-length-le p {i = at} h)
-
--- the record that stands here
-abbrev pub recordAt : List ℕ → Stored
-recordAt q = record { line = lineAt q; text = textAt q }
 
 -- where the number, the length byte and more are missing no record begins
 pub stops-short : (q : List ℕ) → length q ≤ 2 → stopsAt q ≡ true

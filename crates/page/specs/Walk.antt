@@ -6,7 +6,7 @@ use mathlib.Core.Option.{Option, none, some}
 use lib.ListN.{length, drop}
 use lib.Dec.{ltb}
 use Rattle.nibl.specs.Bytes.{if_then_else_}
-use Rattle.nibl.specs.Page.{isEnd, lengthAt, textAt, find}
+use Rattle.nibl.specs.Page.{Stored, isEnd, lineAt, lengthAt, textAt}
 use Rattle.nibl.specs.Calls.{lineFrom}
 use Rattle.page.specs.declared.FoundLine.{FoundLine}
 use Rattle.page.specs.declared.FoundLine.the-variants as line
@@ -18,6 +18,10 @@ use Rattle.page.specs.declared.Where.the-variants as where′
 -- no record begins here
 abbrev pub stopsAt : List ℕ → Bool
 stopsAt q = isEnd q || ltb (lengthAt q) 5
+
+-- the record that stands here
+abbrev pub recordAt : List ℕ → Stored
+recordAt q = record { line = lineAt q; text = textAt q }
 
 -- how many bytes the record here has, and 0 where none begins
 unfoldable pub sizeAt : List ℕ → ℕ

@@ -1,6 +1,6 @@
 // The page: the walk along its records by their length bytes, the line finder, the running text, and the edits.
 // Any bytes whatever are looked at safely; what is said of a good page is said in proofs/.
-ghost use Prim.Native.Nat.{_+_, _-_, _≤_};
+ghost use Prim.Native.Nat.{_+_, _-_, _≤_, _<_};
 ghost use mathlib.Core.Bool.{_&&_};
 ghost use mathlib.Core.List.{_++_};
 ghost use mathlib.Core.Option.{some};
@@ -9,11 +9,17 @@ ghost use mathlib.Core.Path.{_≡_};
 ghost use lib.ListN.{length, getD, take, drop};
 ghost use lib.Seq.{paste};
 ghost use Rattle.nibl.specs.Page.{recordBytes, isEnd, find, lineAt, lineOf, used, usedBy, recordsOf};
-ghost use Rattle.nibl.specs.Calls.{lineFrom, textFrom};
+ghost use Rattle.nibl.specs.Calls.{lineFrom, textFrom, listed};
+ghost use Rattle.nibl.specs.Values.{digits};
+ghost use Rattle.value.specs.Writes.{Writes};
 ghost use Rattle.page.specs.Edits.{Seated, moved, spliced, changed, storeOf, deleteOf, newOf};
-ghost use Rattle.page.specs.Walk.{sizeAt, positionOf, reached, beginOf, textOf};
+ghost use Rattle.page.specs.Listing.{shown, listing, Here};
+ghost use Rattle.page.specs.Walk.{sizeAt, recordAt, positionOf, reached, beginOf, textOf};
 use nibl::LineNumber;
 use nibl::Place;
+use value::Wrote;
+use value::write_digits;
+use value::write_item;
 
 // Where a line's record stands: at the program's start, or after the place that ends the record before it.
 pub enum FoundLine {
@@ -45,6 +51,12 @@ pub enum Edited {
     Done,
     NoRoom,
     Absent,
+}
+
+// How a listing ended: all lines are out, or the next one does not fit; and the position after those that are out.
+pub enum Listed {
+    All(usize),
+    Full(usize),
 }
 
 // A byte, and 0 past the end.
@@ -384,4 +396,77 @@ pub fn new_page(page: &mut [u8]) -> Edited
     page[0] = 255;
     page[1] = 255;
     Edited::Done
+}
+
+// How many digits a number has.
+fn digit_count(n: u16) -> usize
+    ensures { λ r. ⌜ r ≡ length (digits n) ⌝ }
+{
+    if n < 10 {
+        return 1;
+    }
+    if n < 100 {
+        return 2;
+    }
+    if n < 1000 {
+        return 3;
+    }
+    if n < 10000 {
+        return 4;
+    }
+    5
+}
+
+// The record of `size` bytes at `at` as LIST writes it: digits, text, CR, LF.
+fn list_line(page: &[u8], at: usize, size: usize, output: &mut [u8], pos: usize) -> Wrote
+    requires { ⌜ (0 < size) × (size ≡ sizeAt (drop at (now page))) ⌝ }
+    ensures { λ r. ⌜ Writes (now (output .entry)) pos (listed (recordAt (drop at (now (page .entry))))) r (now (output .exit)) ⌝ }
+{
+    let line = line_at(page, at);
+    let count = digit_count(line);
+    let n = count + size - 2;
+    let room = output.len();
+    if room < pos {
+        return Wrote::Full;
+    }
+    if room - pos < n {
+        return Wrote::Full;
+    }
+    write_digits(output, pos, line);
+    let a = pos + count;
+    write_item(output, a, &page[at + 3..at + size - 1]);
+    let e = a + size - 4;
+    output[e] = 13;
+    output[e + 1] = 10;
+    Wrote::To(e + 2)
+}
+
+// A record below the number is passed over.
+fn list_here(page: &[u8], at: usize, size: usize, n: u16, output: &mut [u8], pos: usize) -> Wrote
+    requires { ⌜ (0 < size) × (size ≡ sizeAt (drop at (now page))) ⌝ }
+    ensures { λ r. ⌜ Here n (recordAt (drop at (now (page .entry)))) (now (output .entry)) pos r (now (output .exit)) ⌝ }
+{
+    if line_at(page, at) < n {
+        return Wrote::To(pos);
+    }
+    list_line(page, at, size, output, pos)
+}
+
+// LIST: each line from a number on, whole or not at all.
+pub fn list_from(page: &[u8], number: LineNumber, output: &mut [u8], from: usize) -> Listed
+    ensures { λ r. ⌜ shown (now (output .exit)) r ≡ listing (number .0) (recordsOf (now (page .entry))) (now (output .entry)) from ⌝ }
+{
+    let n = number.0;
+    let mut pos = from;
+    let mut at: usize = 0;
+    let mut size = size_at(page, at);
+    while 0 < size {
+        let Wrote::To(next) = list_here(page, at, size, n, output, pos) else {
+            return Listed::Full(pos);
+        };
+        pos = next;
+        at += size;
+        size = size_at(page, at);
+    }
+    Listed::All(pos)
 }
