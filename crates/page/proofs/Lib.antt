@@ -6,3 +6,4 @@ pub mod Moves
 pub mod Edits
 pub mod Good
 pub mod Listings
+pub mod Kept
