@@ -77,7 +77,7 @@ module _ (page : List ℕ) (bytes : Bytes page) where
       by-cases (canStore page s (length t + 4))
       (λ e.
         let k = leb-true (length t + 4) 255 (both (leb (length t + 4) 255) _ (both (leb (used page) (length page)) _ e .1) .0) in
-        rw (e, if_then_else_) (bytes-spliced page (s .at) (s .gone) (used page) _ bytes (bytes-record n t h (omega arith) b)))
+        rw (e, if_then_else_) (bytes-spliced page (s .at) (s .gone) (used page) (recordBytes (record { line = n; text = t })) bytes (bytes-record n t h (omega arith) b)))
       (λ e. rw (e, if_then_else_) bytes)
 
   pub delete-bytes : (n : ℕ) → Bytes (deleteOf page n .page)

@@ -54,8 +54,8 @@ canStore page s n = leb (used page) (length page) && (leb n 255 && leb (used pag
 unfoldable pub storeOf : List ℕ → ℕ → List ℕ → Changed
 storeOf page n t =
     let s = seatOf page n in
-    if canStore page s (length t + 4) then changed (spliced page (s .at) (s .gone) (used page) (recordBytes (record { line = n; text = t }))) edited.Done
-    else changed page edited.NoRoom
+    let p = spliced page (s .at) (s .gone) (used page) (recordBytes (record { line = n; text = t })) in
+    if canStore page s (length t + 4) then changed p edited.Done else changed page edited.NoRoom
 
 unfoldable pub deleteOf : List ℕ → ℕ → Changed
 deleteOf page n =
