@@ -1,17 +1,17 @@
 -- A record put in or taken out leaves the records of a good page; and the page with other records is good.
 -- Assumes nothing.
-use Prim.Native.Nat.{ℕ, zero, suc, _+_, _-_, _≤_, _<_}
-use mathlib.Core.Path.{_≡_, refl, sym, ap, _∙_}
-use mathlib.Core.Bool.{Bool, true, false, not, _&&_, _||_, false≢true}
-use mathlib.Core.List.{List, [], _∷_, _++_}
+use Prim.Native.Nat.{ℕ, suc, _+_, _-_, _≤_}
+use mathlib.Core.Path.{_≡_, refl, sym, _∙_}
+use mathlib.Core.Bool.{Bool, true, false, not, false≢true}
+use mathlib.Core.List.{List, [], _∷_}
 use native.Mathlib.Omega.{arith}
-use lib.ListN.{length, drop, length-append}
-use lib.Dec.{ltb, leb, eqb}
+use lib.ListN.{length, drop}
+use lib.Dec.{ltb, eqb}
 use borrow.Author.Tests.{ltb-true, ltb-false, leb-true, eqb-true, eqb-false}
-use Rattle.nibl.specs.Bytes.{if_then_else_, isDigit, starts}
+use Rattle.nibl.specs.Bytes.{if_then_else_, isDigit}
 use Rattle.nibl.specs.Read.{stepIn, wordStep, _>>=_, aStatement, statementN, statement, member, membersN, reading}
 use Rattle.nibl.specs.Values.{digits}
-use Rattle.nibl.specs.Page.{Stored, programBytes, hasReading, isStorable, isGood, recordsOf, usedBy, without, with, onto}
+use Rattle.nibl.specs.Page.{Stored, programBytes, hasReading, isStorable, isGood, recordsOf, without, with, onto}
 use Rattle.page.proofs.Walk.{by-cases}
 use Rattle.page.proofs.Program.{both, Storable, Program, none, each, program-good, records-back, ranged}
 

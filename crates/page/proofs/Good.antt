@@ -1,8 +1,8 @@
 -- On a good page the edits are the definition's: the bytes spliced are the page with the records that the definition names.
 -- Assumes nothing.
-use Prim.Native.Nat.{ℕ, zero, suc, _+_, _-_, _≤_, _<_}
+use Prim.Native.Nat.{ℕ, _+_, _-_, _≤_, _<_}
 use mathlib.Core.Path.{_≡_, refl, sym, ap, _∙_}
-use mathlib.Core.Bool.{Bool, true, false, not, _&&_, _||_, false≢true}
+use mathlib.Core.Bool.{true, false, not, false≢true}
 use mathlib.Core.List.{List, [], _∷_, _++_, append-assoc}
 use native.Mathlib.Omega.{arith}
 use lib.ListN.{length, take, drop, length-append}
@@ -11,11 +11,11 @@ use lib.Dec.{ltb, leb, eqb}
 use borrow.Author.Tests.{ltb-true, ltb-false, eqb-true, eqb-false, lt-ltb, le-ltb, le-leb, eq-eqb, ne-eqb}
 use Rattle.nibl.specs.Bytes.{if_then_else_}
 use Rattle.nibl.specs.Page.{Stored, recordBytes, programBytes, isGood, recordsOf, size, used, usedBy, hasLine, with, without, onto}
-use Rattle.nibl.specs.Calls.{Outcome, stops, clearStacks}
+use Rattle.nibl.specs.Calls.{stops}
 use Rattle.nibl.specs.Calls as calls
-use Rattle.nibl.specs.Meaning.{World, withSession}
+use Rattle.nibl.specs.Meaning.{World}
 use Rattle.page.specs.declared.Edited.the-variants as edited
-use Rattle.page.specs.Edits.{seatIn, seatOf, spliced, changed, canStore, storeOf, deleteOf, newOf, outcomeOf}
+use Rattle.page.specs.Edits.{seatIn, seatOf, spliced, changed, storeOf, deleteOf, newOf, outcomeOf}
 use Rattle.page.proofs.Walk.{by-cases}
 use Rattle.page.proofs.Program.{Bytes, Program, none, each, program-length, record-length, good-program, good-bytes, good-fits}
 use Rattle.page.proofs.Edits.{seat-fits}

@@ -1,22 +1,21 @@
 -- What edits keep: a good page stays good, and bytes stay bytes. What the finder finds. Assumes nothing.
 use Prim.Native.Nat.{ℕ, zero, suc, _+_, _-_, _/_, _%_, _≤_, _<_}
 use mathlib.Core.Path.{_≡_, refl, sym, ap, _∙_}
-use mathlib.Core.Bool.{Bool, true, false}
+use mathlib.Core.Bool.{true, false}
 use mathlib.Core.List.{List, [], _∷_, _++_}
 use mathlib.Core.Option.{Option, none, some}
 use native.Mathlib.Omega.{arith}
-use lib.ListN.{length, getD, take, drop, length-drop, List·getD-append}
-use lib.Seq.{getD-append-add, getD-drop}
+use lib.ListN.{length, take, drop}
+use lib.Seq.{getD-drop}
 use lib.Dec.{ltb, leb, eqb}
-use borrow.Author.Tests.{ltb-true, ltb-false, leb-true, eqb-true, lt-ltb}
+use borrow.Author.Tests.{leb-true, eqb-true, lt-ltb}
 use Rattle.nibl.specs.Bytes.{if_then_else_}
-use Rattle.nibl.specs.Page.{Stored, recordBytes, programBytes, isGood, recordsOf, lineAt, used, hasLine, with, without, onto, positionIn, find}
-use Rattle.page.specs.Walk.{stopsAt, recordAt, sizeAt, reached}
+use Rattle.nibl.specs.Page.{Stored, recordBytes, programBytes, isGood, recordsOf, lineAt, used, hasLine, with, positionIn, find}
+use Rattle.page.specs.Walk.{stopsAt, sizeAt, reached}
 use Rattle.page.specs.declared.Seat.{Seat}
-use Rattle.page.specs.declared.Edited.the-variants as edited
-use Rattle.page.specs.Edits.{seatOf, spliced, changed, canStore, storeOf, deleteOf, newOf}
-use Rattle.page.proofs.Walk.{by-cases, stop, size-some, size-is, some-size, Met, met}
-use Rattle.page.proofs.Program.{both, Bytes, Storable, Program, none as empty, good-program}
+use Rattle.page.specs.Edits.{seatOf, spliced, canStore, storeOf, deleteOf}
+use Rattle.page.proofs.Walk.{by-cases, stop, size-some, met}
+use Rattle.page.proofs.Program.{both, Bytes, Storable, good-program}
 use Rattle.page.proofs.Changes.{with-program, without-program, onto-good}
 use Rattle.page.proofs.Good.{store-is, delete-is}
 

@@ -2,25 +2,23 @@
 -- Assumes nothing.
 use Prim.Native.Nat.{ℕ, zero, suc, _+_, _-_, _/_, _%_, _≤_, _<_}
 use mathlib.Core.Path.{_≡_, refl, sym, ap, _∙_}
-use mathlib.Core.Bool.{Bool, true, false}
 use mathlib.Core.List.{List, [], _∷_, _++_}
 use native.Mathlib.Numerals.{add-one}
 use native.Mathlib.Omega.{arith}
-use lib.ListN.{length, take, drop, set, length-append, length-drop}
+use lib.ListN.{length, take, drop, set, length-append}
 use lib.Seq.{sets, length-sets, drop-drop}
 use lib.Dec.{leb}
 use borrow.Author.Tests.{le-leb, lt-ltb, le-ltb}
-use Rattle.nibl.specs.Page.{Stored, textAt, lengthAt, recordsOf}
-use Rattle.nibl.specs.Values.{Value, is, no, digitsN, digits}
-use Rattle.nibl.specs.Meaning.{World, withOutput, on, stop, Done, done, put, went}
+use Rattle.nibl.specs.Page.{Stored, textAt, lengthAt}
+use Rattle.nibl.specs.Values.{is, no, digitsN, digits}
+use Rattle.nibl.specs.Meaning.{World, withOutput, put}
 use Rattle.nibl.specs.Calls.{listed, listFrom}
-use Rattle.value.specs.Writes.{Writes, fits, wroteOf}
+use Rattle.value.specs.Writes.{Writes, fits}
 use Rattle.value.specs.declared.Wrote.{Wrote}
 use Rattle.value.specs.declared.Wrote.the-variants.{To, Full}
-use Rattle.value.proofs.Writing.{sets-append, writes-whole, writes-none}
+use Rattle.value.proofs.Writing.{sets-append, writes-whole}
 use Rattle.page.specs.declared.Listed.the-variants as lines
-use Rattle.page.specs.Walk.{recordAt}
-use Rattle.page.specs.Listing.{Shown, shown, listing, Here, shownIn}
+use Rattle.page.specs.Listing.{shown, listing, Here, shownIn}
 use Rattle.page.proofs.Walk.{by-cases, Met}
 
 -- how many digits there are

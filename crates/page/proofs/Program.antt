@@ -1,21 +1,18 @@
 -- A good page is a program's bytes and what lies after them; and such bytes are a good page.
 -- Assumes nothing.
 use Prim.Native.Nat.{ℕ, zero, suc, _+_, _-_, _*_, _/_, _%_, _≤_, _<_}
-use mathlib.Core.Path.{_≡_, refl, sym, ap, subst, _∙_}
-use mathlib.Core.Bool.{Bool, true, false, not, _&&_, _||_, true≢false, false≢true}
+use mathlib.Core.Path.{_≡_, refl, sym, ap, _∙_}
+use mathlib.Core.Bool.{Bool, true, false, _&&_, false≢true}
 use mathlib.Core.List.{List, [], _∷_, _++_, append-assoc}
 use native.Mathlib.Nat.{div-add-mod'}
 use native.Mathlib.Omega.{arith}
 use lib.ListN.{length, getD, take, drop, length-append, length-drop, take-append-drop}
-use lib.Seq.{drop-append-seam, drop-at, take-at, getD-append-add, getD-append-seam, drop-cons, drop-drop, length-take-le, getD-drop, take-suc, take-add, getD-at}
-use lib.Dec.{ltb, leb, eqb}
-use borrow.Author.Tests.{ltb-true, ltb-false, le-leb, leb-true, leb-false, eqb-true, eq-eqb, ne-eqb, le-ltb}
-use Rattle.nibl.specs.Bytes.{if_then_else_, isDigit, starts}
-use Rattle.nibl.specs.Read.{reading, membersN, member, statement, statementN, aStatement}
-use Rattle.nibl.specs.Values.{digits}
-use Rattle.nibl.specs.Page.{Stored, recordBytes, programBytes, isEnd, lineAt, lengthAt, textAt, hasReading, isStorable, isRecord, goodN, isGood, recordsN, recordsOf, size, usedBy, used}
-use Rattle.page.specs.Walk.{stopsAt, recordAt, sizeAt}
-use Rattle.page.proofs.Walk.{by-cases, or-false, records-some, records-none, stop, step, size-whole, size-is}
+use lib.Seq.{drop-at, take-at, drop-cons, drop-drop, length-take-le, getD-drop, getD-at}
+use lib.Dec.{leb, eqb}
+use borrow.Author.Tests.{le-leb, leb-true, eqb-true, ne-eqb, le-ltb}
+use Rattle.nibl.specs.Page.{Stored, recordBytes, programBytes, isEnd, lineAt, lengthAt, textAt, isStorable, isRecord, goodN, isGood, recordsN, recordsOf, size, usedBy, used}
+use Rattle.page.specs.Walk.{stopsAt, recordAt}
+use Rattle.page.proofs.Walk.{by-cases, records-some, records-none, stop, step, size-is}
 
 -- every one is a byte, as in a slice
 abbrev pub Bytes : List ℕ → Type 0

@@ -2,17 +2,15 @@
 -- Assumes nothing.
 use Prim.Native.Nat.{ℕ, zero, suc, _+_, _-_, _≤_, _<_}
 use mathlib.Core.Path.{_≡_, refl, sym, ap, _∙_}
-use mathlib.Core.Logic.{⊎-elim}
-use mathlib.Core.Bool.{Bool, true, false, not, _&&_, _||_, true≢false}
-use mathlib.Core.List.{List, [], _∷_, _++_}
+use mathlib.Core.Bool.{Bool, true, false, _&&_, _||_, true≢false}
+use mathlib.Core.List.{List, [], _∷_}
 use native.Mathlib.Nat.{add-zero}
 use native.Mathlib.Omega.{arith}
-use lib.ListN.{length, getD, take, drop, length-drop, List·getD-eq-default, drop-of-length-le}
+use lib.ListN.{length, getD, drop, length-drop, List·getD-eq-default, drop-of-length-le}
 use lib.Seq.{length-take-le, take-all, drop-drop, getD-drop}
 use lib.Dec.{ltb, leb, eqb}
 use borrow.Author.Tests.{ltb-true, ltb-false, leb-true, leb-false}
-use Rattle.nibl.specs.Bytes.{if_then_else_}
-use Rattle.nibl.specs.Page.{Stored, isEnd, lineAt, lengthAt, textAt, recordsN, recordsOf, size, usedBy, used}
+use Rattle.nibl.specs.Page.{Stored, isEnd, lengthAt, recordsN, recordsOf, size}
 use Rattle.page.specs.Walk.{stopsAt, recordAt, sizeAt}
 
 -- a test that is neither holds in neither way

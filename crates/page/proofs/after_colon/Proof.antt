@@ -1,13 +1,11 @@
-use borrow.Author.Tests.{le-leb, lt-leb}
-use lib.Dec.{eqb}
+-- `after_colon` meets its contract: the byte before, if there is one. Assumes nothing.
 use Prim.Native.Nat.{ℕ}
 use mathlib.Core.Path.{sym, ap, _∙_}
+use lib.Dec.{eqb}
+use borrow.Author.Tests.{le-leb, lt-leb}
 use borrow.Author.Needs.{needs}
 use Rattle.page.proofs.after_colon.Statement.{statement}
 use Rattle.page.proofs.after_colon.Tie as tie
-use Rattle.page.proofs.after_colon.Reads as reads
-use Rattle.page.proofs.after_colon.Lts as lts
-use Rattle.page.proofs.byte_at.Reads as byte-at-reads
 
 returns : tie.Need-returns
 returns c = sym (rw (lt-leb 1 (c .before .before .args .at) (c .if1 .taken)))

@@ -1,10 +1,9 @@
-use lib.ListN.{List·getD-eq-default}
+-- `byte_at` meets its contract: past the end `getD` gives 0. Assumes nothing.
 use mathlib.Core.Path.{sym}
+use lib.ListN.{List·getD-eq-default}
 use borrow.Author.Needs.{needs}
 use Rattle.page.proofs.byte_at.Statement.{statement}
 use Rattle.page.proofs.byte_at.Tie as tie
-use Rattle.page.proofs.byte_at.Reads as reads
-use Rattle.page.proofs.byte_at.Lts as lts
 
 shared-slice-read-result : tie.Need-shared-slice-read-result
 shared-slice-read-result c = search needs

@@ -1,21 +1,21 @@
-use Rattle.page.proofs.Edits.{seat-room, store-endless, store-long, store-full, store-done, delete-absent, delete-endless, delete-done}
-use Rattle.page.proofs.Moves.{part-spliced, front-spliced}
-use Rattle.page.specs.Edits.{Seated, spliced, changed}
-use Rattle.page.specs.declared.Edited.the-variants as edited
-use Rattle.nibl.specs.Page.{Stored, recordBytes, used}
-use lib.ListN.{length, take, drop}
-use native.Mathlib.Omega.{arith}
-use Prim.Native.Nat.{ℕ, _+_, _-_}
+-- `delete_line` meets its contract: the part after the record moves to its seat. Assumes nothing.
+use Prim.Native.Nat.{_≤_, ℕ, _-_, _+_}
 use mathlib.Core.List.{List, []}
-use mathlib.Core.Path.{_≡_, sym, ap, _∙_}
+use mathlib.Core.Path.{_≡_, ap, _∙_}
+use native.Mathlib.Omega.{arith}
+use lib.ListN.{length, take, drop}
 use borrow.Author.Needs.{needs}
+use Rattle.nibl.specs.Page.{used}
+use Rattle.page.specs.Edits.{spliced, changed}
+use Rattle.page.specs.declared.Edited.the-variants as edited
+use Rattle.page.proofs.Edits.{seat-room, delete-absent, delete-endless, delete-done}
+use Rattle.page.proofs.Moves.{part-spliced, front-spliced}
 use Rattle.page.proofs.delete_line.Statement.{statement}
 use Rattle.page.proofs.delete_line.Tie as tie
-use Rattle.page.proofs.delete_line.Reads as reads
-use Rattle.page.proofs.delete_line.Lts as lts
-use Rattle.page.proofs.find_seat.Reads as find-seat-reads
-use Rattle.page.proofs.shift.Reads as shift-reads
-use Rattle.page.proofs.used_from.Reads as used-from-reads
+
+-- the used bytes of the whole page, which the walk from the seat on gives
+known : (c : tie.After-used-from) → (c .used-from .result ≡ used (c .before .before .before .before .before .before .args .page .now)) × (c .before .before .before .find-seat .result .at + c .before .before .before .find-seat .result .gone + 2 ≤ used (c .before .before .before .before .before .before .args .page .now))
+known c = let h = c .before .before .before .find-seat .ensures in (c .used-from .ensures ∙ h .rest, seat-room h)
 
 find-seat-requires : tie.Need-find-seat-requires
 find-seat-requires c κs = search needs
@@ -35,10 +35,8 @@ same-length-2 c = search needs
 returns-2 : tie.Need-returns-2
 returns-2 c =
     let a = c .before .before .before .before .before .before .before .args in
-    let p = a .page .now in
     let h = c .before .before .before .before .find-seat .ensures in
-    let top : c .before .used-from .result ≡ used p = c .before .used-from .ensures ∙ h .rest in
-    let fits = seat-room h in
+    let k = known (c .before) in
     delete-endless h (c .before .before .before .if1 .left) (omega arith)
 
 sub-left : tie.Need-sub-left
@@ -54,22 +52,10 @@ part-shift-end : tie.Need-part-shift-end
 part-shift-end c = search needs
 
 sub-shift-2 : tie.Need-sub-shift-2
-sub-shift-2 c =
-    let a = c .before .before .before .before .before .before .before .before .args in
-    let p = a .page .now in
-    let h = c .before .before .before .before .before .find-seat .ensures in
-    let top : c .before .before .used-from .result ≡ used p = c .before .before .used-from .ensures ∙ h .rest in
-    let fits = seat-room h in
-    omega arith
+sub-shift-2 c = let k = known (c .before .before) in omega arith
 
 shift-requires : tie.Need-shift-requires
-shift-requires c κs =
-    let a = c .before .before .before .before .before .before .before .before .args in
-    let p = a .page .now in
-    let h = c .before .before .before .before .before .find-seat .ensures in
-    let top : c .before .before .used-from .result ≡ used p = c .before .before .used-from .ensures ∙ h .rest in
-    let fits = seat-room h in
-    omega arith
+shift-requires c κs = let k = known (c .before .before) in omega arith
 
 same-length-3 : tie.Need-same-length-3
 same-length-3 c = search needs
@@ -77,16 +63,14 @@ same-length-3 c = search needs
 returns-3 : tie.Need-returns-3
 returns-3 c =
     let a = c .before .before .before .before .before .before .before .before .before .before .before .args in
-    let p = a .page .now in
     let h = c .before .before .before .before .before .before .before .before .find-seat .ensures in
-    let top : c .before .before .before .before .before .used-from .result ≡ used p = c .before .before .before .before .before .used-from .ensures ∙ h .rest in
-    let fits = seat-room h in
+    let k = known (c .before .before .before .before .before) in
     let s = c .before .before .before .before .before .before .before .before .find-seat .result in
     let x = c .before .before .before .before .before .used-from .result in
-    let q = take (length p - s .at) (drop (s .at) p) in
+    let q = take (length (a .page .now) - s .at) (drop (s .at) (a .page .now)) in
     ap (λ (l : List ℕ). changed l edited.Done)
-        (part-spliced p [] (c .before .before .shift .last .0) (s .at) (s .gone) x (omega arith) (c .before .before .shift .ensures ∙ front-spliced q [] (s .gone) (x - s .at))
-        ∙ ap (λ (k : ℕ). spliced p (s .at) (s .gone) k []) top)
+        (part-spliced (a .page .now) [] (c .before .before .shift .last .0) (s .at) (s .gone) x (omega arith) (c .before .before .shift .ensures ∙ front-spliced q [] (s .gone) (x - s .at))
+        ∙ ap (λ (n : ℕ). spliced (a .page .now) (s .at) (s .gone) n []) (k .0))
     ∙ delete-done h (c .before .before .before .before .before .before .before .if1 .left) (omega arith)
 
 pub delete-line-spec : {M : Type 1} → statement M

@@ -1,9 +1,8 @@
-use Rattle.page.proofs.Listings.{digits-1, digits-2, digits-3, digits-4, digits-5}
+-- `digit_count` meets its contract: by the number's size. Assumes nothing.
 use native.Mathlib.Omega.{arith}
+use Rattle.page.proofs.Listings.{digits-1, digits-2, digits-3, digits-4, digits-5}
 use Rattle.page.proofs.digit_count.Statement.{statement}
 use Rattle.page.proofs.digit_count.Tie as tie
-use Rattle.page.proofs.digit_count.Reads as reads
-use Rattle.page.proofs.digit_count.Lts as lts
 
 returns : tie.Need-returns
 returns c = digits-1 (c .before .args .n) (c .if1 .taken)

@@ -1,13 +1,12 @@
-use borrow.Author.Tests.{lt-ltb, le-ltb}
-use native.Mathlib.Omega.{arith}
+-- `found_at` meets its contract: a position is named by the place before it. Assumes nothing.
 use Prim.Native.Nat.{suc, _-_}
 use mathlib.Core.Option.{some}
 use mathlib.Core.Path.{_≡_, sym, ap, _∙_}
+use native.Mathlib.Omega.{arith}
+use borrow.Author.Tests.{lt-ltb, le-ltb}
 use borrow.Author.Needs.{needs}
 use Rattle.page.proofs.found_at.Statement.{statement}
 use Rattle.page.proofs.found_at.Tie as tie
-use Rattle.page.proofs.found_at.Reads as reads
-use Rattle.page.proofs.found_at.Lts as lts
 
 returns : tie.Need-returns
 returns c = rw (c .if1 .taken)

@@ -1,15 +1,13 @@
-use Rattle.page.proofs.Walk.{end-at, end-past}
-use borrow.Author.Tests.{eq-eqb, ne-eqb}
-use lib.Dec.{eqb}
-use lib.ListN.{getD}
+-- `is_end` meets its contract: the two bytes of the end mark, where the page has them. Assumes nothing.
 use Prim.Native.Nat.{ℕ}
 use mathlib.Core.Path.{sym, ap, _∙_}
+use lib.Dec.{eqb}
+use lib.ListN.{getD}
+use borrow.Author.Tests.{eq-eqb, ne-eqb}
 use borrow.Author.Needs.{needs}
+use Rattle.page.proofs.Walk.{end-at, end-past}
 use Rattle.page.proofs.is_end.Statement.{statement}
 use Rattle.page.proofs.is_end.Tie as tie
-use Rattle.page.proofs.is_end.Reads as reads
-use Rattle.page.proofs.is_end.Lts as lts
-use Rattle.page.proofs.byte_at.Reads as byte-at-reads
 
 returns : tie.Need-returns
 returns c = let a = c .before .before .args in sym (end-past (a .page .now) (a .at) (c .if1 .taken))

@@ -1,15 +1,13 @@
-use Rattle.page.proofs.Walk.{first-at}
-use Rattle.nibl.specs.Page.{lineAt}
-use lib.Seq.{getD-drop}
-use lib.ListN.{drop-of-length-le}
+-- `line_at` meets its contract: the number's two bytes, high first. Assumes nothing.
 use Prim.Native.Nat.{_+_, _*_}
 use mathlib.Core.Path.{sym, ap, _∙_}
+use lib.Seq.{getD-drop}
+use lib.ListN.{drop-of-length-le}
 use borrow.Author.Needs.{needs}
+use Rattle.nibl.specs.Page.{lineAt}
+use Rattle.page.proofs.Walk.{first-at}
 use Rattle.page.proofs.line_at.Statement.{statement}
 use Rattle.page.proofs.line_at.Tie as tie
-use Rattle.page.proofs.line_at.Reads as reads
-use Rattle.page.proofs.line_at.Lts as lts
-use Rattle.page.proofs.byte_at.Reads as byte-at-reads
 
 returns : tie.Need-returns
 returns c =

@@ -1,24 +1,25 @@
-use Rattle.page.proofs.Walk.{Met, met, past}
-use Rattle.nibl.specs.Page.{recordsOf, lineIn, lineOf}
+-- `line_of` meets its contract: the place lies past each record walked over. Assumes nothing.
+use Prim.Native.Nat.{ℕ, _+_, _-_, _≤_}
+use mathlib.Core.Path.{_≡_, sym, ap, _∙_}
+use native.Mathlib.Omega.{arith}
+use lib.ListN.{length, drop}
 use borrow.Author.Tests.{lt-ltb, le-ltb}
 use borrow.Author.Needs.{needs}
+use Rattle.nibl.specs.Page.{recordsOf, lineIn, lineOf}
 use Rattle.page.specs.Walk.{sizeAt}
-use lib.ListN.{length, drop}
-use native.Mathlib.Omega.{arith}
-use Prim.Native.Nat.{ℕ, _+_, _-_, _≤_}
-use mathlib.Core.Path.{_≡_, refl, sym, ap, _∙_}
+use Rattle.page.proofs.Walk.{Met, met, past}
 use Rattle.page.proofs.line_of.Statement.{statement}
 use Rattle.page.proofs.line_of.Tie as tie
-use Rattle.page.proofs.line_of.Reads as reads
-use Rattle.page.proofs.line_of.Lts as lts
-use Rattle.page.proofs.line_at.Reads as line-at-reads
-use Rattle.page.proofs.size_at.Reads as size-at-reads
 
 abbrev Inv-loop : tie.InvT-loop
 Inv-loop page p at₀ size₀ at size = (at ≤ p) × ((at ≤ length page + 1) × ((size ≡ sizeAt (drop at page)) × (lineIn (p - at) (recordsOf (drop at page)) ≡ lineOf page p)))
 
 abbrev μ-loop : tie.MeasureT-loop
 μ-loop page p at₀ size₀ at size = length page + 2 - at
+
+-- what a turn knows of the record that it is at
+turn : (c : tie.In-loop Inv-loop μ-loop) → Met (c .before .before .before .before .before .args .page .now) (c .before .loop .at) (c .before .loop .size)
+turn c = let l = c .before .loop in met _ (l .at) (l .size) (l .inv .1 .1 .0) (c .loop-test .taken)
 
 cast-p : tie.Need-cast-p Inv-loop μ-loop
 cast-p c = search needs
@@ -43,32 +44,24 @@ returns : tie.Need-returns Inv-loop μ-loop
 returns c =
     let l = c .before .before .before .loop in
     let p = c .before .before .before .before .before .before .before .args .page .now in
-    let m = met p (l .at) (l .size) (l .inv .1 .1 .0) (c .before .before .loop-test .taken) in
+    let m = turn (c .before .before) in
     let x = c .before .before .before .before .before .before .before .args .place .0 in
     c .line-at .ensures ∙ sym (rw (m .records, m .long, lt-ltb (x - l .at) (l .size) (c .before .if1 .taken))) ∙ l .inv .1 .1 .1
 
 add-at : tie.Need-add-at Inv-loop μ-loop
-add-at c =
-    let l = c .before .before .loop in
-    let p = c .before .before .before .before .before .before .args .page .now in
-    let m = met p (l .at) (l .size) (l .inv .1 .1 .0) (c .before .loop-test .taken) in
-    omega arith
+add-at c = let m = turn (c .before) in omega arith
 
 size-at-requires-2 : tie.Need-size-at-requires-2 Inv-loop μ-loop
 size-at-requires-2 c κs = tt
 
 loop-less : tie.Need-loop-less Inv-loop μ-loop
-loop-less c =
-    let l = c .before .before .before .loop in
-    let p = c .before .before .before .before .before .before .before .args .page .now in
-    let m = met p (l .at) (l .size) (l .inv .1 .1 .0) (c .before .before .loop-test .taken) in
-    omega arith
+loop-less c = let m = turn (c .before .before) in omega arith
 
 loop-again : tie.Need-loop-again Inv-loop μ-loop
 loop-again c =
     let l = c .before .before .before .loop in
     let p = c .before .before .before .before .before .before .before .args .page .now in
-    let m = met p (l .at) (l .size) (l .inv .1 .1 .0) (c .before .before .loop-test .taken) in
+    let m = turn (c .before .before) in
     let x = c .before .before .before .before .before .before .before .args .place .0 in
     let h : l .size ≤ x - l .at = c .before .if1 .left in
     let e : x - l .at - l .size ≡ x - (l .at + l .size) = omega arith in

@@ -1,26 +1,27 @@
-use Rattle.page.proofs.Listings.{list-on, list-full}
-use Rattle.page.proofs.Walk.{Met, met, past}
-use Rattle.page.specs.Listing.{listing}
-use Rattle.page.specs.Walk.{sizeAt, recordAt}
-use Rattle.nibl.specs.Page.{Stored, recordsOf}
-use borrow.Author.Needs.{needs}
-use lib.ListN.{length, drop}
-use native.Mathlib.Omega.{arith}
-use Prim.Native.Nat.{ℕ, _+_, _-_, _≤_}
+-- `list_from` meets its contract: each record walked over is listed or passed over. Assumes nothing.
+use Prim.Native.Nat.{_+_, _-_, _≤_}
 use mathlib.Core.List.{List}
 use mathlib.Core.Path.{_≡_, refl, sym, ap, _∙_}
+use native.Mathlib.Omega.{arith}
+use lib.ListN.{length, drop}
+use borrow.Author.Needs.{needs}
+use Rattle.nibl.specs.Page.{Stored, recordsOf}
+use Rattle.page.specs.Listing.{listing}
+use Rattle.page.specs.Walk.{sizeAt, recordAt}
+use Rattle.page.proofs.Listings.{list-on, list-full}
+use Rattle.page.proofs.Walk.{Met, met, past}
 use Rattle.page.proofs.list_from.Statement.{statement}
 use Rattle.page.proofs.list_from.Tie as tie
-use Rattle.page.proofs.list_from.Reads as reads
-use Rattle.page.proofs.list_from.Lts as lts
-use Rattle.page.proofs.list_here.Reads as list-here-reads
-use Rattle.page.proofs.size_at.Reads as size-at-reads
 
 abbrev Inv-loop : tie.InvT-loop
 Inv-loop page output₀ from n pos₀ at₀ size₀ output pos at size = (at ≤ length page + 1) × ((size ≡ sizeAt (drop at page)) × ((length output ≡ length output₀) × (listing n (recordsOf (drop at page)) output pos ≡ listing n (recordsOf page) output₀ from)))
 
 abbrev μ-loop : tie.MeasureT-loop
 μ-loop page output₀ from n pos₀ at₀ size₀ output pos at size = length page + 2 - at
+
+-- what a turn knows of the record that it is at
+turn : (c : tie.In-loop Inv-loop μ-loop) → Met (c .before .before .before .before .before .args .page .now) (c .before .loop .at) (c .before .loop .size)
+turn c = let l = c .before .loop in met _ (l .at) (l .size) (l .inv .1 .0) (c .loop-test .taken)
 
 size-at-requires : tie.Need-size-at-requires Inv-loop μ-loop
 size-at-requires c κs = tt
@@ -46,7 +47,7 @@ returns c =
     let a = c .before .before .before .before .before .before .before .before .before .before .before .args in
     let p = a .page .now in
     let n = a .number .0 in
-    let m = met p (l .at) (l .size) (l .inv .1 .0) (c .before .before .before .before .before .before .loop-test .taken) in
+    let m = turn (c .before .before .before .before .before .before) in
     let r = recordAt (drop (l .at) p) in
     let h = rw (c .enum-told .given .1) at (c .before .before .before .before .list-here .ensures) in
     sym (list-full n r (recordsOf (drop (l .at + l .size) p)) h)
@@ -54,25 +55,13 @@ returns c =
     ∙ l .inv .1 .1 .1
 
 add-at : tie.Need-add-at Inv-loop μ-loop
-add-at c =
-    let l = c .before .before .before .before .before .before .before .before .loop in
-    let a = c .before .before .before .before .before .before .before .before .before .before .before .before .args in
-    let p = a .page .now in
-    let n = a .number .0 in
-    let m = met p (l .at) (l .size) (l .inv .1 .0) (c .before .before .before .before .before .before .before .loop-test .taken) in
-    omega arith
+add-at c = let m = turn (c .before .before .before .before .before .before .before) in omega arith
 
 size-at-requires-2 : tie.Need-size-at-requires-2 Inv-loop μ-loop
 size-at-requires-2 c κs = tt
 
 loop-less : tie.Need-loop-less Inv-loop μ-loop
-loop-less c =
-    let l = c .before .before .before .before .before .before .before .before .before .loop in
-    let a = c .before .before .before .before .before .before .before .before .before .before .before .before .before .args in
-    let p = a .page .now in
-    let n = a .number .0 in
-    let m = met p (l .at) (l .size) (l .inv .1 .0) (c .before .before .before .before .before .before .before .before .loop-test .taken) in
-    omega arith
+loop-less c = let m = turn (c .before .before .before .before .before .before .before .before) in omega arith
 
 loop-again : tie.Need-loop-again Inv-loop μ-loop
 loop-again c =
@@ -80,7 +69,7 @@ loop-again c =
     let a = c .before .before .before .before .before .before .before .before .before .before .before .before .before .args in
     let p = a .page .now in
     let n = a .number .0 in
-    let m = met p (l .at) (l .size) (l .inv .1 .0) (c .before .before .before .before .before .before .before .before .loop-test .taken) in
+    let m = turn (c .before .before .before .before .before .before .before .before) in
     let r = recordAt (drop (l .at) p) in
     let h = rw (c .before .before .next .given .1) at (c .before .before .before .before .before .before .list-here .ensures) in
     (m .next, (c .size-at2 .ensures, (c .before .before .before .before .before .output .given ∙ l .inv .1 .1 .0,

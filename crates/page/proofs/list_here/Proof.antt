@@ -1,18 +1,14 @@
-use Rattle.page.specs.Listing.{Here}
-use Rattle.nibl.specs.Page.{lineAt}
-use borrow.Author.Tests.{le-leb, lt-leb}
-use lib.ListN.{drop}
-use native.Mathlib.Omega.{arith}
+-- `list_here` meets its contract: a lower number is passed over. Assumes nothing.
 use Prim.Native.Nat.{_≤_, _<_}
 use mathlib.Core.Bool.{true≢false}
-use mathlib.Core.Path.{_≡_, refl, sym, _∙_}
+use mathlib.Core.Path.{refl, sym, _∙_}
+use native.Mathlib.Omega.{arith}
+use lib.ListN.{drop}
+use borrow.Author.Tests.{le-leb, lt-leb}
 use borrow.Author.Needs.{needs}
+use Rattle.nibl.specs.Page.{lineAt}
 use Rattle.page.proofs.list_here.Statement.{statement}
 use Rattle.page.proofs.list_here.Tie as tie
-use Rattle.page.proofs.list_here.Reads as reads
-use Rattle.page.proofs.list_here.Lts as lts
-use Rattle.page.proofs.line_at.Reads as line-at-reads
-use Rattle.page.proofs.list_line.Reads as list-line-reads
 
 line-at-requires : tie.Need-line-at-requires
 line-at-requires c κs = search needs

@@ -1,16 +1,15 @@
-use mathlib.Core.Path.{_≡_, refl, sym, ap, _∙_}
-use mathlib.Core.List.{List}
+-- `move_left` meets its contract: after i turns, i bytes have moved. Assumes nothing.
 use Prim.Native.Nat.{ℕ, _≤_, _+_, _-_}
+use mathlib.Core.Path.{_≡_, refl, ap, _∙_}
+use mathlib.Core.List.{List}
 use native.Mathlib.Omega.{arith}
-use borrow.Author.Needs.{needs}
 use lib.ListN.{length, length-set, drop, getD, set}
-use lib.Seq.{paste, paste-zero}
+use lib.Seq.{paste-zero}
+use borrow.Author.Needs.{needs}
 use Rattle.page.specs.Edits.{moved}
-use Rattle.page.proofs.Moves.{left-step, right-step}
+use Rattle.page.proofs.Moves.{left-step}
 use Rattle.page.proofs.move_left.Statement.{statement}
 use Rattle.page.proofs.move_left.Tie as tie
-use Rattle.page.proofs.move_left.Reads as reads
-use Rattle.page.proofs.move_left.Lts as lts
 
 abbrev Inv-loop : tie.InvT-loop
 Inv-loop s₀ from to n i₀ s i = (i ≤ n) × ((length s ≡ length s₀) × (s ≡ moved s₀ from to i))

@@ -1,17 +1,14 @@
+-- `move_right` meets its contract: when j are left, the others have moved. Assumes nothing.
+use Prim.Native.Nat.{ℕ, _≤_, _+_, _-_}
 use mathlib.Core.Path.{_≡_, refl, sym, ap, _∙_}
 use mathlib.Core.List.{List}
-use Prim.Native.Nat.{ℕ, _≤_, _+_, _-_}
-use native.Mathlib.Nat.{add-zero, sub-self}
 use native.Mathlib.Omega.{arith}
+use lib.ListN.{length, length-set, drop, getD, set}
+use lib.Seq.{paste, paste-zero}
 use borrow.Author.Needs.{needs}
-use lib.ListN.{length, length-set, drop, getD, set, length-drop}
-use lib.Seq.{paste, paste-zero, paste-suc}
-use Rattle.page.specs.Edits.{moved}
-use Rattle.page.proofs.Moves.{left-step, right-step}
+use Rattle.page.proofs.Moves.{right-step}
 use Rattle.page.proofs.move_right.Statement.{statement}
 use Rattle.page.proofs.move_right.Tie as tie
-use Rattle.page.proofs.move_right.Reads as reads
-use Rattle.page.proofs.move_right.Lts as lts
 
 abbrev Inv-loop : tie.InvT-loop
 Inv-loop s₀ from to n j₀ s j =

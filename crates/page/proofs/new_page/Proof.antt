@@ -1,17 +1,16 @@
-use Rattle.page.specs.declared.Edited.the-variants as edited
-use Rattle.page.specs.Edits.{newOf, changed}
-use borrow.Author.Tests.{le-leb, lt-leb}
-use lib.Seq.{sets-eq}
-use lib.ListN.{length, set, drop}
-use native.Mathlib.Omega.{arith}
+-- `new_page` meets its contract: two stores. Assumes nothing.
 use Prim.Native.Nat.{ℕ}
 use mathlib.Core.List.{List, [], _∷_}
 use mathlib.Core.Path.{_≡_, sym, ap, _∙_}
+use native.Mathlib.Omega.{arith}
+use lib.Seq.{sets-eq}
+use lib.ListN.{length, set, drop}
+use borrow.Author.Tests.{le-leb, lt-leb}
 use borrow.Author.Needs.{needs}
+use Rattle.page.specs.Edits.{newOf, changed}
+use Rattle.page.specs.declared.Edited.the-variants as edited
 use Rattle.page.proofs.new_page.Statement.{statement}
 use Rattle.page.proofs.new_page.Tie as tie
-use Rattle.page.proofs.new_page.Reads as reads
-use Rattle.page.proofs.new_page.Lts as lts
 
 returns : tie.Need-returns
 unfolding newOf

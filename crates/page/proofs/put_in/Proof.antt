@@ -1,18 +1,15 @@
-use Rattle.page.proofs.Program.{record-length}
-use Rattle.page.proofs.Moves.{drop-pasted, front-spliced}
-use Rattle.nibl.specs.Page.{Stored, recordBytes}
-use lib.ListN.{length, take, drop}
-use native.Mathlib.Omega.{arith}
+-- `put_in` meets its contract: the rest moves out of the way, then the record comes. Assumes nothing.
 use Prim.Native.Nat.{ℕ, _+_, _-_}
 use mathlib.Core.List.{List, _++_}
-use mathlib.Core.Path.{_≡_, sym, ap, _∙_}
+use mathlib.Core.Path.{sym, ap, _∙_}
+use native.Mathlib.Omega.{arith}
+use lib.ListN.{length, take, drop}
 use borrow.Author.Needs.{needs}
+use Rattle.nibl.specs.Page.{Stored, recordBytes}
+use Rattle.page.proofs.Program.{record-length}
+use Rattle.page.proofs.Moves.{drop-pasted, front-spliced}
 use Rattle.page.proofs.put_in.Statement.{statement}
 use Rattle.page.proofs.put_in.Tie as tie
-use Rattle.page.proofs.put_in.Reads as reads
-use Rattle.page.proofs.put_in.Lts as lts
-use Rattle.page.proofs.put_record.Reads as put-record-reads
-use Rattle.page.proofs.shift.Reads as shift-reads
 
 add-size : tie.Need-add-size
 add-size c = search needs

@@ -1,16 +1,13 @@
-use mathlib.Core.Path.{_≡_, sym, ap, _∙_}
-use mathlib.Core.List.{List}
+-- `put_record` meets its contract: the stores, one after the other, are the record's bytes. Assumes nothing.
 use Prim.Native.Nat.{ℕ, _+_, _/_, _%_}
+use mathlib.Core.Path.{ap, _∙_}
+use mathlib.Core.List.{List}
 use native.Mathlib.Omega.{arith}
 use lib.ListN.{length, length-set, set}
-use lib.Seq.{paste, length-paste}
-use Rattle.page.proofs.Moves.{record-is, stored-length}
 use borrow.Author.Needs.{needs}
+use Rattle.page.proofs.Moves.{record-is}
 use Rattle.page.proofs.put_record.Statement.{statement}
 use Rattle.page.proofs.put_record.Tie as tie
-use Rattle.page.proofs.put_record.Reads as reads
-use Rattle.page.proofs.put_record.Lts as lts
-use Rattle.page.proofs.put_text.Reads as put-text-reads
 
 cast-s : tie.Need-cast-s
 cast-s c = search needs

@@ -1,17 +1,14 @@
+-- `put_text` meets its contract: after i turns, i bytes are there. Assumes nothing.
+use Prim.Native.Nat.{ℕ, _≤_, _+_, _-_}
 use mathlib.Core.Path.{_≡_, refl, sym, ap, _∙_}
 use mathlib.Core.List.{List}
-use Prim.Native.Nat.{ℕ, _≤_, _+_, _-_}
 use native.Mathlib.Numerals.{add-one}
 use native.Mathlib.Omega.{arith}
-use borrow.Author.Needs.{needs}
-use lib.ListN.{length, length-set, drop, getD, set, length-drop}
+use lib.ListN.{length, length-set, getD, set}
 use lib.Seq.{paste, paste-zero, paste-suc}
-use Rattle.page.specs.Edits.{moved}
-use Rattle.page.proofs.Moves.{left-step, right-step}
+use borrow.Author.Needs.{needs}
 use Rattle.page.proofs.put_text.Statement.{statement}
 use Rattle.page.proofs.put_text.Tie as tie
-use Rattle.page.proofs.put_text.Reads as reads
-use Rattle.page.proofs.put_text.Lts as lts
 
 abbrev Inv-loop : tie.InvT-loop
 Inv-loop s₀ at text i₀ s i = (i ≤ length text) × ((length s ≡ length s₀) × (s ≡ paste s₀ at text i))

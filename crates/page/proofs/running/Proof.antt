@@ -1,10 +1,8 @@
+-- `running` meets its contract: by the source that is named. Assumes nothing.
 use mathlib.Core.Path.{sym, _∙_}
 use borrow.Author.Needs.{needs}
 use Rattle.page.proofs.running.Statement.{statement}
 use Rattle.page.proofs.running.Tie as tie
-use Rattle.page.proofs.running.Reads as reads
-use Rattle.page.proofs.running.Lts as lts
-use Rattle.page.proofs.text_at.Reads as text-at-reads
 
 enum-known-at : tie.Need-enum-known-at
 enum-known-at c = search needs

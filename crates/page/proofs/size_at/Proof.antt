@@ -1,22 +1,19 @@
-use Rattle.page.proofs.Walk.{or-right, stops-short, size-none, size-cut, size-whole}
-use Rattle.page.specs.Walk.{stopsAt}
-use Rattle.nibl.specs.Page.{isEnd, lengthAt}
-use borrow.Author.Tests.{lt-ltb, le-ltb}
-use lib.Dec.{ltb}
-use lib.Seq.{getD-drop}
-use lib.ListN.{getD, drop, length-drop}
-use native.Mathlib.Omega.{arith}
+-- `size_at` meets its contract: the length byte, or what the page's end leaves of the record. Assumes nothing.
 use Prim.Native.Nat.{ℕ, _+_, _≤_, _<_}
 use mathlib.Core.List.{List}
 use mathlib.Core.Bool.{false}
 use mathlib.Core.Path.{_≡_, sym, ap, _∙_}
+use native.Mathlib.Omega.{arith}
+use lib.Dec.{ltb}
+use lib.Seq.{getD-drop}
+use lib.ListN.{getD, drop, length-drop}
+use borrow.Author.Tests.{lt-ltb, le-ltb}
 use borrow.Author.Needs.{needs}
+use Rattle.nibl.specs.Page.{isEnd, lengthAt}
+use Rattle.page.specs.Walk.{stopsAt}
+use Rattle.page.proofs.Walk.{or-right, stops-short, size-none, size-cut, size-whole}
 use Rattle.page.proofs.size_at.Statement.{statement}
 use Rattle.page.proofs.size_at.Tie as tie
-use Rattle.page.proofs.size_at.Reads as reads
-use Rattle.page.proofs.size_at.Lts as lts
-use Rattle.page.proofs.byte_at.Reads as byte-at-reads
-use Rattle.page.proofs.is_end.Reads as is-end-reads
 
 -- a record begins here, and this is its length byte
 here : (p : List ℕ) (at n : ℕ) → n ≡ getD p (at + 2) 0 → 5 ≤ n → isEnd (drop at p) ≡ false → (stopsAt (drop at p) ≡ false) × (lengthAt (drop at p) ≡ n)

@@ -1,17 +1,14 @@
-use Rattle.nibl.specs.Calls.{lineFrom}
-use lib.ListN.{length, take, drop}
-use Rattle.page.proofs.Texts.{line-past, line-inside, front-part}
-use Rattle.nibl.specs.Bytes.{notCR}
-use lib.ListN.{take, drop}
-use native.Mathlib.Omega.{arith}
+-- `text_at` meets its contract: what is passed up to the CR is the text. Assumes nothing.
 use Prim.Native.Nat.{ℕ, _-_}
 use mathlib.Core.Path.{_≡_, sym, ap, _∙_}
+use native.Mathlib.Omega.{arith}
+use lib.ListN.{length, take, drop}
 use borrow.Author.Needs.{needs}
+use Rattle.nibl.specs.Calls.{lineFrom}
+use Rattle.nibl.specs.Bytes.{notCR}
+use Rattle.page.proofs.Texts.{line-past, line-inside, front-part}
 use Rattle.page.proofs.text_at.Statement.{statement}
 use Rattle.page.proofs.text_at.Tie as tie
-use Rattle.page.proofs.text_at.Reads as reads
-use Rattle.page.proofs.text_at.Lts as lts
-use Rattle.page.proofs.text_end.Reads as text-end-reads
 
 slice-aggregate-result : tie.Need-slice-aggregate-result
 slice-aggregate-result c = search needs

@@ -1,13 +1,12 @@
-use Rattle.page.proofs.Texts.{line-past, line-ends, line-goes}
-use Rattle.nibl.specs.Calls.{lineFrom}
-use lib.ListN.{length}
-use native.Mathlib.Omega.{arith}
+-- `text_end` meets its contract: each byte passed is one of the text. Assumes nothing.
 use Prim.Native.Nat.{_+_, _-_, _≤_}
 use mathlib.Core.Path.{_≡_, refl, ap}
+use native.Mathlib.Omega.{arith}
+use lib.ListN.{length}
+use Rattle.nibl.specs.Calls.{lineFrom}
+use Rattle.page.proofs.Texts.{line-past, line-ends, line-goes}
 use Rattle.page.proofs.text_end.Statement.{statement}
 use Rattle.page.proofs.text_end.Tie as tie
-use Rattle.page.proofs.text_end.Reads as reads
-use Rattle.page.proofs.text_end.Lts as lts
 
 abbrev Inv-loop : tie.InvT-loop
 Inv-loop s at e₀ e = (at ≤ e) × (e + length (lineFrom s e) ≡ at + length (lineFrom s at))

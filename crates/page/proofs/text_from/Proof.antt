@@ -1,12 +1,9 @@
-use Rattle.nibl.specs.Calls.{textFrom}
+-- `text_from` meets its contract: by the three cases of the definition. Assumes nothing.
 use mathlib.Core.Path.{sym, _∙_}
 use borrow.Author.Needs.{needs}
+use Rattle.nibl.specs.Calls.{textFrom}
 use Rattle.page.proofs.text_from.Statement.{statement}
 use Rattle.page.proofs.text_from.Tie as tie
-use Rattle.page.proofs.text_from.Reads as reads
-use Rattle.page.proofs.text_from.Lts as lts
-use Rattle.page.proofs.after_colon.Reads as after-colon-reads
-use Rattle.page.proofs.is_end.Reads as is-end-reads
 
 after-colon-requires : tie.Need-after-colon-requires
 after-colon-requires c κs = search needs

