@@ -1,7 +1,7 @@
 -- What edits keep: a good page stays good, and bytes stay bytes. What the finder finds. Assumes nothing.
 use Prim.Native.Nat.{ℕ, zero, suc, _+_, _-_, _/_, _%_, _≤_, _<_}
 use mathlib.Core.Path.{_≡_, refl, sym, ap, _∙_}
-use mathlib.Core.Bool.{true, false}
+use mathlib.Core.Bool.{true, false, _&&_}
 use mathlib.Core.List.{List, [], _∷_, _++_}
 use mathlib.Core.Option.{Option, none, some}
 use native.Mathlib.Omega.{arith}
@@ -9,14 +9,15 @@ use lib.ListN.{length, take, drop}
 use lib.Seq.{getD-drop}
 use lib.Dec.{ltb, leb, eqb}
 use borrow.Author.Tests.{leb-true, eqb-true, lt-ltb}
-use Rattle.nibl.specs.Bytes.{if_then_else_}
-use Rattle.nibl.specs.Page.{Stored, recordBytes, programBytes, isGood, recordsOf, lineAt, used, hasLine, with, positionIn, find}
+use Rattle.nibl.specs.Bytes.{if_then_else_, isText, All, none as no-byte, each as each-byte}
+use Rattle.nibl.specs.Page.{Stored, recordBytes, programBytes, isGood, recordsOf, lineAt, used, hasLine, with, positionIn, find, onto}
 use Rattle.page.specs.Walk.{stopsAt, sizeAt, reached}
 use Rattle.page.specs.declared.Seat.{Seat}
 use Rattle.page.specs.Edits.{seatOf, spliced, canStore, storeOf, deleteOf}
 use Rattle.page.proofs.Walk.{by-cases, stop, size-some, met}
-use Rattle.page.proofs.Program.{both, Bytes, Storable, good-program}
+use Rattle.page.proofs.Program.{both, Bytes, Storable, Program, none as empty, each, good-program}
 use Rattle.page.proofs.Changes.{with-program, without-program, onto-good}
+use Rattle.page.proofs.Boundaries.{stored-text}
 use Rattle.page.proofs.Good.{store-is, delete-is}
 
 module _ (lim : ℕ) (page : List ℕ) (bytes : Bytes page) (good : isGood lim page ≡ true) where
@@ -87,6 +88,25 @@ module _ (page : List ℕ) (bytes : Bytes page) where
       (λ e. by-cases (leb (used page) (length page))
         (λ f. rw (e, f, if_then_else_) (bytes-spliced page (s .at) (s .gone) (used page) [] bytes (λ i. omega arith)))
         (λ f. rw (e, f, if_then_else_) bytes))
+
+-- a text's bytes are bytes, and so are a program's
+text-bytes : {t : List ℕ} → All isText t → Bytes t
+text-bytes no-byte i = omega arith
+text-bytes (each-byte {b = b} e a) zero =
+    let h = leb-true b 126 (both (leb 32 b) (leb b 126) (both (leb 32 b && leb b 126) _ e .0) .1) in omega arith
+text-bytes (each-byte e a) (suc i) = text-bytes a i
+
+program-bytes : {lim low : ℕ} {rs : List Stored} → Program lim low rs → Bytes (programBytes rs)
+program-bytes empty = bytes-cons 255 (255 ∷ []) (omega arith) (bytes-cons 255 [] (omega arith) (λ i. omega arith))
+program-bytes (each {r = r} {rs = rs} l s p) =
+    let n = s .number in
+    let t = s .short in
+    bytes-append (recordBytes r) (programBytes rs)
+    (bytes-record (r .line) (r .text) (omega arith) (omega arith) (text-bytes (stored-text s))) (program-bytes p)
+
+pub onto-bytes : {lim : ℕ} {rs : List Stored} (page : List ℕ) → Bytes page → Program lim 0 rs → Bytes (onto page rs)
+onto-bytes {rs = rs} page b p =
+    bytes-append (programBytes rs) _ (program-bytes p) (bytes-drop (length (programBytes rs)) page b)
 
 -- a record of line n stands at q
 pub record Stands (page : List ℕ) (n q : ℕ) : Type 0 where

@@ -6,4 +6,6 @@ pub mod Moves
 pub mod Edits
 pub mod Good
 pub mod Listings
+pub mod Boundaries
 pub mod Kept
+pub mod Determined

@@ -51,7 +51,7 @@ module _ (r : Stored) (rest : List ℕ) where
   front-rest : drop (size r) (recordBytes r ++ rest) ≡ rest
   front-rest = drop-at (recordBytes r) rest (size r) (record-length r)
 
-  front-end : r .line ≤ 32767 → isEnd (recordBytes r ++ rest) ≡ false
+  pub front-end : r .line ≤ 32767 → isEnd (recordBytes r ++ rest) ≡ false
   front-end h = rw (ne-eqb (r .line / 256) 255 (λ e. omega arith))
 
   front-stop : r .line ≤ 32767 → 1 ≤ length (r .text) → stopsAt (recordBytes r ++ rest) ≡ false
@@ -67,7 +67,7 @@ module _ (r : Stored) (rest : List ℕ) where
       ∙ (λ i. front-is i ∷ recordsOf (drop ((size-is (recordBytes r ++ rest) e ∙ ap size front-is) i) (recordBytes r ++ rest)))
       ∙ ap (λ (q : List ℕ). r ∷ recordsOf q) front-rest
 
-  front-cr : getD (recordBytes r ++ rest) (size r - 1) 0 ≡ 13
+  pub front-cr : getD (recordBytes r ++ rest) (size r - 1) 0 ≡ 13
   front-cr =
       let head : List ℕ = (r .line / 256) ∷ (r .line % 256) ∷ size r ∷ r .text in
       ap (λ (l : List ℕ). getD ((r .line / 256) ∷ (r .line % 256) ∷ size r ∷ l) (size r - 1) 0) (append-assoc (r .text) (13 ∷ []) rest)
