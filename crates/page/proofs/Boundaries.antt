@@ -66,14 +66,14 @@ bodies-cr (r ∷ lo) rest h =
     let k = record-length r in
     ap (λ (s : List ℕ). getD s (length (recordBytes r ++ bodies lo) - 1) 0) (append-assoc (recordBytes r) (bodies lo) rest)
     ∙ by-cases (ltb 0 (length (bodies lo)))
-      (λ e.
-        let m = ltb-true 0 (length (bodies lo)) e in
-        let i : length (recordBytes r ++ bodies lo) - 1 ≡ length (recordBytes r) + (length (bodies lo) - 1) = omega arith in
-        ap (λ (n : ℕ). getD (recordBytes r ++ (bodies lo ++ rest)) n 0) i ∙ getD-append-add (recordBytes r) (bodies lo ++ rest) (length (bodies lo) - 1) 0 ∙ bodies-cr lo rest m)
-      (λ e.
-        let m = ltb-false 0 (length (bodies lo)) e in
-        let i : length (recordBytes r ++ bodies lo) - 1 ≡ size r - 1 = omega arith in
-        ap (λ (n : ℕ). getD (recordBytes r ++ (bodies lo ++ rest)) n 0) i ∙ front-cr r (bodies lo ++ rest))
+    (λ e.
+    let m = ltb-true 0 (length (bodies lo)) e in
+    let i : length (recordBytes r ++ bodies lo) - 1 ≡ length (recordBytes r) + (length (bodies lo) - 1) = omega arith in
+    ap (λ (n : ℕ). getD (recordBytes r ++ (bodies lo ++ rest)) n 0) i ∙ getD-append-add (recordBytes r) (bodies lo ++ rest) (length (bodies lo) - 1) 0 ∙ bodies-cr lo rest m)
+    (λ e.
+    let m = ltb-false 0 (length (bodies lo)) e in
+    let i : length (recordBytes r ++ bodies lo) - 1 ≡ size r - 1 = omega arith in
+    ap (λ (n : ℕ). getD (recordBytes r ++ (bodies lo ++ rest)) n 0) i ∙ front-cr r (bodies lo ++ rest))
 
 -- from here on stand these records, and then the end mark
 pub record Boundary (page : List ℕ) (at : ℕ) (rs : List Stored) : Type 0 where
@@ -89,7 +89,8 @@ next {r = r} {rs = rs} b =
     record {
       lower = b .lower ++ (r ∷ []);
       all = b .all ∙ sym (append-assoc (b .lower) (r ∷ []) rs);
-      place = ap (λ (n : ℕ). n + size r) (b .place) ∙ sym (bodies-more (b .lower) r) }
+      place = ap (λ (n : ℕ). n + size r) (b .place) ∙ sym (bodies-more (b .lower) r);
+    }
 
 -- where the text begins that is next at a boundary
 abbrev pub beginning : ℕ → List Stored → Option ℕ
@@ -123,7 +124,7 @@ module _ (lim : ℕ) (page : List ℕ) (bytes : Bytes page) (good : isGood lim p
   unfolding textFrom
   text-next {at = at} rs b =
       let colon : (leb 1 at && eqb (getD page (at - 1) 0) 58) ≡ false =
-        by-cases (leb 1 at) (λ e. rw (e, before b (leb-true 1 at e))) (λ e. rw e) in
+      by-cases (leb 1 at) (λ e. rw (e, before b (leb-true 1 at e))) (λ e. rw e) in
       rw (colon, here b, if_then_else_) (go rs b)
     where
       go : {at : ℕ} (rs : List Stored) → Boundary page at rs → (if isEnd (programBytes rs ++ drop (used page) page) then none else some (at + 3)) ≡ beginning at rs
@@ -131,7 +132,7 @@ module _ (lim : ℕ) (page : List ℕ) (bytes : Bytes page) (good : isGood lim p
       go (r ∷ rs) b =
           let more : List ℕ = programBytes rs ++ drop (used page) page in
           let e : isEnd (programBytes (r ∷ rs) ++ drop (used page) page) ≡ false =
-            ap isEnd (append-assoc (recordBytes r) (programBytes rs) (drop (used page) page)) ∙ front-end r more (stored-at b .number) in
+          ap isEnd (append-assoc (recordBytes r) (programBytes rs) (drop (used page) page)) ∙ front-end r more (stored-at b .number) in
           rw e
 
   -- what runs from within a record's text on
@@ -141,9 +142,9 @@ module _ (lim : ℕ) (page : List ℕ) (bytes : Bytes page) (good : isGood lim p
       let t : List ℕ = r .text in
       let more : List ℕ = programBytes rs ++ drop (used page) page in
       let shape : drop 3 (drop at page) ≡ t ++ (13 ∷ more) =
-        ap (drop 3) (here b) ∙ append-assoc (t ++ (13 ∷ [])) (programBytes rs) (drop (used page) page) ∙ append-assoc t (13 ∷ []) more in
+      ap (drop 3) (here b) ∙ append-assoc (t ++ (13 ∷ [])) (programBytes rs) (drop (used page) page) ∙ append-assoc t (13 ∷ []) more in
       let there : drop (at + 3 + j) page ≡ drop j t ++ (13 ∷ more) =
-        sym (drop-drop j (at + 3) page) ∙ ap (drop j) (sym (drop-drop 3 at page) ∙ shape) ∙ drop-append-le j t (13 ∷ more) h in
+      sym (drop-drop j (at + 3) page) ∙ ap (drop j) (sym (drop-drop 3 at page) ∙ shape) ∙ drop-append-le j t (13 ∷ more) h in
       ap (front notCR) there ∙ front-text more (all-drop j (stored-text (stored-at b)))
 
 -- the line of a position within a record
@@ -171,9 +172,9 @@ found n q [] b e = let z : _≡_ {A = ℕ} 0 1 = cc in absurd (omega arith)
 found {page = page} {at = at} n q (r ∷ rs) b e =
     by-cases (eqb (r .line) n)
     (λ f.
-      let is : some at ≡ some q = sym (rw f) ∙ e in
-      let at-q : at ≡ q = cc in
-      rw (← at-q) (record { stored = r; after = rs; there = b; line = eqb-true (r .line) n f }))
+    let is : some at ≡ some q = sym (rw f) ∙ e in
+    let at-q : at ≡ q = cc in
+    rw (← at-q) (record { stored = r; after = rs; there = b; line = eqb-true (r .line) n f }))
     (λ f. found n q rs (next b) (rw (f, if_then_else_) at e))
 
 pub find-found : (page : List ℕ) (n q : ℕ) → find page n ≡ some q → Found page n q

@@ -55,7 +55,7 @@ module _ (n : ℕ) (ins : List Stored) (new : List ℕ) (grows : (rs : List Stor
       → spliced (b ++ p) (length b) gone (length b + top) new ≡ b ++ onto p (ins ++ tail)
   at-seat b p tail rest gone top e f =
       let there : take (top - gone) (drop gone p) ≡ programBytes tail =
-        ap (take (top - gone)) e ∙ take-at (programBytes tail) rest (top - gone) (program-length tail ∙ sym f) in
+      ap (take (top - gone)) e ∙ take-at (programBytes tail) rest (top - gone) (program-length tail ∙ sym f) in
       behind b p new gone top
       ∙ ap (λ (l : List ℕ). b ++ l) (renewed new p tail gone (top - gone) there f ∙ ap (λ (l : List ℕ). l ++ drop (length l) p) (sym (grows tail)))
 
@@ -70,21 +70,21 @@ module _ (n : ℕ) (ins : List Stored) (new : List ℕ) (grows : (rs : List Stor
       let split : p ≡ recordBytes r ++ more = append-assoc (recordBytes r) (programBytes rs) rest in
       by-cases (ltb (r .line) n)
       (λ e. rw (e, if_then_else_)
-        (let c : List ℕ = b ++ recordBytes r in
-        let long : length c ≡ length b + size r = length-append b (recordBytes r) ∙ omega (arith, record-length r) in
-        let whole : b ++ p ≡ c ++ more = ap (λ (l : List ℕ). b ++ l) split ∙ sym (append-assoc b (recordBytes r) more) in
-        let top : length b + usedBy (r ∷ rs) ≡ length c + usedBy rs = omega arith in
-        let pb : List ℕ = programBytes (seated rs) in
-        let kept : drop (length pb) more ≡ drop (length (recordBytes r ++ pb)) p =
-          sym (ap (λ (k : ℕ). drop k p) (length-append (recordBytes r) pb) ∙ ap (drop (length (recordBytes r) + length pb)) split ∙ drop-append-add (recordBytes r) more (length pb)) in
-        (λ i. spliced (whole i) (seatIn n (sym long i) rs .at) (seatIn n (sym long i) rs .gone) (top i) new)
-        ∙ spliced-seated c rs rest
-        ∙ append-assoc b (recordBytes r) (pb ++ drop (length pb) more)
-        ∙ ap (λ (l : List ℕ). b ++ l) (sym (append-assoc (recordBytes r) pb _) ∙ ap (λ (l : List ℕ). (recordBytes r ++ pb) ++ l) kept)))
+      (let c : List ℕ = b ++ recordBytes r in
+      let long : length c ≡ length b + size r = length-append b (recordBytes r) ∙ omega (arith, record-length r) in
+      let whole : b ++ p ≡ c ++ more = ap (λ (l : List ℕ). b ++ l) split ∙ sym (append-assoc b (recordBytes r) more) in
+      let top : length b + usedBy (r ∷ rs) ≡ length c + usedBy rs = omega arith in
+      let pb : List ℕ = programBytes (seated rs) in
+      let kept : drop (length pb) more ≡ drop (length (recordBytes r ++ pb)) p =
+      sym (ap (λ (k : ℕ). drop k p) (length-append (recordBytes r) pb) ∙ ap (drop (length (recordBytes r) + length pb)) split ∙ drop-append-add (recordBytes r) more (length pb)) in
+      (λ i. spliced (whole i) (seatIn n (sym long i) rs .at) (seatIn n (sym long i) rs .gone) (top i) new)
+      ∙ spliced-seated c rs rest
+      ∙ append-assoc b (recordBytes r) (pb ++ drop (length pb) more)
+      ∙ ap (λ (l : List ℕ). b ++ l) (sym (append-assoc (recordBytes r) pb _) ∙ ap (λ (l : List ℕ). (recordBytes r ++ pb) ++ l) kept)))
       (λ e. by-cases (eqb (r .line) n)
-        (λ f. rw (e, f, if_then_else_)
-          (at-seat b p rs rest (size r) (usedBy (r ∷ rs)) (ap (drop (size r)) split ∙ drop-at (recordBytes r) more (size r) (record-length r)) (omega arith)))
-        (λ f. rw (e, f, if_then_else_) (at-seat b p (r ∷ rs) rest 0 (usedBy (r ∷ rs)) refl (omega arith))))
+      (λ f. rw (e, f, if_then_else_)
+      (at-seat b p rs rest (size r) (usedBy (r ∷ rs)) (ap (drop (size r)) split ∙ drop-at (recordBytes r) more (size r) (record-length r)) (omega arith)))
+      (λ f. rw (e, f, if_then_else_) (at-seat b p (r ∷ rs) rest 0 (usedBy (r ∷ rs)) refl (omega arith))))
 
 -- what the definition's edits are by this
 module _ (q : Stored) where
@@ -98,11 +98,11 @@ module _ (q : Stored) where
       let n : ℕ = q .line in
       by-cases (ltb (r .line) n)
       (λ e. let l = ltb-true (r .line) n e in
-        rw (e, le-ltb n (r .line) (omega arith), ne-eqb n (r .line) (λ f. omega arith), if_then_else_) (ap (λ (l : List Stored). r ∷ l) (with-seated rs)))
+      rw (e, le-ltb n (r .line) (omega arith), ne-eqb n (r .line) (λ f. omega arith), if_then_else_) (ap (λ (l : List Stored). r ∷ l) (with-seated rs)))
       (λ e. let l = ltb-false (r .line) n e in
-        by-cases (eqb (r .line) n)
-        (λ f. let g = eqb-true (r .line) n f in rw (e, f, le-ltb n (r .line) (omega arith), eq-eqb n (r .line) (sym g), if_then_else_))
-        (λ f. rw (e, f, lt-ltb n (r .line) (omega (arith, eqb-false (r .line) n f)), if_then_else_)))
+      by-cases (eqb (r .line) n)
+      (λ f. let g = eqb-true (r .line) n f in rw (e, f, le-ltb n (r .line) (omega arith), eq-eqb n (r .line) (sym g), if_then_else_))
+      (λ f. rw (e, f, lt-ltb n (r .line) (omega (arith, eqb-false (r .line) n f)), if_then_else_)))
 
 module _ (n : ℕ) where
   abbrev outside : List Stored → List Stored
@@ -118,11 +118,11 @@ module _ (n : ℕ) where
   gone-has at (each {r = r} {rs = rs} l s p) =
       by-cases (eqb (r .line) n)
       (λ f. let g = eqb-true (r .line) n f in
-        rw (le-ltb (r .line) n (omega arith), f, if_then_else_) (le-ltb (size r) 1 (omega arith)))
+      rw (le-ltb (r .line) n (omega arith), f, if_then_else_) (le-ltb (size r) 1 (omega arith)))
       (λ f. by-cases (ltb (r .line) n)
-        (λ e. rw (e, f, if_then_else_) (gone-has (at + size r) p))
-        (λ e. let g = ltb-false (r .line) n e in
-          rw (e, f, if_then_else_, absent (omega (arith, eqb-false (r .line) n f)) p)))
+      (λ e. rw (e, f, if_then_else_) (gone-has (at + size r) p))
+      (λ e. let g = ltb-false (r .line) n e in
+      rw (e, f, if_then_else_, absent (omega (arith, eqb-false (r .line) n f)) p)))
 
   without-seated : {lim low : ℕ} {rs : List Stored} → Program lim low rs → hasLine n rs ≡ true → outside rs ≡ without n rs
   unfolding seated
@@ -131,9 +131,9 @@ module _ (n : ℕ) where
       by-cases (eqb (r .line) n)
       (λ f. let g = eqb-true (r .line) n f in rw (le-ltb (r .line) n (omega arith), f, if_then_else_))
       (λ f. by-cases (ltb (r .line) n)
-        (λ e. rw (e, f, if_then_else_) (ap (λ (x : List Stored). r ∷ x) (without-seated p (rw f at h))))
-        (λ e. let g = ltb-false (r .line) n e in
-          absurd (false≢true (sym (absent (omega (arith, eqb-false (r .line) n f)) p) ∙ rw f at h))))
+      (λ e. rw (e, f, if_then_else_) (ap (λ (x : List Stored). r ∷ x) (without-seated p (rw f at h))))
+      (λ e. let g = ltb-false (r .line) n e in
+      absurd (false≢true (sym (absent (omega (arith, eqb-false (r .line) n f)) p) ∙ rw f at h))))
 
 -- The edits of a good page
 module _ (lim : ℕ) (page : List ℕ) (bytes : Bytes page) (good : isGood lim page ≡ true) where
@@ -166,11 +166,11 @@ module _ (lim : ℕ) (page : List ℕ) (bytes : Bytes page) (good : isGood lim p
       let q : Stored = record { line = n; text = t } in
       let f = good-fits lim page bytes good in
       let long : used page - seatOf page n .gone + (length t + 4) ≡ length (programBytes (with q (recordsOf page))) =
-        ap (λ (k : ℕ). used page - seatOf page n .gone + k) (sym (record-length q))
-        ∙ good-long n (q ∷ []) (recordBytes q) (λ rs. refl)
-        ∙ ap (λ (l : List Stored). length (programBytes l)) (with-seated q (recordsOf page)) in
+      ap (λ (k : ℕ). used page - seatOf page n .gone + k) (sym (record-length q))
+      ∙ good-long n (q ∷ []) (recordBytes q) (λ rs. refl)
+      ∙ ap (λ (l : List Stored). length (programBytes l)) (with-seated q (recordsOf page)) in
       let there : spliced page (seatOf page n .at) (seatOf page n .gone) (used page) (recordBytes q) ≡ onto page (with q (recordsOf page)) =
-        good-spliced n (q ∷ []) (recordBytes q) (λ rs. refl) ∙ ap (onto page) (with-seated q (recordsOf page)) in
+      good-spliced n (q ∷ []) (recordBytes q) (λ rs. refl) ∙ ap (onto page) (with-seated q (recordsOf page)) in
       rw (le-leb (used page) (length page) f, le-leb (length t + 4) 255 (omega arith), long, there)
 
   seat-has : (n : ℕ) → ltb (seatOf page n .gone) 1 ≡ not (hasLine n (recordsOf page))
@@ -184,9 +184,9 @@ module _ (lim : ℕ) (page : List ℕ) (bytes : Bytes page) (good : isGood lim p
       let p = good-program lim page bytes good in
       by-cases (hasLine n (recordsOf page))
       (λ e.
-        let there : spliced page (seatOf page n .at) (seatOf page n .gone) (used page) [] ≡ onto page (without n (recordsOf page)) =
-          good-spliced n [] [] (λ rs. refl) ∙ ap (onto page) (without-seated n p e) in
-        rw (seat-has n ∙ ap not e, le-leb (used page) (length page) (good-fits lim page bytes good), there, e))
+      let there : spliced page (seatOf page n .at) (seatOf page n .gone) (used page) [] ≡ onto page (without n (recordsOf page)) =
+      good-spliced n [] [] (λ rs. refl) ∙ ap (onto page) (without-seated n p e) in
+      rw (seat-has n ∙ ap not e, le-leb (used page) (length page) (good-fits lim page bytes good), there, e))
       (λ e. rw (seat-has n ∙ ap not e, e))
 
   -- the outcomes are the definition's
@@ -206,11 +206,11 @@ module _ (lim : ℕ) (page : List ℕ) (bytes : Bytes page) (good : isGood lim p
       let rs : List Stored = without n (recordsOf page) in
       ap (outcomeOf w) (delete-is n)
       ∙ by-cases (hasLine n (recordsOf page))
-        (λ e.
-          let long = good-long n [] [] (λ rs. refl) ∙ ap (λ (l : List Stored). length (programBytes l)) (without-seated n (good-program lim page bytes good) e) in
-          let fits : length (programBytes rs) ≤ length page = omega (arith, good-fits lim page bytes good) in
-          rw (e, le-leb (length (programBytes rs)) (length page) fits))
-        (λ e. rw e)
+      (λ e.
+      let long = good-long n [] [] (λ rs. refl) ∙ ap (λ (l : List Stored). length (programBytes l)) (without-seated n (good-program lim page bytes good) e) in
+      let fits : length (programBytes rs) ≤ length page = omega (arith, good-fits lim page bytes good) in
+      rw (e, le-leb (length (programBytes rs)) (length page) fits))
+      (λ e. rw e)
 
 -- NEW, on any page
 pub new-is : (page : List ℕ) (w : World) → outcomeOf w (newOf page) ≡ calls.edited page w []

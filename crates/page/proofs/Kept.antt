@@ -27,15 +27,15 @@ module _ (lim : ℕ) (page : List ℕ) (bytes : Bytes page) (good : isGood lim p
       let rs : List Stored = with q (recordsOf page) in
       rw (store-is lim page bytes good n t (s .short))
       (by-cases (leb (length (programBytes rs)) (length page))
-        (λ e. rw (e, if_then_else_) (onto-good page (with-program q s (omega arith) (good-program lim page bytes good))))
-        (λ e. rw (e, if_then_else_) good))
+      (λ e. rw (e, if_then_else_) (onto-good page (with-program q s (omega arith) (good-program lim page bytes good))))
+      (λ e. rw (e, if_then_else_) good))
 
   pub delete-keeps : (n : ℕ) → isGood lim (deleteOf page n .page) ≡ true
   delete-keeps n =
       rw (delete-is lim page bytes good n)
       (by-cases (hasLine n (recordsOf page))
-        (λ e. rw (e, if_then_else_) (onto-good page (without-program n (good-program lim page bytes good))))
-        (λ e. rw (e, if_then_else_) good))
+      (λ e. rw (e, if_then_else_) (onto-good page (without-program n (good-program lim page bytes good))))
+      (λ e. rw (e, if_then_else_) good))
 
 -- bytes
 bytes-take : (n : ℕ) (l : List ℕ) → Bytes l → Bytes (take n l)
@@ -59,7 +59,7 @@ bytes-cons x l h b (suc i) = b i
 bytes-spliced : (p : List ℕ) (at gone top : ℕ) (new : List ℕ) → Bytes p → Bytes new → Bytes (spliced p at gone top new)
 bytes-spliced p at gone top new b v =
     let rest = bytes-append (take (top - (at + gone)) (drop (at + gone) p)) (drop (at + length new + (top - (at + gone))) p)
-      (bytes-take (top - (at + gone)) (drop (at + gone) p) (bytes-drop (at + gone) p b)) (bytes-drop (at + length new + (top - (at + gone))) p b) in
+    (bytes-take (top - (at + gone)) (drop (at + gone) p) (bytes-drop (at + gone) p b)) (bytes-drop (at + length new + (top - (at + gone))) p b) in
     bytes-append (take at p) _ (bytes-take at p b) (bytes-append new _ v rest)
 
 bytes-record : (n : ℕ) (t : List ℕ) → n < 65536 → length t + 4 < 256 → Bytes t → Bytes (recordBytes (record { line = n; text = t }))
@@ -76,8 +76,8 @@ module _ (page : List ℕ) (bytes : Bytes page) where
       let s : Seat = seatOf page n in
       by-cases (canStore page s (length t + 4))
       (λ e.
-        let k = leb-true (length t + 4) 255 (both (leb (length t + 4) 255) _ (both (leb (used page) (length page)) _ e .1) .0) in
-        rw (e, if_then_else_) (bytes-spliced page (s .at) (s .gone) (used page) (recordBytes (record { line = n; text = t })) bytes (bytes-record n t h (omega arith) b)))
+      let k = leb-true (length t + 4) 255 (both (leb (length t + 4) 255) _ (both (leb (used page) (length page)) _ e .1) .0) in
+      rw (e, if_then_else_) (bytes-spliced page (s .at) (s .gone) (used page) (recordBytes (record { line = n; text = t })) bytes (bytes-record n t h (omega arith) b)))
       (λ e. rw (e, if_then_else_) bytes)
 
   pub delete-bytes : (n : ℕ) → Bytes (deleteOf page n .page)
@@ -86,8 +86,8 @@ module _ (page : List ℕ) (bytes : Bytes page) where
       let s : Seat = seatOf page n in
       by-cases (ltb (s .gone) 1) (λ e. rw (e, if_then_else_) bytes)
       (λ e. by-cases (leb (used page) (length page))
-        (λ f. rw (e, f, if_then_else_) (bytes-spliced page (s .at) (s .gone) (used page) [] bytes (λ i. omega arith)))
-        (λ f. rw (e, f, if_then_else_) bytes))
+      (λ f. rw (e, f, if_then_else_) (bytes-spliced page (s .at) (s .gone) (used page) [] bytes (λ i. omega arith)))
+      (λ f. rw (e, f, if_then_else_) bytes))
 
 -- a text's bytes are bytes, and so are a program's
 text-bytes : {t : List ℕ} → All isText t → Bytes t
@@ -119,16 +119,16 @@ found zero page n at q h e = absurd (omega arith)
 found (suc k) page n at q h e =
     by-cases (stopsAt (drop at page)) (λ f. let g : none ≡ some q = sym (ap (positionIn n at) (stop (drop at page) f)) ∙ e in let z : _≡_ {A = ℕ} 0 1 = cc in absurd (omega arith))
     (λ f.
-      let m = met page at (sizeAt (drop at page)) refl (omega (arith, size-some (drop at page) f)) in
-      by-cases (eqb (lineAt (drop at page)) n)
-      (λ g.
-        let is : some at ≡ some q = sym (rw (m .records, g)) ∙ e in
-        let at-q : at ≡ q = cc in
-        rw (← at-q) (record { inside = m .inside; line = eqb-true (lineAt (drop at page)) n g; there = f }))
-      (λ g.
-        let next = at + sizeAt (drop at page) in
-        let on : positionIn n at (recordsOf (drop at page)) ≡ positionIn n next (recordsOf (drop next page)) = rw (m .records, g, m .long) in
-        found k page n next q (omega (arith, size-some (drop at page) f, m .inside)) (sym on ∙ e)))
+    let m = met page at (sizeAt (drop at page)) refl (omega (arith, size-some (drop at page) f)) in
+    by-cases (eqb (lineAt (drop at page)) n)
+    (λ g.
+    let is : some at ≡ some q = sym (rw (m .records, g)) ∙ e in
+    let at-q : at ≡ q = cc in
+    rw (← at-q) (record { inside = m .inside; line = eqb-true (lineAt (drop at page)) n g; there = f }))
+    (λ g.
+    let next = at + sizeAt (drop at page) in
+    let on : positionIn n at (recordsOf (drop at page)) ≡ positionIn n next (recordsOf (drop next page)) = rw (m .records, g, m .long) in
+    found k page n next q (omega (arith, size-some (drop at page) f, m .inside)) (sym on ∙ e)))
 
 pub find-stands : (page : List ℕ) (n q : ℕ) → find page n ≡ some q → Stands page n q
 unfolding find

@@ -45,13 +45,13 @@ module _ (n : ℕ) where
   unfolding digits
   digits-4 h k =
       sym (ap length (more 4 n [] (omega arith) ∙ more 3 (n / 10) _ (omega arith) ∙ more 2 (n / 10 / 10) _ (omega arith))
-        ∙ last 1 (n / 10 / 10 / 10) _ (omega arith))
+      ∙ last 1 (n / 10 / 10 / 10) _ (omega arith))
 
   pub digits-5 : 10000 ≤ n → n < 65536 → 5 ≡ length (digits n)
   unfolding digits
   digits-5 h k =
       sym (ap length (more 4 n [] (omega arith) ∙ more 3 (n / 10) _ (omega arith) ∙ more 2 (n / 10 / 10) _ (omega arith) ∙ more 1 (n / 10 / 10 / 10) _ (omega arith))
-        ∙ last 0 (n / 10 / 10 / 10 / 10) _ (omega arith))
+      ∙ last 0 (n / 10 / 10 / 10 / 10) _ (omega arith))
 
 -- a record's text is a part of its page
 take-own : (m : ℕ) (l : List ℕ) → take (length (take m l)) l ≡ take m l
@@ -86,10 +86,10 @@ line-written r {out} {one} {two} {pos} {a} {b} e u v f h =
     let g : two ≡ sets (sets out pos ds) (pos + length ds) t = written v (omega arith) ∙ ap (λ (o : List ℕ). sets o (pos + length ds) t) d in
     let to : pos + length (listed r) ≡ e + 2 = omega arith in
     let all : sets out pos (listed r) ≡ set (set two e 13) (e + 1) 10 =
-      sets-append ds (t ++ (13 ∷ 10 ∷ [])) out pos
-      ∙ sets-append t (13 ∷ 10 ∷ []) (sets out pos ds) (pos + length ds)
-      ∙ (λ i. sets (sym g i) (sym f i) (13 ∷ 10 ∷ []))
-      ∙ ap (λ (n : ℕ). set (set two e 13) n 10) (sym (add-one e)) in
+    sets-append ds (t ++ (13 ∷ 10 ∷ [])) out pos
+    ∙ sets-append t (13 ∷ 10 ∷ []) (sets out pos ds) (pos + length ds)
+    ∙ (λ i. sets (sym g i) (sym f i) (13 ∷ 10 ∷ []))
+    ∙ ap (λ (n : ℕ). set (set two e 13) n 10) (sym (add-one e)) in
     rw (← to, ← all) (writes-whole out (listed r) pos (omega arith))
 
 -- the listing, one record at a time
@@ -99,25 +99,25 @@ module _ (n : ℕ) (r : Stored) (rs : List Stored) {out after : List ℕ} {at : 
   list-on next h =
       by-cases (leb n (r .line))
       (λ e. by-cases (fits out at (listed r))
-        (λ f.
-          let w = h .from e in
-          let a : is next ≡ is (at + length (listed r)) = w .answer ∙ rw f in
-          let b : at + length (listed r) ≡ next = cc in
-          let o : after ≡ sets out at (listed r) = w .output ∙ rw f in
-          rw (e, f, listing) (λ i. listing n rs (sym o i) (b i)))
-        (λ f. let a : is next ≡ no 17 = h .from e .answer ∙ rw f in let z : _≡_ {A = ℕ} 0 1 = cc in absurd (omega arith)))
+      (λ f.
+      let w = h .from e in
+      let a : is next ≡ is (at + length (listed r)) = w .answer ∙ rw f in
+      let b : at + length (listed r) ≡ next = cc in
+      let o : after ≡ sets out at (listed r) = w .output ∙ rw f in
+      rw (e, f, listing) (λ i. listing n rs (sym o i) (b i)))
+      (λ f. let a : is next ≡ no 17 = h .from e .answer ∙ rw f in let z : _≡_ {A = ℕ} 0 1 = cc in absurd (omega arith)))
       (λ e.
-        let w = h .below e in
-        let b : at ≡ next = cc in
-        rw (e, listing) (λ i. listing n rs (sym (w .1) i) (b i)))
+      let w = h .below e in
+      let b : at ≡ next = cc in
+      rw (e, listing) (λ i. listing n rs (sym (w .1) i) (b i)))
 
   pub list-full : Here n r out at Full after → listing n (r ∷ rs) out at ≡ shown after (lines.Full at)
   unfolding listing
   list-full h =
       by-cases (leb n (r .line))
       (λ e. by-cases (fits out at (listed r))
-        (λ f. let a : no 17 ≡ is (at + length (listed r)) = h .from e .answer ∙ rw f in let z : _≡_ {A = ℕ} 0 1 = cc in absurd (omega arith))
-        (λ f. let o : after ≡ out = h .from e .output ∙ rw f in rw (e, f, listing) (ap (λ (l : List ℕ). shown l (lines.Full at)) (sym o))))
+      (λ f. let a : no 17 ≡ is (at + length (listed r)) = h .from e .answer ∙ rw f in let z : _≡_ {A = ℕ} 0 1 = cc in absurd (omega arith))
+      (λ f. let o : after ≡ out = h .from e .output ∙ rw f in rw (e, f, listing) (ap (λ (l : List ℕ). shown l (lines.Full at)) (sym o))))
       (λ e. let w = h .below e .0 in let z : _≡_ {A = ℕ} 0 1 = cc in absurd (omega arith))
 
 -- a listing is the definition's
@@ -127,6 +127,6 @@ list-is n [] w = refl
 list-is n (r ∷ rs) w =
     by-cases (leb n (r .line))
     (λ e. by-cases (fits (w .output) (w .outpos) (listed r))
-      (λ f. rw (e, f, listing, listFrom) (list-is n rs (withOutput w (sets (w .output) (w .outpos) (listed r)) (w .outpos + length (listed r)))))
-      (λ f. rw (e, f, listing, listFrom)))
+    (λ f. rw (e, f, listing, listFrom) (list-is n rs (withOutput w (sets (w .output) (w .outpos) (listed r)) (w .outpos + length (listed r)))))
+    (λ f. rw (e, f, listing, listFrom)))
     (λ e. rw (e, listing, listFrom) (list-is n rs w))

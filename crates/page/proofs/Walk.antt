@@ -147,7 +147,8 @@ met p at n e h =
       inside = omega arith;
       next = omega arith;
       long = sym (size-is q f) ∙ sym e;
-      records = step q f ∙ ap (λ (r : List ℕ). recordAt q ∷ recordsOf r) (ap (λ (k : ℕ). drop k q) (sym e) ∙ drop-drop n at p) }
+      records = step q f ∙ ap (λ (r : List ℕ). recordAt q ∷ recordsOf r) (ap (λ (k : ℕ). drop k q) (sym e) ∙ drop-drop n at p);
+    }
 
 pub past : (p : List ℕ) (at n : ℕ) → n ≡ sizeAt (drop at p) → n ≤ 0 → recordsOf (drop at p) ≡ []
 past p at n e h = stop (drop at p) (none-size (drop at p) (omega arith))

@@ -70,5 +70,8 @@ newOf page = if leb 2 (length page) then changed (onto page []) edited.Done else
 -- What an edit's answer says: its stop, and that the stacks are cleared
 abbrev pub outcomeOf : World → Changed → Outcome
 outcomeOf w c =
-    elim (c .answer) [ edited.Done ↦ stops 0 (withSession w (clearStacks (w .session))) (c .page)
-    | edited.NoRoom ↦ stops 2 w (c .page) | edited.Absent ↦ stops 0 w (c .page) ]
+    elim (c .answer) [
+      | edited.Done ↦ stops 0 (withSession w (clearStacks (w .session))) (c .page)
+      | edited.NoRoom ↦ stops 2 w (c .page)
+      | edited.Absent ↦ stops 0 w (c .page)
+    ]

@@ -28,9 +28,9 @@ listing n [] out at = shown out (All at)
 listing n (r ∷ rs) out at =
     elim (leb n (r .line)) [
       | true ↦ elim (fits out at (listed r)) [
-          | true ↦ listing n rs (sets out at (listed r)) (at + length (listed r))
-          | false ↦ shown out (Full at)
-        ]
+        | true ↦ listing n rs (sets out at (listed r)) (at + length (listed r))
+        | false ↦ shown out (Full at)
+      ]
       | false ↦ listing n rs out at
     ]
 

@@ -250,24 +250,15 @@ fn find_seat(page: &[u8], number: LineNumber) -> Seat
     while 0 < size {
         let line = line_at(page, at);
         if line == n {
-            return Seat {
-                at: at,
-                gone: size,
-            };
+            return Seat { at: at, gone: size };
         }
         if n < line {
-            return Seat {
-                at: at,
-                gone: 0,
-            };
+            return Seat { at: at, gone: 0 };
         }
         at += size;
         size = size_at(page, at);
     }
-    Seat {
-        at: at,
-        gone: 0,
-    }
+    Seat { at: at, gone: 0 }
 }
 
 // n bytes go to a lower place, the first one first.

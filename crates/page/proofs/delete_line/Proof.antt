@@ -69,8 +69,8 @@ returns-3 c =
     let x = c .before .before .before .before .before .used-from .result in
     let q = take (length (a .page .now) - s .at) (drop (s .at) (a .page .now)) in
     ap (λ (l : List ℕ). changed l edited.Done)
-        (part-spliced (a .page .now) [] (c .before .before .shift .last .0) (s .at) (s .gone) x (omega arith) (c .before .before .shift .ensures ∙ front-spliced q [] (s .gone) (x - s .at))
-        ∙ ap (λ (n : ℕ). spliced (a .page .now) (s .at) (s .gone) n []) (k .0))
+    (part-spliced (a .page .now) [] (c .before .before .shift .last .0) (s .at) (s .gone) x (omega arith) (c .before .before .shift .ensures ∙ front-spliced q [] (s .gone) (x - s .at))
+    ∙ ap (λ (n : ℕ). spliced (a .page .now) (s .at) (s .gone) n []) (k .0))
     ∙ delete-done h (c .before .before .before .before .before .before .before .if1 .left) (omega arith)
 
 pub delete-line-spec : {M : Type 1} → statement M

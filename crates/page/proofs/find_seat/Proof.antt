@@ -40,7 +40,7 @@ returns c =
     let m = turn (c .before .before) in
     let e = sym (c .before .line-at .ensures) ∙ c .if1 .taken in
     let here : seatIn n (l .at) (recordsOf (drop (l .at) p)) ≡ record { at = l .at; gone = l .size } =
-      rw (m .records, le-ltb (lineAt (drop (l .at) p)) n (omega arith), eq-eqb (lineAt (drop (l .at) p)) n e, m .long) in
+    rw (m .records, le-ltb (lineAt (drop (l .at) p)) n (omega arith), eq-eqb (lineAt (drop (l .at) p)) n e, m .long) in
     record { is = sym here ∙ l .inv .1 .1 .0; inside = l .inv .0; rest = l .inv .1 .1 .1 }
 
 returns-2 : tie.Need-returns-2 Inv-loop μ-loop
@@ -53,7 +53,7 @@ returns-2 c =
     let e = c .before .before .line-at .ensures in
     let no : lineAt (drop (l .at) p) ≡ n → ⊥ = λ f. c .before .if1 .left (e ∙ f) in
     let here : seatIn n (l .at) (recordsOf (drop (l .at) p)) ≡ record { at = l .at; gone = 0 } =
-      rw (m .records, le-ltb (lineAt (drop (l .at) p)) n (omega arith), ne-eqb (lineAt (drop (l .at) p)) n no) in
+    rw (m .records, le-ltb (lineAt (drop (l .at) p)) n (omega arith), ne-eqb (lineAt (drop (l .at) p)) n no) in
     record { is = sym here ∙ l .inv .1 .1 .0; inside = l .inv .0; rest = l .inv .1 .1 .1 }
 
 add-at : tie.Need-add-at Inv-loop μ-loop
@@ -73,10 +73,16 @@ loop-again c =
     let n = a .number .0 in
     let m = turn (c .before .before .before .before) in
     let e = c .before .before .before .line-at .ensures in
-    let less : lineAt (drop (l .at) p) < n = omega (arith, c .before .before .if1 .left) in
-    (m .next, (c .size-at2 .ensures,
-      (sym (rw (m .records, lt-ltb (lineAt (drop (l .at) p)) n less, m .long)) ∙ l .inv .1 .1 .0,
-        omega (arith, ap usedBy (m .records)) ∙ l .inv .1 .1 .1)))
+    let less : lineAt (drop (l .at) p) < n = omega (arith, c .before .before .if1 .left) in (
+      m .next,
+      (
+        c .size-at2 .ensures,
+        (
+          sym (rw (m .records, lt-ltb (lineAt (drop (l .at) p)) n less, m .long)) ∙ l .inv .1 .1 .0,
+          omega (arith, ap usedBy (m .records)) ∙ l .inv .1 .1 .1,
+        ),
+      ),
+    )
 
 returns-3 : tie.Need-returns-3 Inv-loop μ-loop
 returns-3 c =

@@ -64,10 +64,17 @@ loop-again c =
     let m = turn (c .before .before) in
     let x = c .before .before .before .before .before .before .before .args .place .0 in
     let h : l .size ≤ x - l .at = c .before .if1 .left in
-    let e : x - l .at - l .size ≡ x - (l .at + l .size) = omega arith in
-    (omega arith, (m .next, (c .size-at2 .ensures,
-      ap (λ (k : ℕ). lineIn k (recordsOf (drop (l .at + l .size) p))) (sym e)
-      ∙ sym (rw (m .records, m .long, le-ltb (x - l .at) (l .size) h)) ∙ l .inv .1 .1 .1)))
+    let e : x - l .at - l .size ≡ x - (l .at + l .size) = omega arith in (
+      omega arith,
+      (
+        m .next,
+        (
+          c .size-at2 .ensures,
+          ap (λ (k : ℕ). lineIn k (recordsOf (drop (l .at + l .size) p))) (sym e)
+              ∙ sym (rw (m .records, m .long, le-ltb (x - l .at) (l .size) h)) ∙ l .inv .1 .1 .1,
+        ),
+      ),
+    )
 
 returns-2 : tie.Need-returns-2 Inv-loop μ-loop
 returns-2 c =

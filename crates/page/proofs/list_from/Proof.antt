@@ -71,11 +71,18 @@ loop-again c =
     let n = a .number .0 in
     let m = turn (c .before .before .before .before .before .before .before .before) in
     let r = recordAt (drop (l .at) p) in
-    let h = rw (c .before .before .next .given .1) at (c .before .before .before .before .before .before .list-here .ensures) in
-    (m .next, (c .size-at2 .ensures, (c .before .before .before .before .before .output .given ∙ l .inv .1 .1 .0,
-      sym (list-on n r (recordsOf (drop (l .at + l .size) p)) _ h)
-      ∙ ap (λ (rs : List Stored). listing n rs (l .output) (l .pos)) (sym (m .records))
-      ∙ l .inv .1 .1 .1)))
+    let h = rw (c .before .before .next .given .1) at (c .before .before .before .before .before .before .list-here .ensures) in (
+      m .next,
+      (
+        c .size-at2 .ensures,
+        (
+          c .before .before .before .before .before .output .given ∙ l .inv .1 .1 .0,
+          sym (list-on n r (recordsOf (drop (l .at + l .size) p)) _ h)
+              ∙ ap (λ (rs : List Stored). listing n rs (l .output) (l .pos)) (sym (m .records))
+              ∙ l .inv .1 .1 .1,
+        ),
+      ),
+    )
 
 same-length-2 : tie.Need-same-length-2 Inv-loop μ-loop
 same-length-2 c = c .before .loop .inv .1 .1 .0

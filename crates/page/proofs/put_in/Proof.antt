@@ -35,7 +35,7 @@ returns c =
     let n : ℕ = a .top - a .gone in
     c .before .before .put-record .ensures
     ∙ ap (λ (l : List ℕ). recordBytes r ++ l)
-        (ap (drop (length t + 4)) (c .before .before .before .before .before .before .shift .ensures) ∙ drop-pasted s (drop (a .gone) s) (length t + 4) n (omega arith))
+    (ap (drop (length t + 4)) (c .before .before .before .before .before .before .shift .ensures) ∙ drop-pasted s (drop (a .gone) s) (length t + 4) n (omega arith))
     ∙ ap (λ (k : ℕ). recordBytes r ++ (take n (drop (a .gone) s) ++ drop (k + n) s)) (sym (record-length r))
     ∙ front-spliced s (recordBytes r) (a .gone) (a .top)
 

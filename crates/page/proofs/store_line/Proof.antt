@@ -88,8 +88,8 @@ returns-4 c =
     let r : Stored = record { line = a .number .0; text = a .text .now } in
     let x = c .before .before .before .before .before .before .before .used-from .result in
     ap (λ (q : List ℕ). changed q edited.Done)
-        (part-spliced (a .page .now) (recordBytes r) (c .before .before .put-in .last .0) (s .at) (s .gone) x (omega arith) (c .before .before .put-in .ensures)
-        ∙ ap (λ (n : ℕ). spliced (a .page .now) (s .at) (s .gone) n (recordBytes r)) (k .0))
+    (part-spliced (a .page .now) (recordBytes r) (c .before .before .put-in .last .0) (s .at) (s .gone) x (omega arith) (c .before .before .put-in .ensures)
+    ∙ ap (λ (n : ℕ). spliced (a .page .now) (s .at) (s .gone) n (recordBytes r)) (k .0))
     ∙ store-done h (a .text .now) (omega arith) (omega arith) (omega arith)
 
 pub store-line-spec : {M : Type 1} → statement M
