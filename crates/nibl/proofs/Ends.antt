@@ -1,21 +1,22 @@
 -- Which bytes a reading is of, and where its members end. Assumes nothing.
 use Prim.Native.Nat.{ℕ, suc, _-_, _≤_, _<_}
 use mathlib.Core.Path.{_≡_, refl, sym, ap, _∙_}
-use mathlib.Core.Bool.{Bool, true, false, not, false≢true}
+use mathlib.Core.Bool.{Bool, true, false, not, _&&_, false≢true}
 use mathlib.Core.List.{List, [], _∷_, _++_, append-assoc}
 use mathlib.Core.Option.{some}
 use native.Mathlib.Omega.{arith}
-use borrow.Author.Tests.{eqb-true, not-true}
-use lib.ListN.{length, take, drop, length-append, length-drop}
-use lib.Seq.{take-at}
-use lib.Dec.{eqb}
-use Rattle.nibl.specs.Bytes.{if_then_else_, same, isSpace, isDigit, isText, isQuotable, All, none as done, each, starts, past}
-use Rattle.nibl.specs.Words.{Token, string, sign, placeFrom, Word, spaced, letter, letters, digits, hexDigits, quoted, pair, symbol}
+use native.Mathlib.Nat.{add-zero}
+use borrow.Author.Tests.{eqb-true, leb-true, ne-eqb, not-true}
+use lib.ListN.{length, take, drop, getD, length-append, length-drop}
+use lib.Seq.{take-at, getD-drop}
+use lib.Dec.{leb, eqb}
+use Rattle.nibl.specs.Bytes.{if_then_else_, isSpace, isDigit, isText, isQuotable, notCR, All, none as done, each, starts, past}
+use Rattle.nibl.specs.Words.{Token, string, sign, Word, spaced, letter, letters, digits, hexDigits, quoted, pair, symbol}
 use Rattle.nibl.specs.Grammar.{Key, Statement, anIf, aRemark, Members, lastMember, moreMembers, Line, aBlank, aDelete, aStore, aNew, aClear, aRun, aList, aListFrom, anImmediate}
 use Rattle.nibl.specs.Tree.{Expr, Stmt, remark, ifThen, Member, Typed, store}
 use Rattle.nibl.specs.Read.{found, member, reading}
-use Rattle.nibl.proofs.Words.{and-right, of-pairs, no-symbol, capital-other, word-unique}
-use Rattle.nibl.proofs.Over.{Outside, here, byte, inQuotes, outside-trans, outside-passed, outside-length, Passed, passed-trans, passed-text, passed-drop, passed-rest, text-passed, word-over}
+use Rattle.nibl.proofs.Words.{and-left, and-right, of-pairs, no-symbol, capital-other, place-least, word-unique, decimal-small}
+use Rattle.nibl.proofs.Over.{Outside, here, byte, inQuotes, outside-trans, outside-passed, outside-length, Passed, passed-trans, passed-text, passed-drop, passed-rest, text-passed, word-over, word-rest}
 use Rattle.nibl.proofs.Rules.{W, it, ok-found}
 use Rattle.nibl.proofs.Statements.{Left, outside, taken, statement-left, left-passed}
 use Rattle.nibl.proofs.Lines.{C, AMember, atEnd, atColon, member-same, reading-sound}
@@ -31,6 +32,10 @@ all-also f (each {b} e a) = each (f b e) (all-also f a)
 
 spaces-text : {s : List ℕ} → All isSpace s → All isText s
 spaces-text a = all-also (λ b e. rw (eqb-true b 32 e)) a
+
+-- and so no CR
+pub text-notCR : {s : List ℕ} → All isText s → All notCR s
+text-notCR a = all-also (λ b e. let h = leb-true 32 b (and-left (leb 32 b) (leb b 126) (and-left (leb 32 b && leb b 126) (not (eqb b 95)) e)) in rw (ne-eqb b 13 (omega arith))) a
 
 rest-text : {s t : List ℕ} → Passed s t → All isText s → All isText t
 rest-text here a = a
@@ -92,14 +97,6 @@ members-first {s} ms = first-undigit s (members-undigit ms)
 
 -- Where a member ends
 -- the word ":" is that byte
-place-least : (n : ℕ) (table : List (List ℕ)) (w : List ℕ) (k : ℕ) → placeFrom n table w ≡ some k → n ≤ k
-place-least n [] w k e = let z : _≡_ {A = ℕ} 0 1 = cc in absurd (omega arith)
-place-least n (v ∷ vs) w k e = go (same v w) (place-least (suc n) vs w k) e
-  where
-    go : (t : Bool) → (placeFrom (suc n) vs w ≡ some k → suc n ≤ k) → (if t then some n else placeFrom (suc n) vs w) ≡ some k → n ≤ k
-    go true f h = let i : n ≡ k = cc in omega arith
-    go false f h = omega (arith, f h)
-
 colon : {table : List (List ℕ)} {t u : List ℕ} {w : Token} → Word table t w u → w ≡ sign 58 → Outside t (58 ∷ u)
 colon (spaced w) e = byte refl (colon w e)
 colon (letter r) e = let z : _≡_ {A = ℕ} 0 1 = cc in absurd (omega arith)
@@ -160,6 +157,11 @@ after (lastMember p a) (later f) = none-follow f refl
 after {n} (moreMembers {u} p k ms) (first e) = let h : length u ≡ n = omega arith in rw (← h) (after-more (statement-colon p k) (at-colon ms))
 after (moreMembers p k ms) (later f) = after-more (outside-trans (statement-colon p k) (byte refl here)) (after ms f)
 
+pub end-colon : {s : List ℕ} {n : ℕ} {ms rest : List Member} → Members W s ms → Followed ms n rest → getD s (length s - suc n) 0 ≡ 58
+end-colon {s} {n} ms f =
+    let m = length s - suc n in
+    ap (λ (k : ℕ). getD s k 0) (sym (add-zero m)) ∙ sym (getD-drop m s 0 0) ∙ ap (λ (l : List ℕ). getD l 0 0) (after ms f .colon)
+
 -- the last end is the text's
 pub last-left : {s : List ℕ} {m : Member} {ms : List Member} → Members W s (m ∷ ms) → m .left ≡ 0 → ms ≡ []
 last-left (lastMember p a) e = refl
@@ -189,9 +191,29 @@ member-passed (atColon p k) = passed-trans (left-passed (statement-left p)) (out
 pub member-rest : (s t : List ℕ) (m : Member) → member s ≡ found m t → drop (length s - length t) s ≡ t
 member-rest s t m e = passed-rest (member-passed (ok-found (rw e at (it (member-same s)))))
 
--- "Its first byte is no digit": of a stored text by the number before it too
-pub stored-first : {s t : List ℕ} {n : ℕ} {ms : List Member} → Line W C s (store n t ms) → starts isDigit t ≡ false
-stored-first (aStore w ms) = members-first ms
+-- the same, of the member that follows: it is what `member` finds there
+pub member-after : (s : List ℕ) {n : ℕ} {m : Member} {ms rest : List Member} → reading s ≡ some ms → Followed ms n (m ∷ rest) → Begins (drop (length s - n) s) m rest
+member-after s {n} e f = reading-begins (drop (length s - n) s) (reading-after s e f)
+
+-- there is always a first
+some-member : {s : List ℕ} {ms : List Member} → Members W s ms → ms ≡ [] → ⊥
+some-member (lastMember p a) h = let z : _≡_ {A = ℕ} 0 1 = cc in omega arith
+some-member (moreMembers p k ms) h = let z : _≡_ {A = ℕ} 0 1 = cc in omega arith
+
+pub reading-some : (s : List ℕ) → reading s ≡ some [] → ⊥
+reading-some s e = some-member (reading-sound s [] e) refl
+
+-- A stored text is the end of the line, after its number
+pub record StoredLine (s : List ℕ) (n : ℕ) (t : List ℕ) (ms : List Member) : Type 0 where
+  pub small : n ≤ 32767
+  pub rest : drop (length s - length t) s ≡ t
+  pub reads : reading t ≡ some ms
+  pub text : All isText t
+  pub undigit : starts isDigit t ≡ false
+
+pub stored-line : {s t : List ℕ} {n : ℕ} {ms : List Member} → Line W C s (store n t ms) → StoredLine s n t ms
+stored-line (aStore w ms) =
+    record { small = decimal-small w; rest = word-rest w; reads = reading-complete ms; text = members-text ms; undigit = members-first ms }
 
 -- REM's rest separates nothing
 pub data Remarks : Stmt → Type 0 where

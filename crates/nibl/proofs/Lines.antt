@@ -59,6 +59,10 @@ pub reading-same : (s : List ℕ) → Alike (OkSome (Members W s)) (reading s) (
 unfolding reading
 reading-same s = membersN-same (suc (length s)) (suc (length s)) s (omega arith) (omega arith)
 
+pub membersN-eq : (k : ℕ) (s : List ℕ) → length s < k → membersN k s ≡ reading s
+unfolding reading
+membersN-eq k s h = same (membersN-same k (suc (length s)) s h (omega arith))
+
 -- The reader of a statement list without a bound
 pub reading-eq : (s : List ℕ) → reading s ≡ orElse (member s) (from reading) unread s
 unfolding reading membersN

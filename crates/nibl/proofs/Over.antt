@@ -1,7 +1,7 @@
 -- What stands before the rest of a reading: text bytes, with every quote paired. Assumes nothing.
 use Prim.Native.Nat.{ℕ, suc, _-_, _≤_, _<_}
 use mathlib.Core.Path.{_≡_, refl, ap, _∙_}
-use mathlib.Core.Bool.{Bool, true, false, not, _&&_, false≢true}
+use mathlib.Core.Bool.{Bool, true, not, _&&_, false≢true}
 use mathlib.Core.List.{List, [], _∷_, _++_}
 use mathlib.Core.Option.{some}
 use native.Mathlib.Omega.{arith}
@@ -9,8 +9,8 @@ use native.Mathlib.Nat.{sub-self}
 use borrow.Author.Tests.{le-leb, eqb-true, ne-eqb}
 use lib.ListN.{length, drop, length-append}
 use lib.Dec.{leb, eqb}
-use Rattle.nibl.specs.Bytes.{isSpace, isDigit, isCapital, isHexDigit, isText, isQuotable, All, none as done, each, starts}
-use Rattle.nibl.specs.Words.{Token, decimal, Run, Word, spaced, letter, letters, digits, hexDigits, quoted, pair, symbol}
+use Rattle.nibl.specs.Bytes.{isSpace, isDigit, isCapital, isHexDigit, isText, isQuotable, All, none as done, each}
+use Rattle.nibl.specs.Words.{Token, Run, Word, spaced, letter, letters, digits, hexDigits, quoted, pair, symbol}
 use Rattle.nibl.proofs.Words.{and-left, or-cases, of-symbols, of-pairs, between}
 
 -- `Outside s s'`: s' is the end of s from a place on that stands outside every string, and what stands before is text
@@ -121,8 +121,3 @@ word-short w = word-over w .short
 
 pub word-rest : {table : List (List ℕ)} {s s' : List ℕ} {w : Token} → Word table s w s' → drop (length s - length s') s ≡ s'
 word-rest w = passed-rest (outside-passed (word-over w .out))
-
--- no digit follows a number
-pub decimal-ends : {table : List (List ℕ)} {n : ℕ} {s s' : List ℕ} → Word table s (decimal n) s' → starts isDigit s' ≡ false
-decimal-ends (spaced w) = decimal-ends w
-decimal-ends (digits r l) = r .longest

@@ -118,6 +118,10 @@ module _ {A : Type 0} {one : Reader A} {P : List ℕ → A → List ℕ → Type
   unfolding joined
   joined-same s = joinedN-same (suc (length s)) (suc (length s)) s (omega arith) (omega arith)
 
+  pub joinedN-eq : (k : ℕ) (s : List ℕ) → length s < k → joinedN one k s ≡ joined one s
+  unfolding joined
+  joinedN-eq k s h = same (joinedN-same k (suc (length s)) s h (omega arith))
+
   pub joined-eq : (s : List ℕ) → joined one s ≡ (one >>= (λ a. ifKey "," (joined one >>= (λ as′. give (a ∷ as′))) (give (a ∷ [])))) s
   unfolding joined joinedN
   joined-eq s = same (joined-by (joinedN one (length s)) (joined one) s (λ u l. joinedN-same (length s) (suc (length u)) u l (omega arith)))

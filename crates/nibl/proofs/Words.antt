@@ -245,6 +245,15 @@ of-table p n (v ∷ vs) w k a e = go (same v w) refl (of-table p (suc n) vs w k 
     go true h f i = subst (λ (x : List ℕ). p x ≡ true) (same-spelling v w h) (and-left (p v) (entries p vs) a)
     go false h f i = f i
 
+-- its number is its place from there on
+pub place-least : (n : ℕ) (table : List (List ℕ)) (w : List ℕ) (k : ℕ) → placeFrom n table w ≡ some k → n ≤ k
+place-least n [] w k e = let z : _≡_ {A = ℕ} 0 1 = cc in absurd (omega arith)
+place-least n (v ∷ vs) w k e = go (same v w) (place-least (suc n) vs w k) e
+  where
+    go : (t : Bool) → (placeFrom (suc n) vs w ≡ some k → suc n ≤ k) → (if t then some n else placeFrom (suc n) vs w) ≡ some k → n ≤ k
+    go true f h = let i : n ≡ k = cc in omega arith
+    go false f h = omega (arith, f h)
+
 -- Complete
 module _ (table : List (List ℕ)) where
   pub letters-at : (b : ℕ) (cs s : List ℕ) → Run isCapital (b ∷ cs) s → stepIn table (b ∷ cs ++ s) ≡ lettersStep table (b ∷ cs) s
@@ -323,3 +332,31 @@ module _ (table other : List (List ℕ)) where
   retabled e (quoted a) = quoted a
   retabled e (pair h) = absurd (false≢true (sym e))
   retabled e (symbol h n) = absurd (false≢true (sym e))
+
+-- "Always the longest that fits": what follows would not make the word longer
+abbrev pub isWhole : Token → List ℕ → Bool
+isWhole (variable v) s = not (starts isCapital s)
+isWhole (decimal n) s = not (starts isDigit s)
+isWhole (hex n) s = not (starts isHexDigit s)
+isWhole (string bs) s = true
+isWhole (sign k) s = if leb 128 k then not (starts isCapital s) else not (pairsWith k s)
+
+-- a pair is no first byte of one
+pair-whole : (a b k : ℕ) (s : List ℕ) → pairs a b ≡ some k → isWhole (sign k) s ≡ true
+pair-whole a b k [] = of-pairs (λ x y n. isWhole (sign n) [] ≡ true) a b k refl refl refl
+pair-whole a b k (c ∷ s) = of-pairs (λ x y n. isWhole (sign n) (c ∷ s) ≡ true) a b k refl refl refl
+
+pub word-longest : {table : List (List ℕ)} {s s' : List ℕ} {w : Token} → Word table s w s' → isWhole w s' ≡ true
+word-longest (spaced w) = word-longest w
+word-longest (letter r) = rw (r .longest)
+word-longest {table} (letters {c} {d} {k} {cs} r e) = rw (le-leb 128 k (place-least 128 table (c ∷ d ∷ cs) k e)) (rw (r .longest))
+word-longest (digits r l) = rw (r .longest)
+word-longest (hexDigits r) = rw (r .longest)
+word-longest (quoted a) = refl
+word-longest (pair {a} {b} {k} {s} e) = pair-whole a b k s e
+word-longest (symbol {b} e n) = rw (no-symbol (leb 128) b refl e) (rw n)
+
+-- "A run of digits is a constant, at most 32,767"
+pub decimal-small : {table : List (List ℕ)} {n : ℕ} {s s' : List ℕ} → Word table s (decimal n) s' → n ≤ 32767
+decimal-small (spaced w) = decimal-small w
+decimal-small (digits r l) = l

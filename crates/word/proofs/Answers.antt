@@ -1,5 +1,5 @@
 -- One law for each answer of the word reader. Assumes nothing.
-use Prim.Native.Nat.{ℕ, zero, suc, _+_, _-_, _≤_, _<_}
+use Prim.Native.Nat.{ℕ, _+_, _-_, _≤_, _<_}
 use mathlib.Core.Path.{_≡_, _∙_, refl, ap, sym}
 use mathlib.Core.Bool.{Bool, true, false, _&&_}
 use mathlib.Core.List.{List, [], _∷_}
@@ -11,7 +11,7 @@ use lib.ListN.{length, drop, getD, drop-of-length-le}
 use lib.Seq.{slice}
 use Rattle.nibl.specs.Bytes.{if_then_else_, isSpace, isCapital, isDigit, isQuotable, starts, front, past}
 use Rattle.nibl.specs.Words.{variable, sign, placeIn, pairs, numberOr, isSymbol}
-use Rattle.nibl.specs.Read.{Step, ended, wrong, got, signOr, lettersStep, pairOr, symbolStep, wordStep, stepIn}
+use Rattle.nibl.specs.Read.{Step, ended, got, signOr, lettersStep, pairOr, wordStep, stepIn}
 use Rattle.word.specs.declared.Word.{Word}
 use Rattle.word.specs.declared.Word.the-variants.{Variable, Decimal, Hex, Text, Sign, End, Wrong}
 use Rattle.word.specs.Found.{Inside, Stands, tableOf, keysOf, keyOf, seat, lettersAt, decimalAt, hexAt, quotedAt, symbolAt}

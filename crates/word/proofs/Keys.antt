@@ -1,6 +1,6 @@
 -- A spelling as one number: how it is made, that it tells spellings apart, and where it stands in a list. Assumes nothing.
-use Prim.Native.Nat.{ℕ, zero, suc, _+_, _-_, _*_, _^_, _≤_, _<_}
-use mathlib.Core.Path.{_≡_, _∙_, refl, ap, sym}
+use Prim.Native.Nat.{ℕ, suc, _+_, _-_, _*_, _^_, _≤_, _<_}
+use mathlib.Core.Path.{_≡_, refl, ap}
 use mathlib.Core.Bool.{Bool, true, false, _&&_}
 use mathlib.Core.List.{List, [], _∷_, map}
 use native.Mathlib.Nat.{pow-le-pow-right}
@@ -10,9 +10,8 @@ use lib.Dec.{eqb, leb}
 use lib.ListN.{length, drop, getD, drop-of-length-le}
 use lib.Seq.{slice, slice-empty, slice-cons}
 use Rattle.nibl.specs.Bytes.{if_then_else_, same, isCapital, all}
-use Rattle.nibl.specs.Words.{placeFrom}
 use Rattle.nibl.specs.Read.{Step, wrong, got, signOr}
-use Rattle.nibl.specs.Words.{sign}
+use Rattle.nibl.specs.Words.{sign, placeFrom}
 use Rattle.word.specs.Found.{keyOf, seat, tableOf}
 use Rattle.word.proofs.Runs.{and-left, and-right, between, at-byte}
 

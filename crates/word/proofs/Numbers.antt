@@ -1,5 +1,5 @@
 -- Constants, a digit at a time. Assumes nothing.
-use Prim.Native.Nat.{ℕ, zero, suc, _+_, _-_, _*_, _%_, _≤_, _<_}
+use Prim.Native.Nat.{ℕ, _+_, _-_, _*_, _%_, _≤_, _<_}
 use mathlib.Core.Path.{_≡_, _∙_, refl, ap, sym}
 use mathlib.Core.Bool.{Bool, true, false, _&&_, _||_, false≢true}
 use mathlib.Core.List.{List, [], _∷_}
@@ -12,7 +12,7 @@ use Rattle.nibl.specs.Words.{hex}
 use Rattle.nibl.specs.Read.{got, hexStep}
 use Rattle.word.specs.declared.Word.the-variants.{Decimal, Hex, Wrong}
 use Rattle.word.specs.Found.{hexDigit, decimalAt, hexAt, Stands}
-use Rattle.word.proofs.Runs.{between, runEnd, run-cons, front-stop, end-go, end-stop, end-past, end-within, rest-stop}
+use Rattle.word.proofs.Runs.{between, runEnd, run-cons, front-stop, end-go, end-stop, end-past, rest-stop}
 
 -- v is the value of the digits from `from` up to i
 pub record Counted (text : List ℕ) (from v i : ℕ) : Type 0 where
@@ -74,12 +74,12 @@ hex-some [] s h = absurd (omega arith)
 hex-some (d ∷ ds) s h = refl
 
 module _ {text : List ℕ} {from v i : ℕ} (c : Hexed text from v i) where
-  pub hexed-go : (d : ℕ) → i < length text → isHexDigit (getD text i 0) ≡ true → d ≡ hexDigit (getD text i 0) → Hexed text from (v % 4096 * 16 + d) (i + 1)
-  hexed-go d h e f =
+  pub hexed-go : (u : ℕ) → i < length text → isHexDigit (getD text i 0) ≡ true → u ≡ v % 4096 * 16 + hexDigit (getD text i 0) → Hexed text from u (i + 1)
+  hexed-go u h e f =
       let b = getD text i 0 in
-      let ds = front isHexDigit (drop (i + 1) text) in
+      let low = hex-low u (v * 16 + hexDigit b) (front isHexDigit (drop (i + 1) text)) (omega arith) in
       record {
-        value = rw f (hex-low (v % 4096 * 16 + hexDigit b) (v * 16 + hexDigit b) ds (omega arith) ∙ sym (ap (λ (l : List ℕ). hexValue v l % 65536) (run-cons isHexDigit text i h e)) ∙ c .value);
+        value = low ∙ sym (ap (λ (l : List ℕ). hexValue v l % 65536) (run-cons isHexDigit text i h e)) ∙ c .value;
         end = sym (end-go isHexDigit text i h e) ∙ c .end;
       }
 

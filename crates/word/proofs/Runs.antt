@@ -1,5 +1,5 @@
 -- Runs of bytes along a text: where one ends, what it is and what follows it. Assumes nothing.
-use Prim.Native.Nat.{ℕ, zero, suc, _+_, _-_, _≤_, _<_}
+use Prim.Native.Nat.{ℕ, zero, suc, _+_, _≤_, _<_}
 use mathlib.Core.Path.{_≡_, _∙_, refl, ap, sym}
 use mathlib.Core.Bool.{Bool, true, false, _&&_}
 use mathlib.Core.List.{List, [], _∷_}
@@ -8,9 +8,9 @@ use native.Mathlib.Numerals.{add-one}
 use borrow.Author.Tests.{eqb-true, eqb-false, leb-true}
 use lib.Dec.{eqb, leb}
 use lib.ListN.{length, take, drop, getD, length-drop, drop-of-length-le}
-use lib.Seq.{slice, drop-cons, drop-drop, take-nil, drop-nil}
+use lib.Seq.{slice, drop-cons, drop-drop, take-nil}
 use native.Mathlib.Nat.{zero-add, suc-add}
-use Rattle.nibl.specs.Bytes.{if_then_else_, isDigit, isCapital, starts, front, past, all}
+use Rattle.nibl.specs.Bytes.{starts, front, past, all}
 
 -- two tests agree on the n numbers from lo on, by computation
 abbrev alike : Bool → Bool → Bool

@@ -1,5 +1,5 @@
 -- What the contracts of the word reader say, beyond the definition of words.
-use Prim.Native.Nat.{ℕ, zero, suc, _+_, _-_, _*_, _≤_, _<_}
+use Prim.Native.Nat.{ℕ, suc, _+_, _-_, _*_, _≤_, _<_}
 use mathlib.Core.Path.{_≡_}
 use mathlib.Core.Bool.{Bool, true, false}
 use mathlib.Core.List.{List, [], _∷_, map}
@@ -9,7 +9,6 @@ use lib.Seq.{slice}
 use Rattle.nibl.specs.Bytes.{if_then_else_, isSpace, isDigit, isCapital, isHexDigit, isQuotable, front, past, decimalValue}
 use Rattle.nibl.specs.Words.{variable, decimal, hex, string, sign, keywords, commands, isSymbol}
 use Rattle.nibl.specs.Read.{Step, ended, wrong, got, lettersStep, digitsStep, hexStep, quotedStep, symbolStep}
-use Rattle.word.specs.declared.Cursor.{Cursor}
 use Rattle.word.specs.declared.Word.{Word}
 use Rattle.word.specs.declared.Word.the-variants.{Variable, Decimal, Hex, Text, Sign, End, Wrong}
 

@@ -1,5 +1,5 @@
 // The word that stands at a cursor of a text: always the longest that fits.
-ghost use Prim.Native.Nat.{_+_, _-_, _≤_, _<_};
+ghost use Prim.Native.Nat.{_+_, _-_, _*_, _%_, _≤_, _<_};
 ghost use mathlib.Core.Path.{_≡_};
 ghost use mathlib.Core.Bool.{true};
 ghost use lib.ListN.{length, drop, getD};
@@ -122,7 +122,9 @@ fn is_symbol(b: u8) -> bool
 
 // Runs are of spaces, of capitals, or of what quotes may enclose.
 const SPACE: u8 = 0;
+
 const CAPITAL: u8 = 1;
+
 const QUOTABLE: u8 = 2;
 
 fn passes(kind: u8, b: u8) -> bool
@@ -255,7 +257,15 @@ fn hex_digit(b: u8) -> u16
     (b - 55) as u16
 }
 
-// The constant whose digits start at `from`, past the "#". Its low 16 bits count: the top digit falls out.
+// One hex digit more, in 16 bits: the top digit falls out.
+fn shifted(v: u16, b: u8) -> u16
+    requires { ⌜ isHexDigit b ≡ true ⌝ }
+    ensures { λ r. ⌜ r ≡ v % 4096 * 16 + hexDigit b ⌝ }
+{
+    v % 4096 * 16 + hex_digit(b)
+}
+
+// The constant whose digits start at `from`, past the "#": its low 16 bits.
 fn hex(text: &[u8], from: usize) -> Word
     requires { ⌜ from ≤ length (now text) ⌝ }
     ensures { λ r. ⌜ Stands hexAt (now (text .entry)) from r ⌝ }
@@ -267,7 +277,7 @@ fn hex(text: &[u8], from: usize) -> Word
         if !is_hex_digit(b) {
             break;
         }
-        v = v % 4096 * 16 + hex_digit(b);
+        v = shifted(v, b);
         i += 1;
     }
     if i == from {

@@ -9,9 +9,6 @@ use Rattle.word.specs.Found.{passing}
 use Rattle.word.proofs.Runs.{runEnd, end-go, end-stop, stops-at, stops-end}
 use Rattle.word.proofs.run_end.Statement.{statement}
 use Rattle.word.proofs.run_end.Tie as tie
-use Rattle.word.proofs.run_end.Reads as reads
-use Rattle.word.proofs.run_end.Lts as lts
-use Rattle.word.proofs.passes.Reads as passes-reads
 
 abbrev Inv-loop : tie.InvT-loop
 Inv-loop text from kind i₀ i = runEnd (passing kind) text i ≡ runEnd (passing kind) text from
