@@ -6,9 +6,10 @@ use mathlib.Core.List.{List, [], _∷_, _++_}
 use lib.ListN.{length, drop}
 use lib.Seq.{sets}
 use lib.Dec.{eqb}
-use Rattle.nibl.specs.Grammar.{Joints, factorJoints, termJoints, sumJoints}
-use Rattle.nibl.specs.Tree.{Op, Expr}
-use Rattle.nibl.specs.Read.{Found, nothing, found, Reader, aSign, aJoint, choose, fail, factorCases, read}
+use mathlib.Core.Option.{Option, none, some}
+use Rattle.nibl.specs.Grammar.{Joints, factorJoints, termJoints, sumJoints, jointOf}
+use Rattle.nibl.specs.Tree.{Op, Expr, modulo}
+use Rattle.nibl.specs.Read.{Found, nothing, found, Reader, aSign, aJoint, choose, fail, give, key, _>>=_, factorCases, read, term, relation, terms}
 use Rattle.relation.specs.Code.{opNumber, values}
 use Rattle.relation.specs.declared.After.{After}
 use Rattle.relation.specs.declared.After.the-variants.{Past, Other}
@@ -19,7 +20,7 @@ use Rattle.relation.specs.declared.Made.the-variants.{Next, NoReading}
 
 -- another sign than k, or none
 pub data Otherwise (k : ℕ) : Found ℕ → Type 0 where
-  none : Otherwise k nothing
+  nowhere : Otherwise k nothing
   another : {j : ℕ} {s : List ℕ} → eqb j k ≡ false → Otherwise k (found j s)
 
 abbrev pub AfterIs : ℕ → List ℕ → ℕ → After → Type 0
@@ -29,6 +30,14 @@ AfterIs k text at Other = Otherwise k (aSign (drop at text))
 -- the operators of factors, of terms, of sums
 abbrev pub jointsOf : ℕ → Joints
 jointsOf n = choose ((0, factorJoints) ∷ (1, termJoints) ∷ []) sumJoints n
+
+-- the number of the operator that a sign stands for; 12 for none
+abbrev pub numberOf : Option Op → ℕ
+numberOf none = 12
+numberOf (some o) = opNumber o
+
+abbrev pub operatorOf : ℕ → ℕ → ℕ
+operatorOf level k = numberOf (jointOf (jointsOf level) k)
 
 pub record Operator (js : Joints) (text : List ℕ) (at k q : ℕ) : Type 0 where
   pub low : at < q
@@ -79,6 +88,20 @@ pub record GotMore (r : Expr → Reader Expr) (text : List ℕ) (at : ℕ) (ops 
 abbrev pub MakesMore : (Expr → Reader Expr) → List ℕ → ℕ → List ℕ → ℕ → List ℕ → Made → Type 0
 MakesMore r text at ops o ops' (Next c o') = GotMore r text at ops o ops' (c .at) o'
 MakesMore r text at ops o ops' NoReading = (a : Expr) → r a (drop at text) ≡ nothing
+
+-- the parts of a factor, and a sum without a minus
+abbrev pub bracketing : Reader Expr
+bracketing = read relation >>= (λ a. key ")" (give a))
+
+-- the second relation of MOD, with its comma and ")"
+abbrev pub seconding : Reader Expr
+seconding = key "," (read relation >>= (λ b. key ")" (give b)))
+
+abbrev pub pairing : Reader Expr
+pairing = key "(" (read relation >>= (λ a. key "," (read relation >>= (λ b. key ")" (give (modulo a b))))))
+
+abbrev pub plain : Reader Expr
+plain = read term >>= (λ a. read (terms a))
 
 -- what a factor is that begins with the sign k
 abbrev pub cases : ℕ → Reader Expr
