@@ -65,6 +65,18 @@ module _ {text : List ℕ} where
     pub join-end : {ops : List ℕ} {r : Made} → JointIs js text r joined.Alone → Reads R values values text ops r ops r
     join-end h = record { low = omega arith; few = λ k. omega arith; gives = led (alone-leads h) (idle _) }
 
+  module _ {ops ops1 : List ℕ} {r s : Made} where
+    pub term-is : {ops2 : List ℕ} {t : Made} → Makes (read factor) values text ops r ops1 s → Reads (λ a. read (factors a)) values values text ops1 s ops2 t
+        → Makes (read term) values text ops r ops2 t
+    term-is = sequel read-term
+
+    pub relation-on : {ops2 ops3 : List ℕ} {m t u : Made} {v : ℕ} → Makes (read sum) values text ops r ops1 s → JointIs sumJoints text s (joined.By v m)
+        → Makes (read sum) values text ops1 m ops2 t → Written v ops2 t ops3 u → Makes (read relation) values text ops r ops3 u
+    relation-on y j z w = sequel read-relation y (join-on sumJoints sum (λ a. read (related a)) give read-related j z w (resting _))
+
+    pub relation-end : Makes (read sum) values text ops r ops1 s → JointIs sumJoints text s joined.Alone → Makes (read relation) values text ops r ops1 s
+    relation-end y j = sequel read-relation y (join-end sumJoints sum (λ a. read (related a)) give read-related j)
+
   -- The sum
   module _ {ops ops1 ops2 : List ℕ} {r m s t : Made} where
     pub sum-plain : LeadIs text r (Plain m) → Makes (read term) values text ops m ops1 s → Reads (λ a. read (terms a)) values values text ops1 s ops2 t
@@ -92,6 +104,9 @@ module _ {text : List ℕ} where
   factor-none (goes {m} R l o (other e)) = record { low = omega arith; few = λ k. omega arith; gives = led l (same (λ x s. ap (λ S. S s) e) (failing m)) }
 
   module _ {r m : Made} where
+    pub over-whole : {v : ℕ} → AtomIs text r (atom.Whole v m) → Over text r m
+    over-whole (goes R l o (whole a e f)) = o
+
     pub over-prefix : {v : ℕ} → AtomIs text r (atom.Prefix v m) → Over text r m
     over-prefix (goes R l o (prefix f c e)) = o
 
