@@ -2,3 +2,4 @@ pub mod Readers
 pub mod Signs
 pub mod States
 pub mod Ways
+pub mod Answers

@@ -185,6 +185,8 @@ module _ {text : List ℕ} where
       (onto (λ x. read-sum (drop (c .at) text) ∙ if-there "-" negated _ _ (e ∙ ap (λ n. found n (drop (d .at) text)) k)) (λ i. h), over-here l h)
 
   pub lead-plus : {r m : Made} {k : ℕ} → (k ≡ 45 → ⊥) → k ≡ 43 → SignIs text r (signed.By k m) → LeadIs text r (Plain m)
-  lead-plus a k (stood {c} {d} e l h) =
-      (onto (λ x. read-sum (drop (c .at) text) ∙ if-other "-" _ _ _ (rw e (another (ne-eqb _ 45 a))) ∙ if-there "+" plainly plainly _ (e ∙ ap (λ n. found n (drop (d .at) text)) k)) (λ i. h),
-       omega arith, λ j. omega arith)
+  lead-plus a k (stood {c} {d} e l h) = (
+    onto (λ x. read-sum (drop (c .at) text) ∙ if-other "-" _ _ _ (rw e (another (ne-eqb _ 45 a))) ∙ if-there "+" plainly plainly _ (e ∙ ap (λ n. found n (drop (d .at) text)) k)) (λ i. h),
+    omega arith,
+    λ j. omega arith,
+  )
