@@ -1,12 +1,12 @@
 -- What a caller learns of a reader's answer: the reading and what was written, or that there is none; and there is one answer only. Assumes nothing.
-use Prim.Native.Nat.{ℕ, _+_, _-_, _≤_}
+use Prim.Native.Nat.{ℕ, _≤_}
 use mathlib.Core.Path.{_≡_, refl, sym, ap, _∙_}
 use mathlib.Core.List.{List}
 use native.Mathlib.Omega.{arith}
 use lib.ListN.{length, drop, length-drop}
-use Rattle.nibl.specs.Read.{Found, nothing, found, Reader}
+use Rattle.nibl.specs.Read.{nothing, found, Reader}
 use Rattle.word.specs.declared.Cursor.{Cursor}
-use Rattle.relation.specs.Makes.{Wrote, Gives, stopped, refused, given, Makes, only, bare}
+use Rattle.relation.specs.Makes.{Wrote, Gives, refused, given, Makes, only, bare}
 use Rattle.relation.specs.declared.Made.{Made}
 use Rattle.relation.specs.declared.Made.the-variants.{Next, NoReading}
 

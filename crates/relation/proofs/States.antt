@@ -1,16 +1,16 @@
 -- Readers from state to state: one after another, past a sign, and with an operation written. Assumes nothing.
-use Prim.Native.Nat.{ℕ, suc, _+_, _-_, _≤_, _<_}
+use Prim.Native.Nat.{ℕ, suc, _+_, _≤_}
 use Prim.Native.String.{String}
 use mathlib.Core.Path.{_≡_, refl, sym, ap, _∙_}
 use mathlib.Core.List.{List, [], _∷_, _++_, append-assoc, append-nil}
 use native.Mathlib.Nat.{add-zero}
 use native.Mathlib.Omega.{arith}
-use lib.ListN.{length, drop, set, length-append}
+use lib.ListN.{length, set, length-append}
 use lib.Seq.{sets}
 use Rattle.nibl.specs.Words.{number}
-use Rattle.nibl.specs.Read.{nothing, found, Reader, aSign, fail, give, key, _>>=_}
+use Rattle.nibl.specs.Read.{Reader, fail, give, key, _>>=_}
 use Rattle.word.specs.declared.Cursor.{Cursor}
-use Rattle.relation.specs.Makes.{ahead, need, filled, Wrote, Written, written, Gives, stopped, refused, given, Reads, Over, Leads, onto, only, bare, Stood, stood, KeyIs, there}
+use Rattle.relation.specs.Makes.{ahead, need, filled, Wrote, Written, written, Gives, stopped, refused, given, Reads, Over, Leads, onto, only, bare, stood, KeyIs, there}
 use Rattle.relation.specs.declared.Made.{Made}
 use Rattle.relation.specs.declared.Made.the-variants.{Next, NoReading}
 use Rattle.relation.proofs.Readers.{then-found, then-nothing, if-there, if-other}
@@ -102,6 +102,18 @@ module _ {X A B : Type 0} {text : List ℕ} where
       given (λ x. g x (grow tt)) (tail ++ (v ∷ [])) (λ x. then-found F _ _ (e tt)) (λ x. c x (grow tt) ∙ ap (λ l. pre x ++ (l ++ (v ∷ []))) (f tt)) h (wrote-both w (wrote-one v))
 
 -- The same by another reader
+module _ {X A : Type 0} {text : List ℕ} where
+  pub leads-as : {R S T : X → Reader A} {r m : Made} → ((x : X) (s : List ℕ) → R x s ≡ S x s) → Leads S T text r m → Leads R T text r m
+  leads-as e stopped = stopped
+  leads-as e (refused f) = refused (λ x. e x _ ∙ f x)
+  leads-as e (onto f h) = onto (λ x. e x _ ∙ f x) h
+
+  pub leads-on : {R S T : X → Reader A} {r m n : Made} → Leads R S text r m → Leads S T text m n → Leads R T text r n
+  leads-on stopped stopped = stopped
+  leads-on (refused e) stopped = refused e
+  leads-on (onto e h) (refused f) = refused (λ x. e x ∙ f x)
+  leads-on (onto e h) (onto f i) = onto (λ x. e x ∙ f x) (λ j. i (h j))
+
 module _ {X A : Type 0} {R S : X → Reader A} {pre : X → List ℕ} {code : A → List ℕ} {text ops ops' : List ℕ} where
   pub led : {r m s : Made} → Leads R S text r m → Gives S pre code text ops ops' m s → Gives R pre code text ops ops' r s
   led stopped stopped = stopped

@@ -1,15 +1,15 @@
 -- One law for each way out of the readers of a relation. Assumes nothing.
-use Prim.Native.Nat.{ℕ, suc, _+_, _≤_, _<_}
+use Prim.Native.Nat.{ℕ, suc, _+_}
 use mathlib.Core.Path.{_≡_, refl, ap, _∙_}
 use mathlib.Core.List.{List, [], _∷_, _++_}
 use native.Mathlib.Omega.{arith}
 use lib.ListN.{drop}
-use Rattle.nibl.specs.Grammar.{Joints, factorJoints, termJoints, sumJoints}
+use Rattle.nibl.specs.Grammar.{Joints, sumJoints}
 use Rattle.nibl.specs.Tree.{Op, Expr, negate, modulo, two}
-use Rattle.nibl.specs.Read.{found, nothing, Found, Reader, aJoint, orElse, onward, fail, give, key, _>>=_, Part, read, factor, term, sum, relation, factors, terms, related}
-use Rattle.nibl.proofs.Sound.{read-term, read-relation, read-factors, read-terms, read-related}
+use Rattle.nibl.specs.Read.{Reader, aJoint, orElse, onward, fail, give, key, _>>=_, Part, read, factor, term, sum, relation, factors, terms, related}
+use Rattle.nibl.proofs.Sound.{read-term, read-relation, read-related}
 use Rattle.relation.specs.Code.{op, opNumber, values}
-use Rattle.relation.specs.Makes.{ahead, need, Written, Gives, stopped, refused, Reads, Makes, Leads, onto, only, bare, Over, Stood, stood, Absent, absent, KeyIs, JoinedBy, JointIs, LeadIs, seconding, FormIs, whole, prefix, bracket, pair, other, AtomIs, missing, goes}
+use Rattle.relation.specs.Makes.{Written, Gives, stopped, refused, Reads, Makes, Leads, onto, only, bare, Over, Stood, stood, Absent, absent, KeyIs, JointIs, LeadIs, seconding, whole, prefix, bracket, pair, other, AtomIs, missing, goes}
 use Rattle.relation.specs.declared.Made.{Made}
 use Rattle.relation.specs.declared.Made.the-variants.{Next, NoReading}
 use Rattle.relation.specs.declared.Joined.the-variants as joined

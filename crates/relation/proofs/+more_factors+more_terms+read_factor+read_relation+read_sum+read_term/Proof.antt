@@ -30,12 +30,8 @@ use Rattle.relation.proofs.joint_at.Reads as joint-at-reads
 use Rattle.relation.proofs.lead_at.Reads as lead-at-reads
 use Rattle.relation.proofs.past_sign.Reads as past-sign-reads
 use Rattle.relation.proofs.write.Reads as write-reads
-use Rattle.relation.proofs.+more_factors+more_terms+read_factor+read_relation+read_sum+read_term.{
-  statement,
-}
-use Rattle.relation.proofs.+more_factors+more_terms+read_factor+read_relation+read_sum+read_term.Tie.{
-  close,
-}
+use Rattle.relation.proofs.+more_factors+more_terms+read_factor+read_relation+read_sum+read_term.{statement}
+use Rattle.relation.proofs.+more_factors+more_terms+read_factor+read_relation+read_sum+read_term.Tie.{close}
 
 -- the readers differ in rank alone
 abbrev μ : ℕ → Measures 2 kinds.ps ℕ
