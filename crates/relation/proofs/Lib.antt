@@ -1,0 +1,5 @@
+pub mod Answers
+pub mod Readers
+pub mod Signs
+pub mod States
+pub mod Ways
