@@ -8,7 +8,7 @@ use native.Mathlib.Omega.{arith}
 use lib.ListN.{length, getD, drop}
 use lib.Seq.{sets, length-sets}
 use lib.Dec.{ltb, leb, eqb}
-use borrow.Author.Tests.{leb-true}
+use borrow.Author.Tests.{leb-true, eq-eqb}
 use Rattle.nibl.specs.Bytes.{if_then_else_, bytes, all, notCR}
 use Rattle.nibl.specs.Tree.{Op, times, over, both, plus, minus, either, equal, less, greater, atMost, atLeast, unequal}
 use Rattle.nibl.specs.Tree.{Expr, var, const, stat, top, byteAt, invert, negate, modulo, two}
@@ -25,7 +25,7 @@ use Rattle.nibl.specs.declared.Top.{Top}
 use Rattle.nibl.specs.declared.Top.the-variants as top
 use Rattle.nibl.specs.declared.TopFor.{TopFor}
 use Rattle.nibl.specs.declared.TopFor.the-variants as topf
-use Rattle.demands.specs.Effects.{refusals, isLettered, Gives, gave, refused, gives, Does, writes, takes, refuses, passes, skips, assigns, assignsFlags, stores, goesTo, saves, returns, loops, repeats, leaves, begins, again, finishes, inputs}
+use Rattle.demands.specs.Effects.{refusals, forVars, Gives, gave, refused, gives, Does, writes, takes, refuses, passes, skips, assigns, assignsFlags, stores, goesTo, saves, returns, loops, repeats, leaves, begins, again, finishes, inputs}
 
 -- a value's refusal is one of the list
 pub data Known {A : Type 0} : Result A → Type 0 where
@@ -81,29 +81,29 @@ eval-known e w (negate a) = with-known (eval e w a) _ (eval-known e w a) (λ x. 
 eval-known e w (modulo a b) = with-known (eval e w a) _ (eval-known e w a) (λ x. with-known (eval e w b) _ (eval-known e w b) (mod-known x))
 eval-known e w (two o a b) = with-known (eval e w a) _ (eval-known e w a) (λ x. with-known (eval e w b) _ (eval-known e w b) (apply-known o x))
 
-module _ (e : Env) where
+module _ (e : Env) (vs : List ℕ) where
   module _ {A : Type 0} where
     -- what follows a value that is there
-    given-does : (r : Result A) (w : World) (k : A → Done) → Known r → ((a : A) → r ≡ is a → Does e w (k a)) → Does e w (given r w k)
+    given-does : (r : Result A) (w : World) (k : A → Done) → Known r → ((a : A) → r ≡ is a → Does e vs w (k a)) → Does e vs w (given r w k)
     given-does (is a) w k h f = f a refl
     given-does (no n) w k (refused′ h) f = refuses h
 
   -- an item, and what follows it
-  put-does : (bs : List ℕ) (w : World) (k : World → Done) → ((u : World) → Does e u (k u)) → Does e w (went (put bs w) k)
+  put-does : (bs : List ℕ) (w : World) (k : World → Done) → ((u : World) → Does e vs u (k u)) → Does e vs w (went (put bs w) k)
   unfolding put
   put-does bs w k f = go (leb (w .outpos + length bs) (length (w .output))) refl where
     u : World
     u = withOutput w (sets (w .output) (w .outpos) bs) (w .outpos + length bs)
-    go : (b : Bool) → leb (w .outpos + length bs) (length (w .output)) ≡ b → Does e w (went (if b then done on u else done (stop 17) w) k)
+    go : (b : Bool) → leb (w .outpos + length bs) (length (w .output)) ≡ b → Does e vs w (went (if b then done on u else done (stop 17) w) k)
     go true h = writes bs (leb-true _ _ h) (f u)
     go false h = refuses refl
 
-  put-last : (bs : List ℕ) (w : World) → Does e w (put bs w)
+  put-last : (bs : List ℕ) (w : World) → Does e vs w (put bs w)
   unfolding put
   put-last bs w = go (leb (w .outpos + length bs) (length (w .output))) refl where
     u : World
     u = withOutput w (sets (w .output) (w .outpos) bs) (w .outpos + length bs)
-    go : (b : Bool) → leb (w .outpos + length bs) (length (w .output)) ≡ b → Does e w (if b then done on u else done (stop 17) w)
+    go : (b : Bool) → leb (w .outpos + length bs) (length (w .output)) ≡ b → Does e vs w (if b then done on u else done (stop 17) w)
     go true h = writes bs (leb-true _ _ h) passes
     go false h = refuses refl
 
@@ -117,7 +117,7 @@ module _ (e : Env) where
   given-went (is a) w k j = refl
   given-went (no n) w k j = refl
 
-  item-does : (i : Item) (w : World) (k : World → Done) → ((u : World) → Does e u (k u)) → Does e w (went (putItem e i w) k)
+  item-does : (i : Item) (w : World) (k : World → Done) → ((u : World) → Does e vs u (k u)) → Does e vs w (went (putItem e i w) k)
   unfolding putItem
   item-does (text bs) w k f = put-does bs w k f
   item-does (stored a) w k f =
@@ -125,16 +125,16 @@ module _ (e : Env) where
       (given-does _ w _ (with-known (eval e w a) _ (eval-known e w a) (string-known (w .memory))) (λ bs h. put-does bs w k f))
   item-does (value a) w k f = rw (given-went (eval e w a) w (λ x. put (printed x) w) k) (given-does _ w _ (eval-known e w a) (λ x h. put-does (printed x) w k f))
 
-  items-do : (is′ : List Item) (w : World) (k : World → Done) → ((u : World) → Does e u (k u)) → Does e w (went (putItems e is′ w) k)
+  items-do : (is′ : List Item) (w : World) (k : World → Done) → ((u : World) → Does e vs u (k u)) → Does e vs w (went (putItems e is′ w) k)
   unfolding putItems
   items-do [] w k f = f w
   items-do (i ∷ is′) w k f = rw (went-went (putItem e i w) (putItems e is′) k) (item-does i w (λ u. went (putItems e is′ u) k) (λ u. items-do is′ u k f))
 
-  end-does : (b : Bool) (w : World) → Does e w (putEnd b w)
+  end-does : (b : Bool) (w : World) → Does e vs w (putEnd b w)
   end-does true w = passes
   end-does false w = put-last (13 ∷ 10 ∷ []) w
 
-  keep-does : (w : World) (r : Result (List ℕ)) → Known r → ((m : List ℕ) → r ≡ is m → length m ≡ length (w .memory)) → Does e w (keepIn w r)
+  keep-does : (w : World) (r : Result (List ℕ)) → Known r → ((m : List ℕ) → r ≡ is m → length m ≡ length (w .memory)) → Does e vs w (keepIn w r)
   unfolding keepIn
   keep-does w r h f = given-does r w _ h (λ m g. stores m (f m g))
 
@@ -162,39 +162,39 @@ module _ (e : Env) where
   line-there (some p) q h = let g : p ≡ q = cc in ap some g
 
   -- to a line that is there
-  to-line : (r : Value) (w : World) (k : ℕ → Done) → Known r → ((n q : ℕ) → find (e .page) n ≡ some q → Does e w (k q))
-      → Does e w (given (with r (λ n. lineThere (find (e .page) n))) w k)
+  to-line : (r : Value) (w : World) (k : ℕ → Done) → Known r → ((n q : ℕ) → find (e .page) n ≡ some q → Does e vs w (k q))
+      → Does e vs w (given (with r (λ n. lineThere (find (e .page) n))) w k)
   to-line (is n) w k h f = given-does _ w k (line-known (find (e .page) n)) (λ q g. f n q (line-there (find (e .page) n) q g))
   to-line (no n) w k (refused′ h) f = refuses h
 
-  choice-does : (b : Bool) (w : World) (d f : Done) → (b ≡ true → Does e w d) → (b ≡ false → Does e w f) → Does e w (if b then d else f)
+  choice-does : (b : Bool) (w : World) (d f : Done) → (b ≡ true → Does e vs w d) → (b ≡ false → Does e vs w f) → Does e vs w (if b then d else f)
   choice-does true w d f h g = h refl
   choice-does false w d f h g = g refl
 
-  gosub-does : (w : World) (n q : ℕ) → find (e .page) n ≡ some q → Does e w (gosubTo e w q)
+  gosub-does : (w : World) (n q : ℕ) → find (e .page) n ≡ some q → Does e vs w (gosubTo e w q)
   unfolding gosubTo
   gosub-does w n q h = choice-does (pushOf (w .session .gosubs) (place (e .here)) .ok) w _ _ (saves n h) (λ g. refuses refl)
 
-  return-does : (w : World) (t : Top) → popOf (w .session .gosubs) .top ≡ t → Does e w (returnBy w t)
+  return-does : (w : World) (t : Top) → popOf (w .session .gosubs) .top ≡ t → Does e vs w (returnBy w t)
   unfolding returnBy
   return-does w top.Empty h = refuses refl
   return-does w (top.At p) h = returns p h
 
-  do-does : (w : World) → Does e w (doHere e w)
+  do-does : (w : World) → Does e vs w (doHere e w)
   unfolding doHere
   do-does w = choice-does (pushOf (w .session .dos) (place (e .here)) .ok) w _ _ loops (λ g. refuses refl)
 
-  until-does : (w : World) (x : ℕ) (t : Top) → popOf (w .session .dos) .top ≡ t → Does e w (untilBy w x t)
+  until-does : (w : World) (x : ℕ) (t : Top) → popOf (w .session .dos) .top ≡ t → Does e vs w (untilBy w x t)
   unfolding untilBy
   until-does w x top.Empty h = refuses refl
   until-does w x (top.At p) h = choice-does (eqb x 0) w _ _ (λ g. repeats p h) (λ g. leaves p h)
 
-  for-does : (w : World) (v x y z : ℕ) → ltb v 26 ≡ true → Does e w (forHere e w v x y z)
+  for-does : (w : World) (v x y z : ℕ) → isAmong vs v ≡ true → Does e vs w (forHere e w v x y z)
   unfolding forHere
   for-does w v x y z l =
       choice-does (pushFor (w .session .fors) (record { var = v; limit = y; step = z; place = place (e .here) }) .ok) w _ _ (begins v x y z l) (λ g. refuses refl)
 
-  next-does : (w : World) (v : ℕ) (t : TopFor) → popFor (w .session .fors) .top ≡ t → Does e w (nextBy w v t)
+  next-does : (w : World) (v : ℕ) (t : TopFor) → popFor (w .session .fors) .top ≡ t → Does e vs w (nextBy w v t)
   unfolding nextBy
   next-does w v topf.Empty h = refuses refl
   next-does w v (topf.Entry f) h =
@@ -202,62 +202,69 @@ module _ (e : Env) where
 
   -- a line is asked for, and taken unless there is none
   gathered-does : (w : World) (o : Option Gathered) (k : World → List ℕ → Done) → gather (e .lim) (drop (w .inpos) (e .input)) ≡ o
-      → ((u : World) (bs : List ℕ) → Does e u (k u bs)) → Does e w (gathered w o k)
+      → ((u : World) (bs : List ℕ) → Does e vs u (k u bs)) → Does e vs w (gathered w o k)
   unfolding gathered
   gathered-does w none k h f = refuses refl
   gathered-does w (some g) k h f = takes g h (by (g .line .long)) where
     u : World
     u = withInpos w (w .inpos + g .taken)
-    by : (b : Bool) → Does e u (elim b [ true ↦ done (stop 6) u | false ↦ k u (g .line .bytes) ])
+    by : (b : Bool) → Does e vs u (elim b [ true ↦ done (stop 6) u | false ↦ k u (g .line .bytes) ])
     by true = refuses refl
     by false = f u (g .line .bytes)
 
-  asked-does : (w : World) (k : World → List ℕ → Done) → ((u : World) (bs : List ℕ) → Does e u (k u bs)) → Does e w (asked e w k)
+  asked-does : (w : World) (k : World → List ℕ → Done) → ((u : World) (bs : List ℕ) → Does e vs u (k u bs)) → Does e vs w (asked e w k)
   unfolding asked
   asked-does w k f = put-does (bytes "?") w _ (λ u. gathered-does u (gather (e .lim) (drop (u .inpos) (e .input))) k refl f)
 
-  assign-gives : (vs : List ℕ) (es : List Expr) (w : World) → Gives w (assign e vs es w)
+  assign-gives : (us : List ℕ) (es : List Expr) (w : World) → Gives w (assign e us es w)
   unfolding assign
   assign-gives [] es w = gave
-  assign-gives (v ∷ vs) [] w = gave
-  assign-gives (v ∷ vs) (a ∷ es) w = by (λ u. assign-gives vs es u) (eval e w a) (eval-known e w a) where
-    by : ((u : World) → Gives u (assign e vs es u)) → (r : Value) → Known r
-        → Gives w (given r w (λ x. assign e vs es (withSession w (withVar (w .session) v x))))
+  assign-gives (v ∷ us) [] w = gave
+  assign-gives (v ∷ us) (a ∷ es) w = by (λ u. assign-gives us es u) (eval e w a) (eval-known e w a) where
+    by : ((u : World) → Gives u (assign e us es u)) → (r : Value) → Known r
+        → Gives w (given r w (λ x. assign e us es (withSession w (withVar (w .session) v x))))
     by f (is x) h = gives v x (f _)
     by f (no n) (refused′ h) = refused h
 
-  reply-does : (vs : List ℕ) (w : World) (o : Option (List Expr)) → Does e w (assignReply e vs w o)
-  reply-does vs w none = refuses refl
-  reply-does vs w (some es) = inputs (assign-gives vs es w)
+  reply-does : (us : List ℕ) (w : World) (o : Option (List Expr)) → Does e vs w (assignReply e us w o)
+  reply-does us w none = refuses refl
+  reply-does us w (some es) = inputs (assign-gives us es w)
 
-  pub exec-does : (q : Stmt) → isLettered q ≡ true → (w : World) → Does e w (exec e q w)
+  among : (v : ℕ) → v ∷ [] ≡ vs → isAmong vs v ≡ true
+  among v h = rw (← h) (rw (eq-eqb v v refl) refl)
+
+  exec-in : (q : Stmt) → forVars q ≡ vs → (w : World) → Does e vs w (exec e q w)
   unfolding exec
-  exec-does (letVar v a) l w = given-does (eval e w a) w _ (eval-known e w a) (λ x h. assigns v x)
-  exec-does (letStat a) l w = given-does (eval e w a) w _ (eval-known e w a) (λ x h. assignsFlags x)
-  exec-does (letByte a b) l w =
+  exec-in (letVar v a) l w = given-does (eval e w a) w _ (eval-known e w a) (λ x h. assigns v x)
+  exec-in (letStat a) l w = given-does (eval e w a) w _ (eval-known e w a) (λ x h. assignsFlags x)
+  exec-in (letByte a b) l w =
       given-does (eval e w a) w _ (eval-known e w a) (λ p h. given-does (eval e w b) w _ (eval-known e w b) (λ x g.
       keep-does w _ (store-known (w .memory) p _) (kept-length (w .memory) p _)))
-  exec-does (letCopy a b) l w =
+  exec-in (letCopy a b) l w =
       given-does (eval e w a) w _ (eval-known e w a) (λ p h. given-does (eval e w b) w _ (eval-known e w b) (λ q g.
       keep-does w _ (with-known (stringAt (w .memory) q) _ (string-known (w .memory) q) (λ bs. store-known (w .memory) p _)) (copy-length (w .memory) (stringAt (w .memory) q) p)))
-  exec-does (letText a bs) l w =
+  exec-in (letText a bs) l w =
       given-does (eval e w a) w _ (eval-known e w a) (λ p h. keep-does w _ (store-known (w .memory) p _) (kept-length (w .memory) p _))
-  exec-does (goto a) l w = to-line (eval e w a) w _ (eval-known e w a) (λ n q h. goesTo n h)
-  exec-does (gosub a) l w = to-line (eval e w a) w _ (eval-known e w a) (gosub-does w)
-  exec-does (until a) l w = given-does (eval e w a) w _ (eval-known e w a) (λ x h. until-does w x _ refl)
-  exec-does return l w = return-does w _ refl
-  exec-does loop l w = do-does w
-  exec-does remark l w = passes
-  exec-does end l w = refuses refl
-  exec-does (print is′ b) l w = items-do is′ w _ (end-does b)
-  exec-does (ifThen a q) l w = given-does (eval e w a) w _ (eval-known e w a) (λ x h. by (exec-does q l w) (eqb x 0)) where
-    by : Does e w (exec e q w) → (b : Bool) → Does e w (elim b [ true ↦ done skip w | false ↦ exec e q w ])
+  exec-in (goto a) l w = to-line (eval e w a) w _ (eval-known e w a) (λ n q h. goesTo n h)
+  exec-in (gosub a) l w = to-line (eval e w a) w _ (eval-known e w a) (gosub-does w)
+  exec-in (until a) l w = given-does (eval e w a) w _ (eval-known e w a) (λ x h. until-does w x _ refl)
+  exec-in return l w = return-does w _ refl
+  exec-in loop l w = do-does w
+  exec-in remark l w = passes
+  exec-in end l w = refuses refl
+  exec-in (print is′ b) l w = items-do is′ w _ (end-does b)
+  exec-in (ifThen a q) l w = given-does (eval e w a) w _ (eval-known e w a) (λ x h. by (exec-in q l w) (eqb x 0)) where
+    by : Does e vs w (exec e q w) → (b : Bool) → Does e vs w (elim b [ true ↦ done skip w | false ↦ exec e q w ])
     by f true = skips
     by f false = f
-  exec-does (for v a b c) l w =
+  exec-in (for v a b c) l w =
       given-does (eval e w a) w _ (eval-known e w a) (λ x h. given-does (eval e w b) w _ (eval-known e w b) (λ y g.
-      given-does (eval e w c) w _ (eval-known e w c) (λ z f. for-does w v x y z l)))
-  exec-does (next v) l w = next-does w v _ refl
-  exec-does (input vs) l w = asked-does w _ (λ u bs. reply-does vs u (replied (length vs) bs))
-  exec-does (inputText a) l w =
+      given-does (eval e w c) w _ (eval-known e w c) (λ z f. for-does w v x y z (among v l))))
+  exec-in (next v) l w = next-does w v _ refl
+  exec-in (input us) l w = asked-does w _ (λ u bs. reply-does us u (replied (length us) bs))
+  exec-in (inputText a) l w =
       given-does (eval e w a) w _ (eval-known e w a) (λ p h. asked-does w _ (λ u bs. keep-does u _ (store-known (u .memory) p _) (kept-length (u .memory) p _)))
+
+-- with the variable that its FOR names
+pub exec-does : (e : Env) (q : Stmt) (w : World) → Does e (forVars q) w (exec e q w)
+exec-does e q w = exec-in e (forVars q) q refl w
