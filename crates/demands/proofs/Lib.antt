@@ -1,1 +1,3 @@
 pub mod Effects
+pub mod Runs
+pub mod Budget
