@@ -52,7 +52,7 @@ after-stops : (b : Bool) (q : ℕ) (w : World) → StopsWith (done (if b then st
 after-stops true q w = stopped refl
 after-stops false q w = jumped
 
-does-stops : {e : Env} {vs : List ℕ} {w : World} {d : Done} → Does e vs w d → StopsWith d
+pub does-stops : {e : Env} {vs : List ℕ} {w : World} {d : Done} → Does e vs w d → StopsWith d
 does-stops (writes bs h d) = does-stops d
 does-stops (takes g h d) = does-stops d
 does-stops (refuses h) = refusal-stops h

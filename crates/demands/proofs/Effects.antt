@@ -18,8 +18,9 @@ use Rattle.nibl.specs.Read.{replied}
 use Rattle.nibl.specs.Values.{Result, is, no, Value, apply, mod16, quotient16, remainder16, printed}
 use Rattle.nibl.specs.Stack.{pushOf, popOf, pushFor, popFor}
 use Rattle.nibl.specs.Typing.{Kept, Gathered, gather}
-use Rattle.nibl.specs.Page.{isAmong, find}
+use Rattle.nibl.specs.Page.{Stored, isAmong, find}
 use Rattle.nibl.specs.Meaning.{World, Env, Next, on, skip, go, stop, Done, done, withVar, withSession, withInpos, withOutput, with, given, went, byteOf, stringAt, storeAt, eval, put, putItem, putItems, putEnd, keepIn, lineThere, place, gosubTo, returnBy, doHere, untilBy, forHere, goesOn, nextBy, gathered, asked, assign, assignReply, exec}
+use Rattle.nibl.specs.Calls.{listed, listFrom}
 use Rattle.nibl.specs.declared.ForEntry.{ForEntry}
 use Rattle.nibl.specs.declared.Top.{Top}
 use Rattle.nibl.specs.declared.Top.the-variants as top
@@ -264,6 +265,16 @@ module _ (e : Env) (vs : List ℕ) where
   exec-in (input us) l w = asked-does w _ (λ u bs. reply-does us u (replied (length us) bs))
   exec-in (inputText a) l w =
       given-does (eval e w a) w _ (eval-known e w a) (λ p h. asked-does w _ (λ u bs. keep-does u _ (store-known (u .memory) p _) (kept-length (u .memory) p _)))
+
+-- LIST writes items
+pub list-does : (e : Env) (vs : List ℕ) (n : ℕ) (rs : List Stored) (w : World) → Does e vs w (listFrom n rs w)
+unfolding listFrom
+list-does e vs n [] w = passes
+list-does e vs n (r ∷ rs) w = by (λ u. list-does e vs n rs u) (leb n (r .line)) where
+  by : ((u : World) → Does e vs u (listFrom n rs u)) → (b : Bool)
+      → Does e vs w (elim b [ true ↦ went (put (listed r) w) (listFrom n rs) | false ↦ listFrom n rs w ])
+  by f true = put-does e vs (listed r) w (listFrom n rs) f
+  by f false = f w
 
 -- with the variable that its FOR names
 pub exec-does : (e : Env) (q : Stmt) (w : World) → Does e (forVars q) w (exec e q w)

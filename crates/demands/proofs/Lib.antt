@@ -1,3 +1,5 @@
 pub mod Effects
 pub mod Runs
 pub mod Budget
+pub mod Ways
+pub mod Numbers
