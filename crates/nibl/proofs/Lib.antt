@@ -3,3 +3,4 @@ pub mod Sizes
 pub mod Stacks
 pub mod Desk
 pub mod Quotients
+pub mod Names

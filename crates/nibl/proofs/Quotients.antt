@@ -37,8 +37,10 @@ pub toward-zero : (a b : ℕ) → a < 65536 → magnitude (quotient16 a b) ≡ m
 toward-zero a b h = by (differ (isNegative a) (isNegative b)) where
   q : ℕ
   q = magnitude a / magnitude b
+
   small : q ≤ 32768
   small = le-trans (div-le-self (magnitude a) (magnitude b)) (magnitude-le a h)
+
   by : (d : Bool) → magnitude (if d then sub16 0 q else q) ≡ q
   by true = magnitude-negated q small
   by false = magnitude-same q small

@@ -1,15 +1,14 @@
 -- Bytes, their classes, and runs of them.
-use Prim.Native.Nat.{ℕ, zero, suc, _+_, _-_, _*_}
+use Prim.Native.Nat.{ℕ, _+_, _-_, _*_}
 use Prim.Native.String.{String, [] as nil, _∷_ as _⊲_}
-use Prim.Native.Char.{Char, code}
+use Prim.Native.Char.{code}
 use mathlib.Core.Path.{_≡_}
 use mathlib.Core.Bool.{Bool, true, false, not, _&&_, _||_}
-use mathlib.Core.List.{List, [], _∷_, _++_}
+use mathlib.Core.List.{List, [], _∷_}
 use lib.Dec.{leb, eqb}
 
 module _ {A : Type 0} where
   infix 10 if_then_else_
-
   -- a choice by a test
   abbrev pub if_then_else_ : Bool → A → A → A
   if true then x else y = x
@@ -51,12 +50,24 @@ abbrev pub notCR : ℕ → Bool
 notCR b = not (eqb b 13)
 
 -- the classes of a byte, by number: "dropped, CR, erase, discard, space, digit, capital, quote, other"
+abbrev pub dropped : ℕ
+dropped = 0
+
+abbrev pub ends : ℕ
+ends = 1
+
+abbrev pub erases : ℕ
+erases = 2
+
+abbrev pub discards : ℕ
+discards = 3
+
 abbrev pub classOf : ℕ → ℕ
 classOf b =
-    if eqb b 0 || eqb b 10 then 0
-    else if eqb b 13 then 1
-    else if eqb b 95 then 2
-    else if eqb b 21 then 3
+    if eqb b 0 || eqb b 10 then dropped
+    else if eqb b 13 then ends
+    else if eqb b 95 then erases
+    else if eqb b 21 then discards
     else if isSpace b then 4
     else if isDigit b then 5
     else if isCapital b then 6

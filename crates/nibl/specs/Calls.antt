@@ -10,9 +10,9 @@ use Rattle.nibl.specs.Tree.{Stmt, letVar, letStat, letByte, letCopy, let
 use Rattle.nibl.specs.Tree.{Member, Typed, blank, new, clear, run, delete, list, store, immediate}
 use Rattle.nibl.specs.Read.{Found, nothing, found, member, typed}
 use Rattle.nibl.specs.Values.{digits}
-use Rattle.nibl.specs.Typing.{Kept, Gathered, gather}
+use Rattle.nibl.specs.Typing.{Gathered, gather}
 use Rattle.nibl.specs.Page.{Stored, isEnd, isGood, recordsOf, programBytes, lineOf, fits, mark, hasLine, without, with, onto}
-use Rattle.nibl.specs.Meaning.{World, Env, withSession, withOutput, Next, on, skip, go, stop, Done, done, put, went, place, exec}
+use Rattle.nibl.specs.Meaning.{World, Env, withVars, withSession, withInpos, on, skip, go, stop, Done, done, put, went, place, exec}
 use Rattle.nibl.specs.declared.PlaceStack.{PlaceStack}
 use Rattle.nibl.specs.declared.ForStack.{ForStack}
 use Rattle.nibl.specs.declared.Paused.{Paused}
@@ -39,7 +39,7 @@ pub record Outcome : Type 0 where
   pub memory : List ℕ
   pub output : List ℕ
 
--- How a run ended: the stop, the lines of the members it ran, what position of the page it stands at, and the world then.
+-- How a run ended: the stop, the lines of the members it ran, what position of the page a paused run stands at, and the world then.
 -- A run's steps are the lines' number.
 pub record Ran : Type 0 where
   pub stop : ℕ
@@ -67,14 +67,14 @@ lineFrom page a = front notCR (drop a page)
 abbrev pub envAt : Env → ℕ → Env
 envAt e p = record { lim = e .lim; page = e .page; input = e .input; sense = e .sense; here = p }
 
--- what follows a step that ended so: text is from a on, the statement's place is p
+-- what follows a step that ended so: p is the statement's place, cr that of its record's CR
 abbrev pub onward : Done → ℕ → ℕ → (ℕ → World → Ran) → Ran
 onward (done on w) p cr k = k (suc p) w
 onward (done skip w) p cr k = k (suc cr) w
 onward (done (go q) w) p cr k = k q w
 onward (done (stop n) w) p cr k = ran n p w
 
--- the first member of the text from a on is run, and then k; every text of a good page has a reading
+-- the first member of the text from a on is run, and then k. There always is one, on a good page: 5 is never given here
 abbrev pub step : Env → ℕ → World → Found Member → (ℕ → World → Ran) → Ran
 step e a w nothing k = ran 5 a w
 step e a w (found m s) k =
@@ -104,8 +104,7 @@ clearStacks s =
 
 -- "CLEAR zeroes variables and clears stacks"
 abbrev pub cleared : Session → Session
-cleared s =
-    record { vars = replicate 26 0; flags = s .flags; gosubs = emptied (s .gosubs); dos = emptied (s .dos); fors = emptiedFor (s .fors); paused = s .paused }
+cleared s = withVars (clearStacks s) (replicate 26 0)
 
 abbrev pub pausedAt : ℕ → Paused
 pausedAt zero = Start
@@ -114,8 +113,13 @@ pausedAt (suc p) = At (place p)
 -- Outcomes
 abbrev pub outcome : ℕ → StopLine → ℕ → World → List ℕ → Outcome
 outcome n l steps w page =
-    record { answer = record { stop = n; line = l; steps = steps; inpos = w .inpos; outpos = w .outpos };
-      session = w .session; page = page; memory = w .memory; output = w .output }
+    record {
+      answer = record { stop = n; line = l; steps = steps; inpos = w .inpos; outpos = w .outpos };
+      session = w .session;
+      page = page;
+      memory = w .memory;
+      output = w .output;
+    }
 
 -- a stop that no program statement gave
 abbrev pub stops : ℕ → World → List ℕ → Outcome
@@ -152,8 +156,7 @@ worldOf x = record { session = x .session; memory = x .memory; output = x .outpu
 
 -- "A call past its first refusals ends any pause"
 abbrev pub begun : Lent → ℕ → World
-begun x taken =
-    record { session = withPaused (x .session) Nowhere; memory = x .memory; output = x .output; outpos = x .call .outpos; inpos = x .call .inpos + taken }
+begun x taken = withInpos (withSession (worldOf x) (withPaused (x .session) Nowhere)) (x .call .inpos + taken)
 
 abbrev pub envOf : ℕ → Lent → Env
 envOf lim x = record { lim = lim; page = x .page; input = x .input; sense = x .call .sense; here = mark }
@@ -195,7 +198,7 @@ unfoldable pub listFrom : ℕ → List Stored → World → Done
 listFrom n [] w = done on w
 listFrom n (r ∷ rs) w = elim (leb n (r .line)) [ true ↦ went (put (listed r) w) (listFrom n rs) | false ↦ listFrom n rs w ]
 
--- after the immediate statement, "not counted", which runs on or ends the line
+-- after LIST, or the immediate statement, which is "not counted": a run, or the end of the line
 abbrev pub immediately : ℕ → Env → Done → Outcome
 immediately budget e (done on w) = stops 0 w (e .page)
 immediately budget e (done skip w) = stops 0 w (e .page)
@@ -220,8 +223,10 @@ obeyRead budget e w (some t) = obey budget e w t
 abbrev pub obeyLine : ℕ → Lent → Option Gathered → Outcome
 obeyLine lim x none = stops 7 (worldOf x) (x .page)
 obeyLine lim x (some g) =
-    elim (g .line .long) [ true ↦ stops 5 (begun x (g .taken)) (x .page)
-    | false ↦ obeyRead (x .call .budget) (envOf lim x) (begun x (g .taken)) (typed (g .line .bytes)) ]
+    elim (g .line .long) [
+      | true ↦ stops 5 (begun x (g .taken)) (x .page)
+      | false ↦ obeyRead (x .call .budget) (envOf lim x) (begun x (g .taken)) (typed (g .line .bytes))
+    ]
 
 -- "Two calls exist: take one typed line, and continue a paused run"
 unfoldable pub takeLineIn : ℕ → Lent → Outcome

@@ -1,8 +1,8 @@
 -- "The cases marked * form a single table, proved by one theorem about the definitions" (proofs/Desk.antt).
-use Prim.Native.Nat.{ℕ, zero, suc, _+_}
+use Prim.Native.Nat.{ℕ}
 use Prim.Native.String.{String}
-use mathlib.Core.List.{List, [], _∷_, _++_, map}
-use lib.ListN.{length, take, getD, replicate}
+use mathlib.Core.List.{List, [], _∷_, _++_}
+use lib.ListN.{take, getD, replicate}
 use Rattle.nibl.specs.Bytes.{bytes}
 use Rattle.nibl.specs.Page.{used}
 use Rattle.nibl.specs.Stack.{noPlace, noEntry}
@@ -25,19 +25,36 @@ pub record Row : Type 0 where
 
 abbrev pub freshSession : Session
 freshSession =
-    record { vars = replicate 26 0; flags = 0; gosubs = record { depth = 0; places = replicate 8 noPlace }; dos = record { depth = 0; places = replicate 8 noPlace };
-      fors = record { depth = 0; entries = replicate 4 noEntry }; paused = Nowhere }
+    record {
+      vars = replicate 26 0;
+      flags = 0;
+      gosubs = record { depth = 0; places = replicate 8 noPlace };
+      dos = record { depth = 0; places = replicate 8 noPlace };
+      fors = record { depth = 0; entries = replicate 4 noEntry };
+      paused = Nowhere;
+    }
 
 -- one line typed, with a fresh output
 abbrev pub lentFor : Session → List ℕ → List ℕ → String → Lent
 lentFor s page mem l =
-    record { session = s; page = page; memory = mem; input = bytes l ++ (13 ∷ []); output = replicate 100 0;
-      call = record { inpos = 0; outpos = 0; sense = 0; budget = 10000 } }
+    record {
+      session = s;
+      page = page;
+      memory = mem;
+      input = bytes l ++ (13 ∷ []);
+      output = replicate 100 0;
+      call = record { inpos = 0; outpos = 0; sense = 0; budget = 10000 };
+    }
 
 abbrev pub look : Outcome → Seen
 look o =
-    record { stops = o .answer .stop ∷ []; written = take (o .answer .outpos) (o .output); a = getD (o .session .vars) 0 0; memory = o .memory;
-      page = take (used (o .page)) (o .page) }
+    record {
+      stops = o .answer .stop ∷ [];
+      written = take (o .answer .outpos) (o .output);
+      a = getD (o .session .vars) 0 0;
+      memory = o .memory;
+      page = take (used (o .page)) (o .page);
+    }
 
 abbrev pub before : Outcome → Seen → Seen
 before o s =
@@ -54,7 +71,7 @@ abbrev pub typeAll : List ℕ → List String → Seen
 typeAll mem [] = record { stops = []; written = []; a = 0; memory = mem; page = [] }
 typeAll mem (l ∷ ls) = type freshSession freshPage mem l ls
 
--- rows that keep page, memory and variables
+-- rows that keep the page, the memory and A
 abbrev pub gives : String → ℕ → String → Row
 gives l n w = record { lines = l ∷ []; memory = []; seen = record { stops = n ∷ []; written = bytes w; a = 0; memory = []; page = 255 ∷ 255 ∷ [] } }
 
@@ -76,7 +93,15 @@ desk =
     ∷ refused "PRINT -32768" ∷ refused "PRINT 1<2<3" ∷ refused "IF A=B=C"
     ∷ record { lines = "A=B=C" ∷ []; memory = []; seen = record { stops = 0 ∷ []; written = []; a = 1; memory = []; page = 255 ∷ 255 ∷ [] } }
     ∷ record { lines = "@0=#1FF" ∷ []; memory = 0 ∷ 7 ∷ []; seen = record { stops = 0 ∷ []; written = []; a = 0; memory = 255 ∷ 7 ∷ []; page = 255 ∷ 255 ∷ [] } }
-    ∷ record { lines = "10 END" ∷ "5 END" ∷ "10 REM X" ∷ "5" ∷ []; memory = [];
-        seen = record { stops = 0 ∷ 0 ∷ 0 ∷ 0 ∷ []; written = []; a = 0; memory = [];
-          page = 0 ∷ 10 ∷ 10 ∷ 32 ∷ 82 ∷ 69 ∷ 77 ∷ 32 ∷ 88 ∷ 13 ∷ 255 ∷ 255 ∷ [] } }
+    ∷ record {
+      lines = "10 END" ∷ "5 END" ∷ "10 REM X" ∷ "5" ∷ [];
+      memory = [];
+      seen = record {
+        stops = 0 ∷ 0 ∷ 0 ∷ 0 ∷ [];
+        written = [];
+        a = 0;
+        memory = [];
+        page = 0 ∷ 10 ∷ 10 ∷ 32 ∷ 82 ∷ 69 ∷ 77 ∷ 32 ∷ 88 ∷ 13 ∷ 255 ∷ 255 ∷ [];
+      };
+    }
     ∷ []

@@ -1,29 +1,27 @@
 -- What a statement does to the world, by its reading.
-use Prim.Native.Nat.{ℕ, zero, suc, _+_, _-_, _*_, _/_, _%_}
-use mathlib.Core.Bool.{Bool, true, false, not, _&&_, _||_}
+use Prim.Native.Nat.{ℕ, suc, _+_, _*_, _/_, _%_}
+use mathlib.Core.Bool.{Bool, true, false, not}
 use mathlib.Core.List.{List, [], _∷_, _++_}
 use mathlib.Core.Option.{Option, none, some}
 use lib.ListN.{length, getD, set, drop}
 use lib.Seq.{sets}
 use lib.Dec.{ltb, leb, eqb}
 use Rattle.nibl.specs.Bytes.{if_then_else_, bytes, notCR, front, all}
-use Rattle.nibl.specs.Tree.{Op, Expr, var, const, stat, top, byteAt, invert, negate, modulo, two}
+use Rattle.nibl.specs.Tree.{Expr, var, const, stat, top, byteAt, invert, negate, modulo, two}
 use Rattle.nibl.specs.Tree.{Item, text, stored, value}
 use Rattle.nibl.specs.Tree.{Stmt, letVar, letStat, letByte, letCopy, letText, goto, gosub, until, return, loop, remark, end, print, ifThen, for, next, input, inputText}
 use Rattle.nibl.specs.Read.{replied}
 use Rattle.nibl.specs.Values.{Result, is, no, Value, add16, sub16, not16, mod16, apply, isNegative, less16, printed}
 use Rattle.nibl.specs.Stack.{pushOf, popOf, pushFor, popFor}
-use Rattle.nibl.specs.Typing.{Kept, Gathered, gather}
+use Rattle.nibl.specs.Typing.{Gathered, gather}
 use Rattle.nibl.specs.Page.{find, used, mark}
 use Rattle.nibl.specs.declared.Place.{Place}
 use Rattle.nibl.specs.declared.PlaceStack.{PlaceStack}
-use Rattle.nibl.specs.declared.ForEntry.{ForEntry}
 use Rattle.nibl.specs.declared.ForStack.{ForStack}
 use Rattle.nibl.specs.declared.Top.{Top}
 use Rattle.nibl.specs.declared.Top.the-variants as top
 use Rattle.nibl.specs.declared.TopFor.{TopFor}
 use Rattle.nibl.specs.declared.TopFor.the-variants as topf
-use Rattle.nibl.specs.declared.Paused.{Paused}
 use Rattle.nibl.specs.declared.Session.{Session}
 
 -- what a statement can change
@@ -34,7 +32,7 @@ pub record World : Type 0 where
   pub outpos : ℕ
   pub inpos : ℕ
 
--- what it sees besides: the limit of lines, the page, the input, the sense byte, and the place that ends it
+-- what it sees besides: the limit of a line's bytes, the page, the input, the sense byte, and the place that ends it
 pub record Env : Type 0 where
   pub lim : ℕ
   pub page : List ℕ
@@ -43,8 +41,11 @@ pub record Env : Type 0 where
   pub here : ℕ
 
 -- the record with a part changed
+abbrev pub withVars : Session → List ℕ → Session
+withVars s x = record { vars = x; flags = s .flags; gosubs = s .gosubs; dos = s .dos; fors = s .fors; paused = s .paused }
+
 abbrev pub withVar : Session → ℕ → ℕ → Session
-withVar s v x = record { vars = set (s .vars) v x; flags = s .flags; gosubs = s .gosubs; dos = s .dos; fors = s .fors; paused = s .paused }
+withVar s v x = withVars s (set (s .vars) v x)
 
 abbrev pub withFlags : Session → ℕ → Session
 withFlags s x = record { vars = s .vars; flags = x; gosubs = s .gosubs; dos = s .dos; fors = s .fors; paused = s .paused }
@@ -80,9 +81,10 @@ pub data Done : Type 0 where
   done : Next → World → Done
 
 module _ {A B : Type 0} where
-  abbrev pub with : Result A → (A → Result B) → Result B
-  with (is a) k = k a
-  with (no n) k = no n
+  -- what was asked for, or its refusal, and then k
+  abbrev pub bind : Result A → (A → Result B) → Result B
+  bind (is a) k = k a
+  bind (no n) k = no n
 
 module _ {A : Type 0} where
   -- what was asked for, or the statement's refusal with the world as it was
@@ -117,11 +119,11 @@ eval e w (var v) = is (getD (w .session .vars) v 0)
 eval e w (const n) = is n
 eval e w stat = is (statOf (e .sense) (w .session .flags))
 eval e w top = is (used (e .page))
-eval e w (byteAt a) = with (eval e w a) (λ x. byteOf (w .memory) x)
-eval e w (invert a) = with (eval e w a) (λ x. is (not16 x))
-eval e w (negate a) = with (eval e w a) (λ x. is (sub16 0 x))
-eval e w (modulo a b) = with (eval e w a) (λ x. with (eval e w b) (λ y. mod16 x y))
-eval e w (two o a b) = with (eval e w a) (λ x. with (eval e w b) (λ y. apply o x y))
+eval e w (byteAt a) = bind (eval e w a) (λ x. byteOf (w .memory) x)
+eval e w (invert a) = bind (eval e w a) (λ x. is (not16 x))
+eval e w (negate a) = bind (eval e w a) (λ x. is (sub16 0 x))
+eval e w (modulo a b) = bind (eval e w a) (λ x. bind (eval e w b) (λ y. mod16 x y))
+eval e w (two o a b) = bind (eval e w a) (λ x. bind (eval e w b) (λ y. apply o x y))
 
 -- "an output item does not fit whole"
 unfoldable pub put : List ℕ → World → Done
@@ -132,7 +134,7 @@ put bs w =
 -- "PRINT works item by item, 16 before 17"
 unfoldable pub putItem : Env → Item → World → Done
 putItem e (text bs) w = put bs w
-putItem e (stored a) w = given (with (eval e w a) (stringAt (w .memory))) w (λ bs. put bs w)
+putItem e (stored a) w = given (bind (eval e w a) (stringAt (w .memory))) w (λ bs. put bs w)
 putItem e (value a) w = given (eval e w a) w (λ x. put (printed x) w)
 
 unfoldable pub putItems : Env → List Item → World → Done
@@ -144,7 +146,7 @@ abbrev pub putEnd : Bool → World → Done
 putEnd true w = done on w
 putEnd false w = put (13 ∷ 10 ∷ []) w
 
--- an "@" store, and a string store with its CR
+-- a store into memory
 unfoldable pub keepIn : World → Result (List ℕ) → Done
 keepIn w r = given r w (λ m. done on (withMemory w m))
 
@@ -156,7 +158,7 @@ lineThere (some q) = is q
 abbrev pub place : ℕ → Place
 place p = record { 0 = p }
 
--- a saved place is gone on after
+-- "RETURN to the immediate mark" is 0; else the run goes on after the place
 abbrev pub after : Place → Next
 after p = if eqb (p .0) mark then stop 0 else go (suc (p .0))
 
@@ -224,10 +226,10 @@ exec e (letVar v a) w = given (eval e w a) w (λ x. done on (withSession w (with
 exec e (letStat a) w = given (eval e w a) w (λ x. done on (withSession w (withFlags (w .session) (x % 8))))
 exec e (letByte a b) w = given (eval e w a) w (λ p. given (eval e w b) w (λ x. keepIn w (storeAt (w .memory) p (x % 256 ∷ []))))
 exec e (letCopy a b) w =
-    given (eval e w a) w (λ p. given (eval e w b) w (λ q. keepIn w (with (stringAt (w .memory) q) (λ bs. storeAt (w .memory) p (bs ++ (13 ∷ []))))))
+    given (eval e w a) w (λ p. given (eval e w b) w (λ q. keepIn w (bind (stringAt (w .memory) q) (λ bs. storeAt (w .memory) p (bs ++ (13 ∷ []))))))
 exec e (letText a bs) w = given (eval e w a) w (λ p. keepIn w (storeAt (w .memory) p (bs ++ (13 ∷ []))))
-exec e (goto a) w = given (with (eval e w a) (λ n. lineThere (find (e .page) n))) w (λ q. done (go q) w)
-exec e (gosub a) w = given (with (eval e w a) (λ n. lineThere (find (e .page) n))) w (gosubTo e w)
+exec e (goto a) w = given (bind (eval e w a) (λ n. lineThere (find (e .page) n))) w (λ q. done (go q) w)
+exec e (gosub a) w = given (bind (eval e w a) (λ n. lineThere (find (e .page) n))) w (gosubTo e w)
 exec e (until a) w = given (eval e w a) w (λ x. untilBy w x (popOf (w .session .dos) .top))
 exec e return w = returnBy w (popOf (w .session .gosubs) .top)
 exec e loop w = doHere e w

@@ -60,8 +60,10 @@ isRecord lim low q =
 unfoldable pub goodN : ℕ → ℕ → ℕ → List ℕ → Bool
 goodN lim zero low q = false
 goodN lim (suc k) low q =
-    elim (isEnd q) [ true ↦ true
-    | false ↦ elim (isRecord lim low q) [ true ↦ goodN lim k (suc (lineAt q)) (drop (lengthAt q) q) | false ↦ false ] ]
+    elim (isEnd q) [
+      | true ↦ true
+      | false ↦ elim (isRecord lim low q) [ true ↦ goodN lim k (suc (lineAt q)) (drop (lengthAt q) q) | false ↦ false ]
+    ]
 
 unfoldable pub isGood : ℕ → List ℕ → Bool
 isGood lim page = goodN lim (suc (length page)) 0 page
@@ -70,8 +72,10 @@ isGood lim page = goodN lim (suc (length page)) 0 page
 unfoldable pub recordsN : ℕ → List ℕ → List Stored
 recordsN zero q = []
 recordsN (suc k) q =
-    elim (isEnd q || ltb (lengthAt q) 5) [ true ↦ []
-    | false ↦ record { line = lineAt q; text = textAt q } ∷ recordsN k (drop (lengthAt q) q) ]
+    elim (isEnd q || ltb (lengthAt q) 5) [
+      | true ↦ []
+      | false ↦ record { line = lineAt q; text = textAt q } ∷ recordsN k (drop (lengthAt q) q)
+    ]
 
 unfoldable pub recordsOf : List ℕ → List Stored
 recordsOf page = recordsN (suc (length page)) page

@@ -96,7 +96,6 @@ module _ {A : Type 0} where
 
 module _ {A B : Type 0} where
   infixl 20 _>>=_
-
   abbrev pub andThen : Found A → (A → Reader B) → Found B
   andThen nothing k = nothing
   andThen (found a s) k = k a s
@@ -231,8 +230,11 @@ abbrev pub letCases : List (ℕ × Reader Stmt)
 letCases =
     (number "STAT", assigned letStat)
     ∷ (number "@", read factor >>= (λ a. assigned (letByte a)))
-    ∷ (number "$", read factor >>= (λ a. key "=" (λ s.
-        orElse (aString s) (λ bs. give (letText a bs)) (key "$" (read factor >>= (λ b. give (letCopy a b)))) s)))
+    ∷ (
+      number "$",
+      read factor >>= (λ a. key "=" (λ s.
+          orElse (aString s) (λ bs. give (letText a bs)) (key "$" (read factor >>= (λ b. give (letCopy a b)))) s)),
+    )
     ∷ []
 
 abbrev pub letOf : Token → Reader Stmt

@@ -4,30 +4,30 @@ use mathlib.Core.List.{List}
 use mathlib.Core.Bool.{Bool}
 
 pub data Op : Type 0 where
-  times over both plus minus either : Op                 -- * / AND + - OR
-  equal less greater atMost atLeast unequal : Op            -- = < > <= >= <>
+  times over both plus minus either : Op  -- * / AND + - OR
+  equal less greater atMost atLeast unequal : Op  -- = < > <= >= <>
 
 pub data Expr : Type 0 where
   var const : ℕ → Expr
   stat top : Expr
-  byteAt invert negate : Expr → Expr                     -- "@", NOT, a leading minus
+  byteAt invert negate : Expr → Expr  -- "@", NOT, a leading minus
   modulo : Expr → Expr → Expr
   two : Op → Expr → Expr → Expr
 
 pub data Item : Type 0 where
   text : List ℕ → Item
-  stored value : Expr → Item                             -- "$" factor, a relation
+  stored value : Expr → Item  -- "$" factor, a relation
 
 pub data Stmt : Type 0 where
   letVar : ℕ → Expr → Stmt
   letStat : Expr → Stmt
-  letByte letCopy : Expr → Expr → Stmt                   -- "@" factor = relation, "$" factor = "$" factor
+  letByte letCopy : Expr → Expr → Stmt  -- "@" factor = relation, "$" factor = "$" factor
   letText : Expr → List ℕ → Stmt
   goto gosub until : Expr → Stmt
-  return loop remark end : Stmt                          -- loop is DO
-  print : List Item → Bool → Stmt                        -- whether a last ";" is there
+  return loop remark end : Stmt  -- loop is DO
+  print : List Item → Bool → Stmt  -- whether a last ";" is there
   ifThen : Expr → Stmt → Stmt
-  for : ℕ → Expr → Expr → Expr → Stmt                    -- first value, limit, step
+  for : ℕ → Expr → Expr → Expr → Stmt  -- first value, limit, step
   next : ℕ → Stmt
   input : List ℕ → Stmt
   inputText : Expr → Stmt

@@ -1,6 +1,6 @@
 -- Values: 16-bit patterns, 0 to 65,535, read as signed numbers where the order or the sign counts.
 use Prim.Native.Nat.{ℕ, zero, suc, _+_, _-_, _*_, _/_, _%_}
-use mathlib.Core.Bool.{Bool, true, false, not, _&&_, _||_}
+use mathlib.Core.Bool.{Bool, true, false, not}
 use mathlib.Core.List.{List, [], _∷_, _++_}
 use lib.Dec.{ltb, eqb}
 use lib.Bits.{bitAnd, bitOr}

@@ -1,18 +1,18 @@
 -- Words: "always the longest that fits".
-use Prim.Native.Nat.{ℕ, zero, suc, _+_, _-_, _%_, _≤_}
+use Prim.Native.Nat.{ℕ, suc, _-_, _%_, _≤_}
 use Prim.Native.String.{String}
 use mathlib.Core.Path.{_≡_}
-use mathlib.Core.Bool.{Bool, true, false, not, _&&_, _||_}
+use mathlib.Core.Bool.{Bool, true, false, _&&_, _||_}
 use mathlib.Core.List.{List, [], _∷_, _++_}
 use mathlib.Core.Option.{Option, none, some}
 use lib.Dec.{eqb}
 use Rattle.nibl.specs.Bytes.{if_then_else_, bytes, same, isDigit, isCapital, isHexDigit, isQuotable, All, starts, decimalValue, hexValue}
 
 pub data Token : Type 0 where
-  variable : ℕ → Token          -- 0 for A to 25 for Z
-  decimal hex : ℕ → Token       -- a constant's value
-  string : List ℕ → Token       -- what the quotes enclose
-  sign : ℕ → Token              -- a keyword, a pair or a symbol, by its number
+  variable : ℕ → Token  -- 0 for A to 25 for Z
+  decimal hex : ℕ → Token  -- a constant's value
+  string : List ℕ → Token  -- what the quotes enclose
+  sign : ℕ → Token  -- a keyword, a pair or a symbol, by its number
 
 -- a keyword's number is 128 and its place in this list
 abbrev pub keywords : List (List ℕ)
@@ -25,7 +25,7 @@ keywords =
 abbrev pub commands : List (List ℕ)
 commands = bytes "NEW" ∷ bytes "CLEAR" ∷ bytes "LIST" ∷ bytes "RUN" ∷ []
 
--- 128 and the place of a spelling in a list
+-- the first number whose spelling in the list is this one, counted from n; keywords and commands are counted from 128
 abbrev pub placeFrom : ℕ → List (List ℕ) → List ℕ → Option ℕ
 placeFrom n [] w = none
 placeFrom n (k ∷ ks) w = if same k w then some n else placeFrom (suc n) ks w

@@ -1,0 +1,331 @@
+//! One call of the controller as a line of JSON, and what it left.
+
+use std::fmt::Write;
+
+use crate::calls::{continue_run, take_line, Answer, Lent};
+use crate::json::{parse, push_bytes, push_list, Json};
+use crate::record::{ForEntry, ForStack, Pause, Place, PlaceStack, Record};
+
+#[derive(Clone, Copy, Debug, PartialEq, Eq)]
+pub enum Call {
+    Line,
+    Continue,
+}
+
+/// All a call is given.
+#[derive(Clone, Debug, PartialEq, Eq)]
+pub struct Case {
+    pub call: Call,
+    pub page: Vec<u8>,
+    pub memory: Vec<u8>,
+    pub input: Vec<u8>,
+    pub output: Vec<u8>,
+    pub input_position: u32,
+    pub output_position: u32,
+    pub budget: u32,
+    pub sense: u8,
+    pub record: Record,
+}
+
+/// Why a line does not give a case.
+#[derive(Clone, Debug, PartialEq, Eq)]
+pub enum Unread {
+    /// It is a case, but a number is too wide for its field of the record.
+    Skip,
+    Error(String),
+}
+
+type Reading<T> = Result<T, Unread>;
+
+impl Case {
+    /// Makes the call. Afterwards the case holds what the call left.
+    pub fn run(&mut self) -> Answer {
+        let lent = Lent {
+            page: &mut self.page,
+            memory: &mut self.memory,
+            input: &self.input,
+            output: &mut self.output,
+            input_position: self.input_position,
+            output_position: self.output_position,
+            sense: self.sense,
+            budget: self.budget,
+        };
+        match self.call {
+            Call::Line => take_line(&mut self.record, lent),
+            Call::Continue => continue_run(&mut self.record, lent),
+        }
+    }
+
+    pub fn read(line: &[u8]) -> Reading<Case> {
+        const KEYS: [&str; 10] = [
+            "call", "page", "mem", "inp", "out", "inpos", "outpos", "budget", "sense", "rec",
+        ];
+        let whole = parse(line).map_err(Unread::Error)?;
+        let [call, page, memory, input, output, input_position, output_position, budget, sense, record] =
+            entries(&whole, KEYS)?;
+        Ok(Case {
+            call: read_call(call)?,
+            page: read_bytes(page)?,
+            memory: read_bytes(memory)?,
+            input: read_bytes(input)?,
+            output: read_bytes(output)?,
+            input_position: lent_number(input_position)?,
+            output_position: lent_number(output_position)?,
+            budget: lent_number(budget)?,
+            sense: lent_number(sense)?,
+            record: read_record(record)?,
+        })
+    }
+
+    /// The case as a line of JSON, without the line's end.
+    pub fn write(&self) -> String {
+        let mut out = String::new();
+        out.push_str(match self.call {
+            Call::Line => "{\"call\":\"line\"",
+            Call::Continue => "{\"call\":\"continue\"",
+        });
+        push_field(&mut out, "page", &self.page);
+        push_field(&mut out, "mem", &self.memory);
+        push_field(&mut out, "inp", &self.input);
+        push_field(&mut out, "out", &self.output);
+        push_number(&mut out, "inpos", self.input_position);
+        push_number(&mut out, "outpos", self.output_position);
+        push_number(&mut out, "budget", self.budget);
+        push_number(&mut out, "sense", self.sense.into());
+        push_record(&mut out, &self.record);
+        out.push('}');
+        out
+    }
+
+    /// What the call left, as a line of JSON without the line's end.
+    pub fn write_outcome(&self, answer: &Answer) -> String {
+        let mut out = format!("{{\"stop\":{}", answer.stop.number());
+        match answer.line {
+            None => out.push_str(",\"line\":null"),
+            Some(line) => push_number(&mut out, "line", line.into()),
+        }
+        push_number(&mut out, "steps", answer.steps);
+        push_number(&mut out, "inpos", answer.input_position);
+        push_number(&mut out, "outpos", answer.output_position);
+        push_field(&mut out, "page", &self.page);
+        push_field(&mut out, "mem", &self.memory);
+        push_field(&mut out, "out", &self.output);
+        push_record(&mut out, &without_dead_slots(&self.record));
+        out.push('}');
+        out
+    }
+}
+
+/// Answers one line of a case driver's input.
+pub fn drive(line: &[u8]) -> String {
+    match Case::read(line) {
+        Ok(mut case) => {
+            let answer = case.run();
+            case.write_outcome(&answer)
+        }
+        Err(Unread::Skip) => "{\"skip\":true}".to_string(),
+        Err(Unread::Error(what)) => {
+            let what: String = what.chars().filter(|c| !"\"\\".contains(*c)).collect();
+            format!("{{\"error\":\"{what}\"}}")
+        }
+    }
+}
+
+fn error<T>(what: impl Into<String>) -> Reading<T> {
+    Err(Unread::Error(what.into()))
+}
+
+/// The values of exactly these keys, in this order of keys.
+fn entries<'a, const N: usize>(json: &'a Json, keys: [&str; N]) -> Reading<[&'a Json; N]> {
+    let Json::Map(map) = json else {
+        return error(format!("no map with {keys:?}"));
+    };
+    if map.len() != N {
+        return error(format!("not the {N} keys {keys:?}"));
+    }
+    let mut found = [json; N];
+    for (slot, key) in found.iter_mut().zip(keys) {
+        match map.iter().find(|(name, _)| name == key) {
+            Some((_, value)) => *slot = value,
+            None => return error(format!("no {key}")),
+        }
+    }
+    Ok(found)
+}
+
+/// The entries of a list of exactly this length.
+fn list<const N: usize>(json: &Json) -> Reading<&[Json; N]> {
+    let Json::List(list) = json else {
+        return error("no list");
+    };
+    match list.as_slice().try_into() {
+        Ok(list) => Ok(list),
+        Err(_) => error(format!("no list of {N}")),
+    }
+}
+
+fn number(json: &Json) -> Reading<i64> {
+    match json {
+        Json::Number(number) => Ok(*number),
+        _ => error("no number"),
+    }
+}
+
+/// A number of the call: one that does not fit makes the line no case.
+fn lent_number<T: TryFrom<i64>>(json: &Json) -> Reading<T> {
+    let number = number(json)?;
+    number
+        .try_into()
+        .or_else(|_| error(format!("{number} does not fit")))
+}
+
+/// A number of the record: one that does not fit is skipped.
+fn field<T: TryFrom<i64>>(json: &Json) -> Reading<T> {
+    number(json)?.try_into().map_err(|_| Unread::Skip)
+}
+
+fn read_call(json: &Json) -> Reading<Call> {
+    match json {
+        Json::Text(call) if call == "line" => Ok(Call::Line),
+        Json::Text(call) if call == "continue" => Ok(Call::Continue),
+        _ => error("no call"),
+    }
+}
+
+fn read_bytes(json: &Json) -> Reading<Vec<u8>> {
+    match json {
+        Json::List(list) => list.iter().map(lent_number).collect(),
+        _ => error("no list of bytes"),
+    }
+}
+
+fn read_record(json: &Json) -> Reading<Record> {
+    let keys = ["vars", "flags", "gosub", "do", "for", "paused"];
+    let [variables, flags, gosubs, dos, fors, paused] = entries(json, keys)?;
+    Ok(Record {
+        variables: fields(list(variables)?, field)?,
+        flags: field(flags)?,
+        gosubs: read_places(gosubs)?,
+        dos: read_places(dos)?,
+        fors: read_fors(fors)?,
+        paused: read_pause(paused)?,
+    })
+}
+
+fn fields<T: Copy + Default, const N: usize>(
+    list: &[Json; N],
+    read: impl Fn(&Json) -> Reading<T>,
+) -> Reading<[T; N]> {
+    let mut fields = [T::default(); N];
+    for (field, json) in fields.iter_mut().zip(list) {
+        *field = read(json)?;
+    }
+    Ok(fields)
+}
+
+fn read_place(json: &Json) -> Reading<Place> {
+    field(json).map(Place)
+}
+
+fn read_places(json: &Json) -> Reading<PlaceStack> {
+    let [depth, places] = list(json)?;
+    Ok(PlaceStack {
+        depth: field(depth)?,
+        places: fields(list(places)?, read_place)?,
+    })
+}
+
+fn read_fors(json: &Json) -> Reading<ForStack> {
+    let [depth, slots] = list(json)?;
+    let read_entry = |json: &Json| {
+        let [variable, limit, step, place] = entries(json, ["var", "limit", "step", "place"])?;
+        Ok(ForEntry {
+            variable: field(variable)?,
+            limit: field(limit)?,
+            step: field(step)?,
+            place: read_place(place)?,
+        })
+    };
+    Ok(ForStack {
+        depth: field(depth)?,
+        entries: fields(list(slots)?, read_entry)?,
+    })
+}
+
+fn read_pause(json: &Json) -> Reading<Option<Pause>> {
+    match json {
+        Json::Null => Ok(None),
+        Json::Map(map) => match map.as_slice() {
+            [(key, Json::Bool(true))] if key == "start" => Ok(Some(Pause::Start)),
+            [(key, place)] if key == "at" => Ok(Some(Pause::After(read_place(place)?))),
+            _ => error("no paused place"),
+        },
+        _ => error("no paused place"),
+    }
+}
+
+/// Dead slots are shown as zeros, whatever they hold.
+fn without_dead_slots(record: &Record) -> Record {
+    let mut shown = record.clone();
+    for stack in [&mut shown.gosubs, &mut shown.dos] {
+        stack
+            .places
+            .iter_mut()
+            .skip(stack.depth as usize)
+            .for_each(|slot| *slot = Place::default());
+    }
+    let fors = &mut shown.fors;
+    fors.entries
+        .iter_mut()
+        .skip(fors.depth as usize)
+        .for_each(|slot| *slot = ForEntry::default());
+    shown
+}
+
+fn push(out: &mut String, what: std::fmt::Arguments) {
+    out.write_fmt(what)
+        .expect("a string takes all that is written");
+}
+
+fn push_number(out: &mut String, key: &str, number: u32) {
+    push(out, format_args!(",\"{key}\":{number}"));
+}
+
+fn push_field(out: &mut String, key: &str, bytes: &[u8]) {
+    push(out, format_args!(",\"{key}\":"));
+    push_bytes(out, bytes);
+}
+
+fn push_record(out: &mut String, record: &Record) {
+    out.push_str(",\"rec\":{\"vars\":");
+    push_list(out, &record.variables, |out, value| {
+        push(out, format_args!("{value}"))
+    });
+    push_number(out, "flags", record.flags.into());
+    push_places(out, "gosub", &record.gosubs);
+    push_places(out, "do", &record.dos);
+    push(out, format_args!(",\"for\":[{},", record.fors.depth));
+    push_list(out, &record.fors.entries, |out, entry| {
+        let (limit, step, place) = (entry.limit, entry.step, entry.place.0);
+        push(out, format_args!("{{\"var\":{}", entry.variable));
+        push(
+            out,
+            format_args!(",\"limit\":{limit},\"step\":{step},\"place\":{place}}}"),
+        );
+    });
+    match record.paused {
+        None => out.push_str("],\"paused\":null}"),
+        Some(Pause::Start) => out.push_str("],\"paused\":{\"start\":true}}"),
+        Some(Pause::After(place)) => {
+            push(out, format_args!("],\"paused\":{{\"at\":{}}}}}", place.0));
+        }
+    }
+}
+
+fn push_places(out: &mut String, key: &str, stack: &PlaceStack) {
+    push(out, format_args!(",\"{key}\":[{},", stack.depth));
+    push_list(out, &stack.places, |out, place| {
+        push(out, format_args!("{}", place.0))
+    });
+    out.push(']');
+}

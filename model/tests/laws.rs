@@ -1,0 +1,278 @@
+//! Laws that hold of any implementation, over random cases of a fixed seed.
+
+use model::case::{Call, Case};
+use model::page::read_page;
+use model::random::cases::case;
+use model::random::lines::{kept, verdict};
+use model::random::pages::{program, render};
+use model::random::sessions::session;
+use model::random::{Random, Size};
+use model::session::run_session;
+use model::{Answer, Record, Stop};
+
+const ROUNDS: usize = 100_000;
+
+/// Runs a law over random cases of both sizes: what was, the answer, what is.
+fn for_cases(seed: u64, mut law: impl FnMut(&Case, &Answer, &Case)) {
+    let mut random = Random::new(seed);
+    for round in 0..ROUNDS {
+        let size = [Size::Small, Size::Full][round % 2];
+        let before = case(&mut random, size);
+        let mut after = before.clone();
+        let answer = after.run();
+        law(&before, &answer, &after);
+    }
+}
+
+fn is_first_refusal(before: &Case, answer: &Answer) -> bool {
+    match answer.stop {
+        Stop::OutOfRange | Stop::BadPage | Stop::BadRecord => true,
+        Stop::NoCr => before.call == Call::Line && answer.line.is_none(),
+        _ => false,
+    }
+}
+
+/// The page's used bytes, if it is sound.
+fn used(page: &[u8]) -> Option<usize> {
+    read_page(page).map(|program| program.used())
+}
+
+fn is_sound(case: &Case) -> bool {
+    read_page(&case.page).is_some_and(|program| case.record.fits(&program))
+}
+
+/// The record with its pause taken away.
+fn unpaused(record: &Record) -> Record {
+    Record {
+        paused: None,
+        ..record.clone()
+    }
+}
+
+#[test]
+fn every_call_keeps_the_laws() {
+    let mut seen = [0usize; 21];
+    for_cases(1, |before, answer, after| {
+        seen[usize::from(answer.stop.number())] += 1;
+        refusals_change_nothing(before, answer, after);
+        soundness_stays(before, answer, after);
+        only_the_answered_bytes_change(before, answer, after);
+        answers_are_well_formed(before, answer, after);
+        no_reading_changes_only_position_and_pause(before, answer, after);
+    });
+    for stop in Stop::ALL {
+        let times = seen[usize::from(stop.number())];
+        assert!(times >= ROUNDS / 500, "{stop:?} occurs {times} times");
+    }
+}
+
+fn refusals_change_nothing(before: &Case, answer: &Answer, after: &Case) {
+    if is_first_refusal(before, answer) {
+        assert_eq!(before, after);
+        assert_eq!(answer.input_position, before.input_position);
+        assert_eq!(answer.output_position, before.output_position);
+        assert_eq!((answer.line, answer.steps), (None, 0));
+    }
+}
+
+fn soundness_stays(before: &Case, answer: &Answer, after: &Case) {
+    let refused = [Stop::OutOfRange, Stop::BadPage, Stop::BadRecord].contains(&answer.stop);
+    // Out of range may hide a sound page; otherwise only 18 and 19 speak of it.
+    if answer.stop != Stop::OutOfRange {
+        assert_eq!(is_sound(before), !refused);
+    }
+    assert_eq!(is_sound(before), is_sound(after));
+}
+
+fn only_the_answered_bytes_change(before: &Case, answer: &Answer, after: &Case) {
+    assert_eq!(before.page.len(), after.page.len());
+    if let Some(used) = used(&after.page) {
+        assert_eq!(before.page[used..], after.page[used..]);
+    }
+    assert_eq!(before.input, after.input);
+    if answer.stop != Stop::OutOfRange {
+        let written = before.output_position as usize..answer.output_position as usize;
+        let mut output = before.output.clone();
+        output[written.clone()].copy_from_slice(&after.output[written]);
+        assert_eq!(output, after.output);
+    }
+    if before.call == Call::Continue || answer.steps > 0 {
+        assert_eq!(before.page, after.page);
+    }
+}
+
+fn answers_are_well_formed(before: &Case, answer: &Answer, after: &Case) {
+    assert!(answer.steps <= before.budget);
+    assert!(answer.input_position >= before.input_position);
+    assert!(answer.output_position >= before.output_position);
+    if let Some(line) = answer.line {
+        assert!(answer.steps > 0 && ![Stop::Done, Stop::Paused].contains(&answer.stop));
+        let program = read_page(&after.page).expect("a sound page");
+        assert!(program.lines.iter().any(|there| there.number.0 == line));
+    }
+    if answer.stop == Stop::Paused {
+        assert_eq!(answer.steps, before.budget);
+        assert!(after.record.paused.is_some());
+    } else if !is_first_refusal(before, answer) {
+        assert_eq!(after.record.paused, None);
+    }
+}
+
+fn no_reading_changes_only_position_and_pause(before: &Case, answer: &Answer, after: &Case) {
+    let lineless = [Stop::NoReading, Stop::NotImmediate, Stop::PageFull];
+    if lineless.contains(&answer.stop) {
+        let mut expected = before.clone();
+        expected.record = unpaused(&before.record);
+        assert_eq!(&expected, after);
+        assert!(answer.input_position > before.input_position);
+        assert_eq!(answer.output_position, before.output_position);
+        assert_eq!((answer.line, answer.steps), (None, 0));
+    }
+}
+
+#[test]
+fn split_budgets_add_up() {
+    let mut random = Random::new(2);
+    let mut paused = 0;
+    for round in 0..ROUNDS {
+        let mut split = case(&mut random, [Size::Small, Size::Full][round % 2]);
+        if split.budget > 65_535 {
+            continue;
+        }
+        let mut whole = split.clone();
+        let answer = whole.run();
+        split.budget = random.below(whole.budget as usize + 1) as u32;
+        let first = split.run();
+        if first.stop != Stop::Paused {
+            continue;
+        }
+        paused += 1;
+        let second = go_on(&mut split, &first, whole.budget);
+        assert_eq!((second.stop, second.line), (answer.stop, answer.line));
+        assert_eq!(first.steps + second.steps, answer.steps);
+        assert_eq!(second.input_position, answer.input_position);
+        assert_eq!(second.output_position, answer.output_position);
+        assert_eq!(split.record, whole.record);
+        assert_eq!(split.memory, whole.memory);
+        assert_eq!(split.output, whole.output);
+        assert_eq!(split.page, whole.page);
+    }
+    assert!(paused > ROUNDS / 10, "{paused} pauses");
+}
+
+/// Continues a paused case with what its first budget left of the whole.
+fn go_on(case: &mut Case, first: &Answer, whole: u32) -> Answer {
+    case.call = Call::Continue;
+    case.budget = whole - first.steps;
+    case.input_position = first.input_position;
+    case.output_position = first.output_position;
+    case.run()
+}
+
+/// A call that types these bytes, CR included, with room for a whole listing.
+fn typing(page: Vec<u8>, input: Vec<u8>) -> Case {
+    Case {
+        call: Call::Line,
+        page,
+        memory: Vec::new(),
+        input,
+        output: vec![0; 65_535],
+        input_position: 0,
+        output_position: 0,
+        budget: 0,
+        sense: 0,
+        record: Record::default(),
+    }
+}
+
+/// Types all lines of an input into an empty page of this length.
+fn retyped(input: &[u8], length: usize) -> Vec<u8> {
+    let mut page = vec![0; length];
+    page[..2].fill(255);
+    let mut gate = typing(page, input.to_vec());
+    gate.output.clear();
+    while (gate.input_position as usize) < input.len() {
+        let answer = gate.run();
+        if answer.stop == Stop::NoCr {
+            // What is left is the LF of the last listed line.
+            assert_eq!(input[gate.input_position as usize..], [10]);
+            break;
+        }
+        assert_eq!(answer.stop, Stop::Done);
+        gate.input_position = answer.input_position;
+    }
+    gate.page
+}
+
+#[test]
+fn a_listing_retyped_is_the_program() {
+    let mut random = Random::new(3);
+    let mut lines = 0;
+    for round in 0..4_000 {
+        let program = program(&mut random, [Size::Small, Size::Full][round % 2], 100);
+        lines += program.len();
+        let page = render(&program);
+        let mut listing = typing(page.clone(), b"LIST\r".to_vec());
+        let answer = listing.run();
+        assert_eq!(answer.stop, Stop::Done);
+        let listed = &listing.output[..answer.output_position as usize];
+        assert_eq!(retyped(listed, page.len()), page);
+    }
+    assert!(lines > 10_000, "{lines} lines");
+}
+
+#[test]
+fn lines_typed_in_any_order_give_the_same_page() {
+    let mut random = Random::new(4);
+    for _ in 0..2_000 {
+        let mut program = program(&mut random, Size::Full, 100);
+        let page = render(&program);
+        for place in (1..program.len()).rev() {
+            program.swap(place, random.below(place + 1));
+        }
+        let typed: String = program
+            .iter()
+            .map(|(number, text)| format!("{number}{text}\r"))
+            .collect();
+        let retyped = retyped(typed.as_bytes(), page.len());
+        assert_eq!(retyped, page);
+    }
+}
+
+#[test]
+fn cases_are_read_as_they_are_written() {
+    let mut random = Random::new(5);
+    for _ in 0..2_000 {
+        let case = case(&mut random, Size::Small);
+        assert_eq!(Case::read(case.write().as_bytes()), Ok(case));
+    }
+}
+
+#[test]
+fn sessions_end_and_show_every_line() {
+    let mut random = Random::new(6);
+    for _ in 0..60 {
+        let input = session(&mut random, Size::Full, 100);
+        let mut shown = Vec::new();
+        run_session(&input, &mut shown).expect("a vector takes all");
+        assert_eq!(shown.last(), Some(&b'\n'));
+    }
+}
+
+#[test]
+fn verdicts_of_all_kinds_occur() {
+    let mut random = Random::new(7);
+    let lines: Vec<String> = (0..20_000)
+        .map(|_| verdict(&kept(&mut random, Size::Full)))
+        .collect();
+    for name in ["blank", "delete", "store", "command", "statement", "none"] {
+        let key = format!("\"verdict\":\"{name}\"");
+        let times = lines.iter().filter(|line| line.contains(&key)).count();
+        assert!(times >= 100, "{name} occurs {times} times");
+    }
+    let three = lines
+        .iter()
+        .filter(|line| line.ends_with("\"three\":true}"))
+        .count();
+    assert!(three >= 100, "{three} of them are for programs only");
+}
