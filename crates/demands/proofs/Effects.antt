@@ -19,7 +19,7 @@ use Rattle.nibl.specs.Values.{Result, is, no, Value, apply, mod16, quotient16, 
 use Rattle.nibl.specs.Stack.{pushOf, popOf, pushFor, popFor}
 use Rattle.nibl.specs.Typing.{Kept, Gathered, gather}
 use Rattle.nibl.specs.Page.{Stored, isAmong, find}
-use Rattle.nibl.specs.Meaning.{World, Env, Next, on, skip, go, stop, Done, done, withVar, withSession, withInpos, withOutput, with, given, went, byteOf, stringAt, storeAt, eval, put, putItem, putItems, putEnd, keepIn, lineThere, place, gosubTo, returnBy, doHere, untilBy, forHere, goesOn, nextBy, gathered, asked, assign, assignReply, exec}
+use Rattle.nibl.specs.Meaning.{World, Env, Next, on, skip, go, stop, Done, done, withVar, withSession, withInpos, withOutput, bind, given, went, byteOf, stringAt, storeAt, eval, put, putItem, putItems, putEnd, keepIn, lineThere, place, gosubTo, returnBy, doHere, untilBy, forHere, goesOn, nextBy, gathered, asked, assign, assignReply, exec}
 use Rattle.nibl.specs.Calls.{listed, listFrom}
 use Rattle.nibl.specs.declared.ForEntry.{ForEntry}
 use Rattle.nibl.specs.declared.Top.{Top}
@@ -34,9 +34,9 @@ pub data Known {A : Type 0} : Result A → Type 0 where
   refused′ : {n : ℕ} → isAmong refusals n ≡ true → Known (no n)
 
 module _ {A B : Type 0} where
-  with-known : (r : Result A) (k : A → Result B) → Known r → ((a : A) → Known (k a)) → Known (with r k)
-  with-known (is a) k h f = f a
-  with-known (no n) k (refused′ h) f = refused′ h
+  bind-known : (r : Result A) (k : A → Result B) → Known r → ((a : A) → Known (k a)) → Known (bind r k)
+  bind-known (is a) k h f = f a
+  bind-known (no n) k (refused′ h) f = refused′ h
 
 module _ {A : Type 0} where
   choice-known : (b : Bool) (r q : Result A) → Known r → Known q → Known (if b then r else q)
@@ -76,11 +76,11 @@ eval-known e w (var v) = given′
 eval-known e w (const n) = given′
 eval-known e w stat = given′
 eval-known e w top = given′
-eval-known e w (byteAt a) = with-known (eval e w a) _ (eval-known e w a) (byte-known (w .memory))
-eval-known e w (invert a) = with-known (eval e w a) _ (eval-known e w a) (λ x. given′)
-eval-known e w (negate a) = with-known (eval e w a) _ (eval-known e w a) (λ x. given′)
-eval-known e w (modulo a b) = with-known (eval e w a) _ (eval-known e w a) (λ x. with-known (eval e w b) _ (eval-known e w b) (mod-known x))
-eval-known e w (two o a b) = with-known (eval e w a) _ (eval-known e w a) (λ x. with-known (eval e w b) _ (eval-known e w b) (apply-known o x))
+eval-known e w (byteAt a) = bind-known (eval e w a) _ (eval-known e w a) (byte-known (w .memory))
+eval-known e w (invert a) = bind-known (eval e w a) _ (eval-known e w a) (λ x. given′)
+eval-known e w (negate a) = bind-known (eval e w a) _ (eval-known e w a) (λ x. given′)
+eval-known e w (modulo a b) = bind-known (eval e w a) _ (eval-known e w a) (λ x. bind-known (eval e w b) _ (eval-known e w b) (mod-known x))
+eval-known e w (two o a b) = bind-known (eval e w a) _ (eval-known e w a) (λ x. bind-known (eval e w b) _ (eval-known e w b) (apply-known o x))
 
 module _ (e : Env) (vs : List ℕ) where
   module _ {A : Type 0} where
@@ -122,8 +122,8 @@ module _ (e : Env) (vs : List ℕ) where
   unfolding putItem
   item-does (text bs) w k f = put-does bs w k f
   item-does (stored a) w k f =
-      rw (given-went (with (eval e w a) (stringAt (w .memory))) w (λ bs. put bs w) k)
-      (given-does _ w _ (with-known (eval e w a) _ (eval-known e w a) (string-known (w .memory))) (λ bs h. put-does bs w k f))
+      rw (given-went (bind (eval e w a) (stringAt (w .memory))) w (λ bs. put bs w) k)
+      (given-does _ w _ (bind-known (eval e w a) _ (eval-known e w a) (string-known (w .memory))) (λ bs h. put-does bs w k f))
   item-does (value a) w k f = rw (given-went (eval e w a) w (λ x. put (printed x) w) k) (given-does _ w _ (eval-known e w a) (λ x h. put-does (printed x) w k f))
 
   items-do : (is′ : List Item) (w : World) (k : World → Done) → ((u : World) → Does e vs u (k u)) → Does e vs w (went (putItems e is′ w) k)
@@ -150,7 +150,7 @@ module _ (e : Env) (vs : List ℕ) where
     go true h = let g : l ≡ sets m a bs = cc in rw g (length-sets m a bs)
     go false h = let z : _≡_ {A = ℕ} 0 1 = cc in absurd (omega arith)
 
-  copy-length : (m : List ℕ) (r : Result (List ℕ)) (a : ℕ) (l : List ℕ) → with r (λ bs. storeAt m a (bs ++ (13 ∷ []))) ≡ is l → length l ≡ length m
+  copy-length : (m : List ℕ) (r : Result (List ℕ)) (a : ℕ) (l : List ℕ) → bind r (λ bs. storeAt m a (bs ++ (13 ∷ []))) ≡ is l → length l ≡ length m
   copy-length m (is bs) a l h = kept-length m a (bs ++ (13 ∷ [])) l h
   copy-length m (no n) a l h = let z : _≡_ {A = ℕ} 0 1 = cc in absurd (omega arith)
 
@@ -164,7 +164,7 @@ module _ (e : Env) (vs : List ℕ) where
 
   -- to a line that is there
   to-line : (r : Value) (w : World) (k : ℕ → Done) → Known r → ((n q : ℕ) → find (e .page) n ≡ some q → Does e vs w (k q))
-      → Does e vs w (given (with r (λ n. lineThere (find (e .page) n))) w k)
+      → Does e vs w (given (bind r (λ n. lineThere (find (e .page) n))) w k)
   to-line (is n) w k h f = given-does _ w k (line-known (find (e .page) n)) (λ q g. f n q (line-there (find (e .page) n) q g))
   to-line (no n) w k (refused′ h) f = refuses h
 
@@ -243,7 +243,7 @@ module _ (e : Env) (vs : List ℕ) where
       keep-does w _ (store-known (w .memory) p _) (kept-length (w .memory) p _)))
   exec-in (letCopy a b) l w =
       given-does (eval e w a) w _ (eval-known e w a) (λ p h. given-does (eval e w b) w _ (eval-known e w b) (λ q g.
-      keep-does w _ (with-known (stringAt (w .memory) q) _ (string-known (w .memory) q) (λ bs. store-known (w .memory) p _)) (copy-length (w .memory) (stringAt (w .memory) q) p)))
+      keep-does w _ (bind-known (stringAt (w .memory) q) _ (string-known (w .memory) q) (λ bs. store-known (w .memory) p _)) (copy-length (w .memory) (stringAt (w .memory) q) p)))
   exec-in (letText a bs) l w =
       given-does (eval e w a) w _ (eval-known e w a) (λ p h. keep-does w _ (store-known (w .memory) p _) (kept-length (w .memory) p _))
   exec-in (goto a) l w = to-line (eval e w a) w _ (eval-known e w a) (λ n q h. goesTo n h)
