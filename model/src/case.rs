@@ -61,19 +61,18 @@ impl Case {
             "call", "page", "mem", "inp", "out", "inpos", "outpos", "budget", "sense", "rec",
         ];
         let whole = parse(line).map_err(Unread::Error)?;
-        let [call, page, memory, input, output, input_position, output_position, budget, sense, record] =
-            entries(&whole, KEYS)?;
+        let [call, page, mem, inp, out, inpos, outpos, budget, sense, rec] = entries(&whole, KEYS)?;
         Ok(Case {
             call: read_call(call)?,
             page: read_bytes(page)?,
-            memory: read_bytes(memory)?,
-            input: read_bytes(input)?,
-            output: read_bytes(output)?,
-            input_position: lent_number(input_position)?,
-            output_position: lent_number(output_position)?,
+            memory: read_bytes(mem)?,
+            input: read_bytes(inp)?,
+            output: read_bytes(out)?,
+            input_position: lent_number(inpos)?,
+            output_position: lent_number(outpos)?,
             budget: lent_number(budget)?,
             sense: lent_number(sense)?,
-            record: read_record(record)?,
+            record: read_record(rec)?,
         })
     }
 

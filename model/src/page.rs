@@ -78,11 +78,10 @@ fn frame(rest: &[u8]) -> Option<(LineNumber, &[u8], usize)> {
 }
 
 /// What a text must be before it is read. The limit comes first: it bounds
-/// the reader's recursion.
+/// the reader's recursion. That a text begins with no digit needs no look of
+/// its own, since no statement does.
 fn is_storable(number: LineNumber, text: &[u8]) -> bool {
-    text.len() + number.digits() <= LINE_LIMIT
-        && text.iter().copied().all(is_text_byte)
-        && !text.first().is_some_and(u8::is_ascii_digit)
+    text.len() + number.digits() <= LINE_LIMIT && text.iter().copied().all(is_text_byte)
 }
 
 impl Program {

@@ -1,21 +1,28 @@
 //! The tree a text is read into.
 //!
 //! Nodes stand in a few vectors and name each other by index. A whole page is
-//! read at every call, and this spares an allocation per node.
+//! read at every call, and this spares an allocation per node. Indices are
+//! narrow, since nothing longer than a page is read into one tree.
 
 use crate::value::{Operator, Value};
 
 #[derive(Clone, Copy, Debug, PartialEq, Eq)]
-pub struct ExpressionId(usize);
+pub struct ExpressionId(u32);
 
 #[derive(Clone, Copy, Debug, PartialEq, Eq)]
-pub struct StatementId(usize);
+pub struct StatementId(u32);
 
 /// Neighbours in one of the tree's lists, from the first up to the last.
 #[derive(Clone, Copy, Debug, PartialEq, Eq)]
 pub struct Stretch {
-    first: usize,
-    after: usize,
+    first: u32,
+    after: u32,
+}
+
+impl Stretch {
+    fn range(self) -> std::ops::Range<usize> {
+        self.first as usize..self.after as usize
+    }
 }
 
 #[derive(Clone, Copy, Debug, PartialEq, Eq)]
@@ -102,33 +109,33 @@ impl Tree {
     }
 
     pub fn expression(&self, id: ExpressionId) -> Expression {
-        self.expressions[id.0]
+        self.expressions[id.0 as usize]
     }
 
     pub fn statement(&self, id: StatementId) -> Statement {
-        self.statements[id.0]
+        self.statements[id.0 as usize]
     }
 
     pub fn items(&self, stretch: Stretch) -> &[PrintItem] {
-        &self.items[stretch.first..stretch.after]
+        &self.items[stretch.range()]
     }
 
     pub fn text(&self, stretch: Stretch) -> &[u8] {
-        &self.texts[stretch.first..stretch.after]
+        &self.texts[stretch.range()]
     }
 
     pub fn variables(&self, stretch: Stretch) -> &[u8] {
-        &self.variables[stretch.first..stretch.after]
+        &self.variables[stretch.range()]
     }
 
     pub fn add_expression(&mut self, expression: Expression) -> ExpressionId {
         self.expressions.push(expression);
-        ExpressionId(self.expressions.len() - 1)
+        ExpressionId(self.expressions.len() as u32 - 1)
     }
 
     pub fn add_statement(&mut self, statement: Statement) -> StatementId {
         self.statements.push(statement);
-        StatementId(self.statements.len() - 1)
+        StatementId(self.statements.len() as u32 - 1)
     }
 
     pub fn add_items(&mut self, items: &[PrintItem]) -> Stretch {
@@ -160,10 +167,10 @@ impl Tree {
 }
 
 fn append<T: Copy>(list: &mut Vec<T>, new: &[T]) -> Stretch {
-    let first = list.len();
+    let first = list.len() as u32;
     list.extend_from_slice(new);
     Stretch {
         first,
-        after: list.len(),
+        after: list.len() as u32,
     }
 }

@@ -74,9 +74,8 @@ impl Gathered {
         match class(byte) {
             Class::Dropped => {}
             Class::Discard => self.discard(),
-            // Over-long stays over-long: what is erased is not known any more.
-            Class::Erase => self.length = self.length.saturating_sub(usize::from(!self.over_long)),
-            _ if self.over_long => {}
+            // Over-long stays over-long: only a discard clears that.
+            Class::Erase => self.length = self.length.saturating_sub(1),
             _ => self.keep(byte),
         }
     }

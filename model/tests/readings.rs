@@ -193,7 +193,7 @@ fn which_edits_clear_the_stacks() {
         assert_eq!(record.gosubs.depth, record.fors.depth);
         record.gosubs.depth
     };
-    for typed in ["10", "10 GOSUB 20", "30 END", "NEW", "CLEAR"] {
+    for typed in ["10", "10  ", "10 GOSUB 20", "30 END", "NEW", "CLEAR"] {
         assert_eq!(edited(typed), 0, "{typed}");
     }
     for typed in ["", "30", "30  ", "LIST", "30 NONSENSE", "A=1"] {
@@ -359,78 +359,35 @@ fn one_statement_in_an_immediate_line() {
     assert_eq!(gate.variable('A'), 0);
 }
 
+/// Each statement in each of its forms.
+const FORMS: [&str; 7] = [
+    "10 LET A=1:A=1:LET STAT=1:STAT=1:LET @0=1:@0=1",
+    "10 LET $0=\"A\":$0=\"\":LET $0=$1:$0=$(1+2)",
+    "10 GOTO 1:GO TO 1:GOSUB 1:GO SUB 1:GO  TO 1:RETURN",
+    "10 PR 1:PRINT \"A\",$0,1=2;:IF A THEN B=1:IF A IF B END",
+    "10 DO:UNTIL A:FOR I=1 TO 2 STEP 3:NEXT I:INPUT A:INPUT A,B,C",
+    "10 INPUT $0:INPUT $@(A):END:REM",
+    "10 A=MOD(1=2,3):B=@@0+NOT NOT @(1):C=TOP:D=STAT",
+];
+
+/// Forms that a statement or an expression does not have.
+#[rustfmt::skip]
+const NO_FORMS: [&str; 57] = [
+    "10 LET", "10 LET GOTO 1", "10 GO 1", "10 GO", "10 SUB 1", "10 TO 1", "10 GOTO",
+    "10 RETURN 1", "10 IF 1", "10 IF THEN END", "10 IF 1 THEN THEN END", "10 DO 1", "10 UNTIL",
+    "10 FOR I TO 2", "10 FOR I=1", "10 FOR 1=1 TO 2", "10 FOR I=1 TO 2 STEP", "10 NEXT",
+    "10 NEXT I,J", "10 NEXT 1", "10 INPUT", "10 INPUT 1", "10 INPUT A,", "10 INPUT A,$0",
+    "10 INPUT \"A\"", "10 END 1", "10 A", "10 A=", "10 A==1", "10 =1", "10 TOP=1",
+    "10 MOD(1,2)=1", "10 A=MOD(1)", "10 A=MOD 1,2", "10 A=(1", "10 A=1)", "10 $0=1", "10 $0=A",
+    "10 $A=\"X\"+\"Y\"", "10 A=\"X\"", "10 A=$0", "10 ::", "10 END::END", "10 END:", "10 :END",
+    "10 a=1", "10 A=1.5", "10 A=32768", "10 A=1 B=2", "10 AB=1", "10 A=1%2", "10 ?",
+    "10 PRINT A B", "10 $0 \"A\"", "10 @0", "10 NOT A", "10 THEN END",
+];
+
 #[test]
 fn every_statement_has_its_forms() {
-    let lines = [
-        "10 LET A=1:A=1:LET STAT=1:STAT=1:LET @0=1:@0=1",
-        "10 LET $0=\"A\":$0=\"\":LET $0=$1:$0=$(1+2)",
-        "10 GOTO 1:GO TO 1:GOSUB 1:GO SUB 1:GO  TO 1:RETURN",
-        "10 PR 1:PRINT \"A\",$0,1=2;:IF A THEN B=1:IF A IF B END",
-        "10 DO:UNTIL A:FOR I=1 TO 2 STEP 3:NEXT I:INPUT A:INPUT A,B,C",
-        "10 INPUT $0:INPUT $@(A):END:REM",
-        "10 A=MOD(1=2,3):B=@@0+NOT NOT @(1):C=TOP:D=STAT",
-    ];
-    all_stop(0, &lines);
-    let refused = [
-        "10 LET",
-        "10 LET GOTO 1",
-        "10 GO 1",
-        "10 GO",
-        "10 SUB 1",
-        "10 TO 1",
-        "10 GOTO",
-        "10 RETURN 1",
-        "10 IF 1",
-        "10 IF THEN END",
-        "10 IF 1 THEN THEN END",
-        "10 DO 1",
-        "10 UNTIL",
-        "10 FOR I TO 2",
-        "10 FOR I=1",
-        "10 FOR 1=1 TO 2",
-        "10 FOR I=1 TO 2 STEP",
-        "10 NEXT",
-        "10 NEXT I,J",
-        "10 NEXT 1",
-        "10 INPUT",
-        "10 INPUT 1",
-        "10 INPUT A,",
-        "10 INPUT A,$0",
-        "10 INPUT \"A\"",
-        "10 END 1",
-        "10 A",
-        "10 A=",
-        "10 A==1",
-        "10 =1",
-        "10 TOP=1",
-        "10 MOD(1,2)=1",
-        "10 A=MOD(1)",
-        "10 A=MOD 1,2",
-        "10 A=(1",
-        "10 A=1)",
-        "10 $0=1",
-        "10 $0=A",
-        "10 $A=\"X\"+\"Y\"",
-        "10 A=\"X\"",
-        "10 A=$0",
-        "10 ::",
-        "10 END::END",
-        "10 END:",
-        "10 :END",
-        "10 a=1",
-        "10 A=1.5",
-        "10 A=32768",
-        "10 A=1 B=2",
-        "10 AB=1",
-        "10 A=1%2",
-        "10 ?",
-        "10 PRINT A B",
-        "10 $0 \"A\"",
-        "10 @0",
-        "10 NOT A",
-        "10 THEN END",
-    ];
-    all_stop(5, &refused);
+    all_stop(0, &FORMS);
+    all_stop(5, &NO_FORMS);
 }
 
 // Values
@@ -475,6 +432,7 @@ fn arithmetic() {
         ("PRINT 1+2 OR 4-1;", " 6 "),
         ("PRINT -7/2,7/-(2);", ""),
         ("PRINT #8000<0,1>2,2>1,2=2,2<>2;", " 1  0  1  1  0 "),
+        ("PRINT 2<=2,2>=2,3<=2,2>=3,2<2,2>2;", " 1  1  0  0  0  0 "),
         ("PRINT STAT;", " 48 "),
         ("PRINT TOP;", " 2 "),
     ];

@@ -288,7 +288,7 @@ fn refused_by_both(gate: &mut Gate, stop: u8) {
 fn bad_page() {
     let long = [&b"\0\x0a\x4bREM"[..], &[b'X'; 68], b"\r\xff\xff"].concat();
     let just_too_long = [&b"\0\x0a\x4bREM "[..], &[b'X'; 67], b"\r\xff\xff"].concat();
-    let pages: [&[u8]; 18] = [
+    let pages: [&[u8]; 19] = [
         b"\0\0",
         b"\xff\0",
         b"\0\x0a\x08 END\r",
@@ -305,6 +305,7 @@ fn bad_page() {
         b"\0\x0a\x08 END\r\0\x0a\x08 END\r\xff\xff",
         b"\0\x0a\x08 END\r\0\x09\x08 END\r\xff\xff",
         b"\0\x0a\x09REM \x7f\r\xff\xff",
+        b"\0\x0a\x09REM _\r\xff\xff",
         &long,
         &just_too_long,
     ];
@@ -336,43 +337,44 @@ fn sound_pages() {
     }
 }
 
+/// Each makes a record with full stacks unfit for a page whose only place is 7.
+const SPOILS: [fn(&mut Record); 15] = [
+    |record| record.flags = 8,
+    |record| record.flags = 255,
+    |record| record.gosubs.depth = 9,
+    |record| record.gosubs.depth = u32::MAX,
+    |record| record.dos.depth = 9,
+    |record| record.fors.depth = 5,
+    |record| record.gosubs.places[7] = Place(6),
+    |record| record.dos.places[0] = Place(0),
+    |record| record.dos.places[3] = Place::IMMEDIATE,
+    |record| record.fors.entries[3].place = Place::IMMEDIATE,
+    |record| record.fors.entries[0].place = Place(8),
+    |record| record.fors.entries[2].variable = 26,
+    |record| record.paused = Some(Pause::After(Place(0))),
+    |record| record.paused = Some(Pause::After(Place::IMMEDIATE)),
+    |record| record.paused = Some(Pause::After(Place(5000))),
+];
+
 #[test]
 fn record_does_not_fit() {
     let place = Place(7);
-    let entry = ForEntry {
-        place,
-        ..ForEntry::default()
-    };
-    type Change = fn(&mut Record);
-    let spoils: [Change; 15] = [
-        |record| record.flags = 8,
-        |record| record.flags = 255,
-        |record| record.gosubs.depth = 9,
-        |record| record.gosubs.depth = u32::MAX,
-        |record| record.dos.depth = 9,
-        |record| record.fors.depth = 5,
-        |record| record.gosubs.places[7] = Place(6),
-        |record| record.dos.places[0] = Place(0),
-        |record| record.dos.places[3] = Place::IMMEDIATE,
-        |record| record.fors.entries[3].place = Place::IMMEDIATE,
-        |record| record.fors.entries[0].place = Place(8),
-        |record| record.fors.entries[2].variable = 26,
-        |record| record.paused = Some(Pause::After(Place(0))),
-        |record| record.paused = Some(Pause::After(Place::IMMEDIATE)),
-        |record| record.paused = Some(Pause::After(Place(5000))),
-    ];
     let mut gate = Gate::with(&["10 END"]);
     for _ in 0..8 {
         gate.record.gosubs.push(place);
         gate.record.dos.push(place);
     }
-    for _ in 0..4 {
-        gate.record.fors.push(entry);
+    for variable in [0, 25, 25, 8] {
+        gate.record.fors.push(ForEntry {
+            variable,
+            place,
+            ..ForEntry::default()
+        });
     }
     gate.record.gosubs.places[3] = Place::IMMEDIATE;
     gate.record.paused = Some(Pause::After(place));
     let sound = gate.record.clone();
-    for spoil in spoils {
+    for spoil in SPOILS {
         spoil(&mut gate.record);
         refused_by_both(&mut gate, 19);
         gate.record = sound.clone();

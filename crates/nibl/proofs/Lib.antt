@@ -1,6 +1,17 @@
 pub mod Determined
 pub mod Sizes
 pub mod Stacks
+pub mod Words
+pub mod Over
+pub mod Rules
+pub mod Sound
+pub mod Statements
+pub mod Lines
+pub mod Next
+pub mod Complete
+pub mod Whole
+pub mod Exact
+pub mod Ends
 pub mod Desk
 pub mod Quotients
 pub mod Names

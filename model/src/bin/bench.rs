@@ -1,7 +1,8 @@
 //! Times the model and fails if it is too slow to be held against a gate.
 //!
-//! Each figure is the best of several batches, since other work on the machine
-//! can only make a batch slower.
+//! Each figure is the best of many short batches: other work on the machine can
+//! only make a batch slower, and a batch of about a millisecond often runs
+//! without being interrupted.
 
 #![forbid(unsafe_code)]
 
@@ -13,7 +14,7 @@ use model::line::LineNumber;
 use model::page::{delete, read_page, store};
 use model::{continue_run, take_line, ForEntry, Lent, Pause, Place, Record, Stop};
 
-const BATCHES: usize = 7;
+const BATCHES: usize = 200;
 const CALL_LIMIT: f64 = 100.0;
 const STEPS_LIMIT: f64 = 5.0;
 
@@ -26,6 +27,9 @@ const RULES: [&str; 6] = [
     " DO: N=N+2: UNTIL (MOD(I,N)=0) OR (N>J)",
     " $600=\"WAIT: FULL\": IF A<>#1F STAT=STAT OR 4",
 ];
+
+/// As many words as a line can hold.
+const DENSE: [&str; 1] = ["A=A+A+A+A+A+A+A+A+A+A+A+A+A+A+A+A+A+A+A+A+A+A+A+A+A+A+A+A+A+A+A+A"];
 
 /// The best time of one round, in microseconds.
 fn best(rounds: u32, mut round: impl FnMut()) -> f64 {
@@ -46,13 +50,12 @@ fn empty_page(length: usize) -> Vec<u8> {
     page
 }
 
-/// A page filled with rule lines, as long as they fit, up to a line count.
-fn rule_page(length: usize, lines: u16) -> Vec<u8> {
-    let mut page = empty_page(length);
-    for index in 0..lines {
+/// A page of 4,096 bytes filled with these texts in turn, as long as they fit.
+fn full_page(texts: &[&str]) -> Vec<u8> {
+    let mut page = empty_page(4096);
+    for (number, text) in (0..).step_by(10).zip(texts.iter().cycle()) {
         let program = read_page(&page).expect("a sound page");
-        let text = RULES[usize::from(index) % RULES.len()].as_bytes();
-        if !store(&mut page, &program, LineNumber(10 * index), text) {
+        if !store(&mut page, &program, LineNumber(number), text.as_bytes()) {
             break;
         }
     }
@@ -85,10 +88,10 @@ fn full_record(page: &[u8]) -> Record {
 }
 
 /// A typed line on a full page: the page and the record are checked whole.
-fn time_call() -> f64 {
-    let mut page = rule_page(4096, u16::MAX / 10);
+fn time_call(texts: &[&str]) -> f64 {
+    let mut page = full_page(texts);
     let mut record = full_record(&page);
-    best(500, || {
+    best(20, || {
         let lent = Lent {
             page: &mut page,
             memory: &mut [],
@@ -117,7 +120,7 @@ fn count_steps() -> f64 {
         paused: Some(Pause::Start),
         ..Record::default()
     };
-    let time = best(20, || {
+    let time = best(1, || {
         let lent = Lent {
             page: &mut page,
             memory: &mut [],
@@ -136,13 +139,13 @@ fn count_steps() -> f64 {
 
 /// Takes the middle line out of a full page and puts it back.
 fn time_edit() -> f64 {
-    let mut page = rule_page(4096, u16::MAX / 10);
+    let mut page = full_page(&RULES);
     let full = read_page(&page).expect("a sound page");
     let middle = full.lines[full.lines.len() / 2];
     let text = middle.text(&page).to_vec();
     assert!(delete(&mut page, &full, middle.number));
     let without = read_page(&page).expect("a sound page");
-    let pair = best(20_000, || {
+    let pair = best(2_000, || {
         assert!(store(&mut page, &without, middle.number, &text));
         assert!(delete(&mut page, &full, middle.number));
     });
@@ -162,7 +165,7 @@ fn time_finder() -> f64 {
         ));
     }
     let program = read_page(&page).expect("a sound page");
-    let all = best(2_000, || {
+    let all = best(100, || {
         for number in 0..200 {
             assert!(program.find(black_box(LineNumber(number * 7))).is_some());
         }
@@ -171,15 +174,17 @@ fn time_finder() -> f64 {
 }
 
 fn main() -> ExitCode {
-    let call = time_call();
+    let call = time_call(&RULES);
     println!("typed line on a full 4096-byte page: {call:.1} us (limit {CALL_LIMIT} us)");
+    let dense = time_call(&DENSE);
+    println!("the same with as many words as fit: {dense:.1} us (limit {CALL_LIMIT} us)");
     let steps = count_steps();
     println!("steps: {steps:.1} million a second (limit {STEPS_LIMIT} million)");
-    let page = rule_page(4096, u16::MAX / 10);
-    let reading = best(500, || drop(black_box(read_page(&page))));
+    let page = full_page(&RULES);
+    let reading = best(20, || drop(black_box(read_page(&page))));
     println!("reading a 4096-byte page of rule lines: {reading:.1} us");
     let record = full_record(&page);
-    let check = best(500, || {
+    let check = best(20, || {
         let program = read_page(&page).expect("a sound page");
         assert!(record.fits(black_box(&program)));
     });
@@ -189,7 +194,7 @@ fn main() -> ExitCode {
         time_edit()
     );
     println!("finding a line on a 200-line page: {:.4} us", time_finder());
-    match call < CALL_LIMIT && steps >= STEPS_LIMIT {
+    match call.max(dense) < CALL_LIMIT && steps >= STEPS_LIMIT {
         true => ExitCode::SUCCESS,
         false => ExitCode::FAILURE,
     }

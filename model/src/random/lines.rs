@@ -64,7 +64,7 @@ fn ends(kept: &[u8], text: Option<&[u8]>) -> Vec<usize> {
         let list = read_list(&mut Tree::default(), text, |member| {
             ends.push(before + member.end);
         });
-        debug_assert!(list.is_some());
+        assert!(list.is_some(), "the line was read before");
     }
     ends
 }

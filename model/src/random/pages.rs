@@ -134,13 +134,16 @@ pub fn spoil(random: &mut Random, bytes: &mut Vec<u8>) {
             return;
         }
         let at = random.below(bytes.len());
-        match random.below(7) {
+        match random.below(10) {
             0 => bytes[at] = random.byte(),
             1 => bytes[at] = *random.pick(&[0, 10, 13, 21, 32, 34, 58, 95, 127, 128, 255]),
             2 => bytes[at] = bytes[at].wrapping_add(1),
             3 => bytes[at] ^= 1 << random.below(8),
             4 => drop(bytes.remove(at)),
             5 => bytes.insert(at, random.byte()),
+            6 => bytes.insert(at, b' '),
+            7 => bytes.insert(at, bytes[at]),
+            8 => bytes.swap(at, at.saturating_sub(1)),
             _ => bytes.truncate(at),
         }
     }

@@ -279,11 +279,17 @@ impl<'a> Scribe<'a> {
         }
     }
 
+    /// The front of an IF, or of several in one another.
     fn condition(&mut self) {
-        self.word("IF");
-        self.any_relation();
-        if self.random.percent(50) {
-            self.word("THEN");
+        loop {
+            self.word("IF");
+            self.any_relation();
+            if self.random.percent(50) {
+                self.word("THEN");
+            }
+            if !self.random.percent(20) {
+                return;
+            }
         }
     }
 

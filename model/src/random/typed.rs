@@ -4,9 +4,22 @@ use super::pages::{spoil, Lines};
 use super::texts::{Scribe, Setting};
 use super::{Random, Size};
 
+/// Lines where the longest word, or the grammar, decides in a way that is easy
+/// to get wrong.
+#[rustfmt::skip]
+const TRICKY: [&str; 48] = [
+    "PRINT #1FOR 2", "PRINT #5AND 3", "PRINT #", "PRINT # 5", "PRINT1", "PRINTA", "PRINT 1<2<3",
+    "PRINT 1< =2", "PRINT 1=<2", "PRINT 1><2", "PRINT 1<>=2", "PRINT -32768", "PRINT 32768",
+    "PRINT 2--3", "PRINT 2*-3", "PRINT NOT -1", "PRINT @-1", "PRINT 1=-1", "PRINT (-1)", "PRINT",
+    "PRINT 1,", "PRINT 1;2", "PRINT \"A\"\"B\"", "PRINT \"", "PRINT \"\"", "IF A=B=C", "A=B=C",
+    "IF A B=C", "IF A=B C=1", "IF A@1=2", "IF A THEN THEN END", "IF A REM:", "REM", "REM1",
+    "REMARK", "REM A:B", "A=1:B=2", "END:", ":", "GO TO 1", "GO  SUB 1", "GOTO", "GO 1",
+    "LET RETURN", "$0=1", "$0=$1", "A=$1", "NEW 5",
+];
+
 /// The kept bytes of a typed line: mostly one that has a reading.
 pub fn line(random: &mut Random, setting: Setting) -> Vec<u8> {
-    let mut line = match random.weighted(&[45, 14, 20, 14, 7, 11, 6, 2]) {
+    let mut line = match random.weighted(&[45, 14, 20, 14, 7, 11, 6, 2, 4]) {
         0 => b"RUN".to_vec(),
         1 => jump(random, setting),
         2 => immediate(random, setting),
@@ -14,7 +27,8 @@ pub fn line(random: &mut Random, setting: Setting) -> Vec<u8> {
         4 => deletion(random, setting),
         5 => command(random),
         6 => written(random, setting, Scribe::program_only),
-        _ => vec![b' '; random.below(4)],
+        7 => vec![b' '; random.below(4)],
+        _ => tricky(random),
     };
     if random.percent(9) {
         spoil(random, &mut line);
@@ -23,6 +37,14 @@ pub fn line(random: &mut Random, setting: Setting) -> Vec<u8> {
         line.insert(0, b' ');
     }
     line
+}
+
+fn tricky(random: &mut Random) -> Vec<u8> {
+    let text = *random.pick(&TRICKY);
+    match random.percent(40) {
+        true => format!("{}{text}", random.below(40)).into_bytes(),
+        false => text.as_bytes().to_vec(),
+    }
 }
 
 fn written<'a>(

@@ -1,0 +1,34 @@
+-- What writing an item does: whole from a position of the output on, or not at all.
+use Prim.Native.Nat.{ℕ, _+_}
+use mathlib.Core.Path.{_≡_}
+use mathlib.Core.Bool.{Bool}
+use mathlib.Core.List.{List, _++_}
+use lib.ListN.{length, drop}
+use lib.Seq.{sets}
+use lib.Dec.{leb}
+use Rattle.nibl.specs.Bytes.{if_then_else_}
+use Rattle.nibl.specs.Values.{Value, is, no, digits, isNegative}
+use Rattle.value.specs.declared.Wrote.{Wrote}
+use Rattle.value.specs.declared.Wrote.the-variants.{To, Full}
+
+-- the position after the item, or the stop number of an item that does not fit
+abbrev pub wroteOf : Wrote → Value
+wroteOf (To n) = is n
+wroteOf Full = no 17
+
+abbrev pub fits : List ℕ → ℕ → List ℕ → Bool
+fits output at item = leb (at + length item) (length output)
+
+-- from an output before to an output after, and the answer
+pub record Writes (before : List ℕ) (at : ℕ) (item : List ℕ) (r : Wrote) (after : List ℕ) : Type 0 where
+  pub answer : wroteOf r ≡ (if fits before at item then is (at + length item) else no 17)
+  pub output : after ≡ (if fits before at item then sets before at item else before)
+
+-- the digits of n end before the last of the bytes and begin at `first`; the last is kept
+pub record DigitsAt (before : List ℕ) (n first : ℕ) (after : List ℕ) : Type 0 where
+  pub long : length after ≡ length before
+  pub begin : first + length (digits n) ≡ 7
+  pub bytes : drop first after ≡ digits n ++ drop 7 before
+
+abbrev pub signByte : ℕ → ℕ
+signByte v = if isNegative v then 45 else 32

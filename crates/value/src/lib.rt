@@ -1,0 +1,196 @@
+// 16-bit values: the operators on patterns of 16 bits, and a number's bytes. A pattern is signed where the order or
+// the sign counts. Nothing here traps: what has no value is answered by its stop number.
+ghost use Prim.Native.Nat.{_≤_};
+ghost use mathlib.Core.Path.{_≡_};
+ghost use lib.ListN.{length};
+ghost use Rattle.nibl.specs.Values.{add16, sub16, mul16, not16, less16, bit, magnitude, isNegative, mod16, apply, is, digits, printed};
+ghost use Rattle.nibl.specs.Tree.{over};
+ghost use Rattle.value.specs.Operators.{valueOf, opOf};
+ghost use Rattle.value.specs.Writes.{Writes, DigitsAt, signByte};
+
+// A value, or the stop number of the refusal.
+pub enum Value {
+    Is(u16),
+    No(u8),
+}
+
+// The position after an item that was written, or that it does not fit the output.
+pub enum Wrote {
+    To(usize),
+    Full,
+}
+
+pub fn add(a: u16, b: u16) -> u16
+    ensures { λ r. ⌜ r ≡ add16 a b ⌝ }
+{
+    std::num::wrapping_add_u16(a, b)
+}
+
+pub fn sub(a: u16, b: u16) -> u16
+    ensures { λ r. ⌜ r ≡ sub16 a b ⌝ }
+{
+    std::num::wrapping_sub_u16(a, b)
+}
+
+// The low 16 bits of the whole product.
+pub fn mul(a: u16, b: u16) -> u16
+    ensures { λ r. ⌜ r ≡ mul16 a b ⌝ }
+{
+    ((a as u32) * (b as u32) % 65536) as u16
+}
+
+// What a leading minus makes of a term.
+pub fn negate(a: u16) -> u16
+    ensures { λ r. ⌜ r ≡ sub16 0 a ⌝ }
+{
+    sub(0, a)
+}
+
+// NOT.
+pub fn invert(a: u16) -> u16
+    ensures { λ r. ⌜ r ≡ not16 a ⌝ }
+{
+    !a
+}
+
+// The signed order, as the order of the patterns with the sign bit turned.
+pub fn less(a: u16, b: u16) -> bool
+    ensures { λ r. ⌜ r ≡ less16 a b ⌝ }
+{
+    add(a, 32768) < add(b, 32768)
+}
+
+pub fn is_negative(a: u16) -> bool
+    ensures { λ r. ⌜ r ≡ isNegative a ⌝ }
+{
+    !(a < 32768)
+}
+
+// The absolute value: that of -32768 is 32768, which is no value of 16 signed bits and is used unsigned.
+pub fn size(a: u16) -> u16
+    ensures { λ r. ⌜ r ≡ magnitude a ⌝ }
+{
+    if a < 32768 {
+        return a;
+    }
+    negate(a)
+}
+
+pub fn quotient(a: u16, b: u16) -> Value
+    ensures { λ r. ⌜ valueOf r ≡ apply over a b ⌝ }
+{
+    if b == 0 {
+        return Value::No(13);
+    }
+    let q = size(a) / size(b);
+    if is_negative(a) == is_negative(b) {
+        return Value::Is(q);
+    }
+    Value::Is(sub(0, q))
+}
+
+// MOD.
+pub fn modulo(a: u16, b: u16) -> Value
+    ensures { λ r. ⌜ valueOf r ≡ mod16 a b ⌝ }
+{
+    if b == 0 {
+        return Value::No(13);
+    }
+    let m = size(a);
+    let d = size(b);
+    Value::Is(m % d)
+}
+
+// Whether the relation of this number holds.
+fn holds(op: u8, a: u16, b: u16) -> bool
+    requires { ⌜ 6 ≤ op ⌝ }
+    ensures { λ r. ⌜ is (bit r) ≡ apply (opOf op) a b ⌝ }
+{
+    match op {
+        6 => a == b,
+        7 => less(a, b),
+        8 => less(b, a),
+        9 => !less(b, a),
+        10 => !less(a, b),
+        _ => a != b,
+    }
+}
+
+// What the operator of this number makes of its operands.
+pub fn apply(op: u8, a: u16, b: u16) -> Value
+    ensures { λ r. ⌜ valueOf r ≡ apply (opOf op) a b ⌝ }
+{
+    match op {
+        0 => Value::Is(mul(a, b)),
+        1 => quotient(a, b),
+        2 => Value::Is(a & b),
+        3 => Value::Is(add(a, b)),
+        4 => Value::Is(sub(a, b)),
+        5 => Value::Is(a | b),
+        _ => Value::Is(if holds(op, a, b) { 1 } else { 0 }),
+    }
+}
+
+// Writes an item from a position of the output on, whole or not at all.
+pub fn write_item(output: &mut [u8], at: usize, item: &[u8]) -> Wrote
+    ensures { λ r. ⌜ Writes (now (output .entry)) at (now (item .entry)) r (now (output .exit)) ⌝ }
+{
+    if output.len() < at {
+        return Wrote::Full;
+    }
+    if output.len() - at < item.len() {
+        return Wrote::Full;
+    }
+    let mut i = 0;
+    while i < item.len() {
+        output[at + i] = item[i];
+        i += 1;
+    }
+    Wrote::To(at + item.len())
+}
+
+// Puts the digits of n before the last of the eight bytes, the last digit first, and says where they begin.
+fn put_digits(bytes: &mut [u8; 8], n: u16) -> usize
+    requires { ⌜ length (now bytes) ≡ 8 ⌝ }
+    ensures { λ r. ⌜ DigitsAt (now (bytes .entry)) n r (now (bytes .exit)) ⌝ }
+{
+    // how many digits there may still be
+    let mut room: usize = 5;
+    let mut left = n;
+    while 9 < left {
+        bytes[room + 1] = (48 + left % 10) as u8;
+        left = left / 10;
+        room -= 1;
+    }
+    bytes[room + 1] = (48 + left) as u8;
+    room + 1
+}
+
+// A number's digits, without leading zeros, as LIST writes a line number.
+pub fn write_digits(output: &mut [u8], at: usize, n: u16) -> Wrote
+    ensures { λ r. ⌜ Writes (now (output .entry)) at (digits n) r (now (output .exit)) ⌝ }
+{
+    let mut bytes = [32u8; 8];
+    let first = put_digits(&mut bytes, n);
+    write_item(output, at, &bytes[first..7])
+}
+
+// "-" or a space.
+fn sign_byte(v: u16) -> u8
+    ensures { λ r. ⌜ r ≡ signByte v ⌝ }
+{
+    if is_negative(v) {
+        return 45;
+    }
+    32
+}
+
+// A value as PRINT writes it: its sign, its digits and a space.
+pub fn write_number(output: &mut [u8], at: usize, v: u16) -> Wrote
+    ensures { λ r. ⌜ Writes (now (output .entry)) at (printed v) r (now (output .exit)) ⌝ }
+{
+    let mut bytes = [32u8; 8];
+    let sign = put_digits(&mut bytes, size(v)) - 1;
+    bytes[sign] = sign_byte(v);
+    write_item(output, at, &bytes[sign..])
+}

@@ -1,0 +1,207 @@
+-- One law for each answer of the word reader. Assumes nothing.
+use Prim.Native.Nat.{ℕ, zero, suc, _+_, _-_, _≤_, _<_}
+use mathlib.Core.Path.{_≡_, _∙_, refl, ap, sym}
+use mathlib.Core.Bool.{Bool, true, false, _&&_}
+use mathlib.Core.List.{List, [], _∷_}
+use mathlib.Core.Option.{Option, none, some}
+use native.Mathlib.Omega.{arith}
+use borrow.Author.Tests.{eq-eqb, ne-eqb}
+use lib.Dec.{eqb}
+use lib.ListN.{length, drop, getD, drop-of-length-le}
+use lib.Seq.{slice}
+use Rattle.nibl.specs.Bytes.{if_then_else_, isSpace, isCapital, isDigit, isQuotable, starts, front, past}
+use Rattle.nibl.specs.Words.{variable, sign, placeIn, pairs, numberOr, isSymbol}
+use Rattle.nibl.specs.Read.{Step, ended, wrong, got, signOr, lettersStep, pairOr, symbolStep, wordStep, stepIn}
+use Rattle.word.specs.declared.Word.{Word}
+use Rattle.word.specs.declared.Word.the-variants.{Variable, Decimal, Hex, Text, Sign, End, Wrong}
+use Rattle.word.specs.Found.{Inside, Stands, tableOf, keysOf, keyOf, seat, lettersAt, decimalAt, hexAt, quotedAt, symbolAt}
+use Rattle.word.proofs.Runs.{at-byte, between, past-go, past-stop, parted, runEnd, run-at, run-cons, rest-at, end-within, end-past}
+use Rattle.word.proofs.Keys.{table-short, signBy, place-key, place-long}
+
+-- A run of capitals
+one-letter : (table : List (List ℕ)) (b : ℕ) (w s : List ℕ) → length (b ∷ w) ≡ 1 → lettersStep table (b ∷ w) s ≡ got (variable (b - 65)) s
+one-letter table b [] s h = refl
+one-letter table b (d ∷ w) s h = absurd (omega arith)
+
+more-letters : (table : List (List ℕ)) (w s : List ℕ) → 1 < length w → lettersStep table w s ≡ signOr (placeIn table w) s
+more-letters table [] s h = absurd (omega arith)
+more-letters table (b ∷ []) s h = absurd (omega arith)
+more-letters table (b ∷ d ∷ w) s h = refl
+
+module _ (b : Bool) (text : List ℕ) (from to : ℕ) (h : from < length text) (c : isCapital (getD text from 0) ≡ true) (e : to ≡ runEnd isCapital text from) where
+  pub letters-one : to - from ≡ 1 → Stands (lettersAt (tableOf b)) text from (Variable (getD text from 0 - 65) (record { at = to }))
+  letters-one k =
+      let run = run-cons isCapital text from h c in
+      let range = between 65 90 (getD text from 0) c in
+      let high = end-within isCapital text from (omega arith) in
+      record {
+        same = rw (run, rest-at isCapital text from to e) (sym (one-letter (tableOf b) (getD text from 0) (front isCapital (drop (from + 1) text)) (drop to text) (omega (arith, ap length run))));
+        inside = (omega arith, omega arith, omega arith);
+      }
+
+  pub letters-long : 6 < to - from → Stands (lettersAt (tableOf b)) text from Wrong
+  letters-long k =
+      let w = front isCapital (drop from text) in
+      record { same = sym (more-letters (tableOf b) w _ (omega arith) ∙ place-long 128 (tableOf b) w _ (table-short b) (omega arith)); inside = tt }
+
+  -- more than one, by the number of their key
+  module _ (m : to - from ≡ 1 → ⊥) {q k : ℕ} (f : q ≡ keyOf (slice from to text)) (g : k ≡ seat 128 (keysOf b) q) where
+    named : lettersAt (tableOf b) (drop from text) ≡ signBy k (drop to text)
+    named =
+        let w = front isCapital (drop from text) in
+        let many = end-past isCapital text from h c in
+        let number : seat 128 (keysOf b) (keyOf w) ≡ k = rw (run-at isCapital text from to e, ← f) (sym g) in
+        more-letters (tableOf b) w _ (omega arith) ∙ place-key w _ (parted isCapital (drop from text) .each) 128 (tableOf b) (omega arith) (table-short b)
+        ∙ rw (number, rest-at isCapital text from to e) refl
+
+    pub letters-none : k ≡ 0 → Stands (lettersAt (tableOf b)) text from Wrong
+    letters-none z = record { same = sym (named ∙ rw (eq-eqb k 0 z) refl); inside = tt }
+
+    pub letters-sign : (k ≡ 0 → ⊥) → Stands (lettersAt (tableOf b)) text from (Sign k (record { at = to }))
+    letters-sign z =
+        let many = end-past isCapital text from h c in
+        let high = end-within isCapital text from (omega arith) in
+        record { same = sym (named ∙ rw (ne-eqb k 0 z) refl); inside = (omega arith, omega arith) }
+
+-- A string
+module _ (text : List ℕ) (from to : ℕ) (e : to ≡ runEnd isQuotable text from) where
+  pub quoted-end : length text ≤ to → Stands quotedAt text from Wrong
+  quoted-end h = record { same = rw (rest-at isQuotable text from to e, drop-of-length-le text h) refl; inside = tt }
+
+  pub quoted-other : to < length text → (getD text to 0 ≡ 34 → ⊥) → Stands quotedAt text from Wrong
+  quoted-other h f = record { same = rw (rest-at isQuotable text from to e, at-byte text to h, ne-eqb (getD text to 0) 34 f) refl; inside = tt }
+
+  pub quoted-closed : to < length text → getD text to 0 ≡ 34 → Stands quotedAt text from (Text from to (record { at = to + 1 }))
+  quoted-closed h f =
+      record { same = rw (rest-at isQuotable text from to e, at-byte text to h, eq-eqb (getD text to 0) 34 f, run-at isQuotable text from to e) refl; inside = (omega arith, omega arith, omega arith, refl) }
+
+-- A pair or a symbol
+paired : (o : Option ℕ) (a b k : ℕ) (s : List ℕ) → k ≡ numberOr 0 o → (k ≡ 0 → ⊥) → pairOr o a b s ≡ got (sign k) s
+paired none a b k s e z = absurd (z e)
+paired (some n) a b k s e z = rw e refl
+
+alone : (t u v : Bool) (a b k : ℕ) (s : List ℕ) → k ≡ numberOr 0 (if t then some 1 else if u then some 2 else if v then some 3 else none) → k ≡ 0
+    → pairOr (if t then some 1 else if u then some 2 else if v then some 3 else none) a b s ≡ got (sign a) (b ∷ s)
+alone true u v a b k s e z = absurd (omega arith)
+alone false true v a b k s e z = absurd (omega arith)
+alone false false true a b k s e z = absurd (omega arith)
+alone false false false a b k s e z = refl
+
+module _ (text : List ℕ) (from : ℕ) (h : from < length text) where
+  pub symbol-none : isSymbol (getD text from 0) ≡ false → Stands symbolAt text from Wrong
+  symbol-none e = record { same = rw (at-byte text from h, e) refl; inside = tt }
+
+  module _ (e : isSymbol (getD text from 0) ≡ true) where
+    pub symbol-pair : (k : ℕ) → from + 1 < length text → k ≡ numberOr 0 (pairs (getD text from 0) (getD text (from + 1) 0)) → (k ≡ 0 → ⊥)
+        → Stands symbolAt text from (Sign k (record { at = from + 1 + 1 }))
+    symbol-pair k l f z =
+        record {
+          same = rw (at-byte text from h, at-byte text (from + 1) l, e) (sym (paired (pairs (getD text from 0) (getD text (from + 1) 0)) _ _ k _ f z));
+          inside = (omega arith, omega arith);
+        }
+
+    pub symbol-one : (k : ℕ) → from + 1 < length text → k ≡ numberOr 0 (pairs (getD text from 0) (getD text (from + 1) 0)) → k ≡ 0
+        → Stands symbolAt text from (Sign (getD text from 0) (record { at = from + 1 }))
+    symbol-one k l f z =
+        let a = getD text from 0 in
+        let b = getD text (from + 1) 0 in
+        record {
+          same = rw (at-byte text from h, at-byte text (from + 1) l, e) (sym (alone (eqb a 60 && eqb b 61) (eqb a 62 && eqb b 61) (eqb a 60 && eqb b 62) a b k _ f z));
+          inside = (omega arith, omega arith);
+        }
+
+    pub symbol-last : length text ≤ from + 1 → Stands symbolAt text from (Sign (getD text from 0) (record { at = from + 1 }))
+    symbol-last l = record { same = rw (at-byte text from h, drop-of-length-le text l, e) refl; inside = (omega arith, omega arith) }
+
+-- Any word, past spaces
+step-blank : (table : List (List ℕ)) (b : ℕ) (s : List ℕ) → isSpace b ≡ true → stepIn table (b ∷ s) ≡ stepIn table s
+unfolding stepIn
+step-blank table b s e = rw (e, stepIn) refl
+
+step-word : (table : List (List ℕ)) (b : ℕ) (s : List ℕ) → isSpace b ≡ false → stepIn table (b ∷ s) ≡ wordStep table b s
+unfolding stepIn
+step-word table b s e = rw (e, stepIn) refl
+
+past-blank : (table : List (List ℕ)) (b : ℕ) (s : List ℕ) → stepIn table s ≡ stepIn table (past isSpace s) → (t : Bool) → isSpace b ≡ t
+    → stepIn table (b ∷ s) ≡ stepIn table (past isSpace (b ∷ s))
+past-blank table b s ih true e = step-blank table b s e ∙ ih ∙ ap (stepIn table) (sym (past-go isSpace b s e))
+past-blank table b s ih false e = ap (stepIn table) (sym (past-stop isSpace (b ∷ s) e))
+
+step-past : (table : List (List ℕ)) (s : List ℕ) → stepIn table s ≡ stepIn table (past isSpace s)
+step-past table [] = refl
+step-past table (b ∷ s) = past-blank table b s (step-past table s) (isSpace b) refl
+
+step-end : (table : List (List ℕ)) → stepIn table [] ≡ ended
+unfolding stepIn
+step-end table = refl
+
+-- the first byte tells the kind
+module _ (table : List (List ℕ)) (b : ℕ) (s : List ℕ) where
+  word-letters : isCapital b ≡ true → wordStep table b s ≡ lettersAt table (b ∷ s)
+  unfolding wordStep
+  word-letters e = rw (e, wordStep) refl
+
+  module _ (c : isCapital b ≡ false) where
+    word-decimal : isDigit b ≡ true → wordStep table b s ≡ decimalAt (b ∷ s)
+    unfolding wordStep
+    word-decimal e = rw (c, wordStep) (rw e refl)
+
+    module _ (d : isDigit b ≡ false) where
+      word-hex : b ≡ 35 → wordStep table b s ≡ hexAt s
+      unfolding wordStep
+      word-hex e = rw (c, wordStep) (rw (d, eq-eqb b 35 e) refl)
+
+      word-quoted : b ≡ 34 → wordStep table b s ≡ quotedAt s
+      unfolding wordStep
+      word-quoted e = rw (c, wordStep) (rw (d, ne-eqb b 35 (λ f. omega arith), eq-eqb b 34 e) refl)
+
+      word-symbol : (b ≡ 35 → ⊥) → (b ≡ 34 → ⊥) → wordStep table b s ≡ symbolAt (b ∷ s)
+      unfolding wordStep
+      word-symbol e f = rw (c, wordStep) (rw (d, ne-eqb b 35 e, ne-eqb b 34 f) refl)
+
+-- the cursor past a word lies behind an earlier position too
+earlier : (n from i : ℕ) → from ≤ i → (r : Word) → Inside i n r → Inside from n r
+earlier n from i h (Variable v c) w = omega arith
+earlier n from i h (Decimal v c) w = omega arith
+earlier n from i h (Hex v c) w = omega arith
+earlier n from i h (Text f t c) w = omega arith
+earlier n from i h (Sign k c) w = omega arith
+earlier n from i h End w = tt
+earlier n from i h Wrong w = tt
+
+module _ (table : List (List ℕ)) (text : List ℕ) (from i : ℕ) (e : i ≡ runEnd isSpace text from) where
+  at-word : stepIn table (drop from text) ≡ stepIn table (drop i text)
+  at-word = step-past table (drop from text) ∙ ap (stepIn table) (rest-at isSpace text from i e)
+
+  pub found-end : length text ≤ i → Stands (stepIn table) text from End
+  found-end h = record { same = sym (at-word ∙ ap (stepIn table) (drop-of-length-le text h) ∙ step-end table); inside = tt }
+
+  module _ (h : i < length text) where
+    first : stepIn table (drop from text) ≡ wordStep table (getD text i 0) (drop (i + 1) text)
+    first =
+        let stops : isSpace (getD text i 0) ≡ false = sym (ap (starts isSpace) (rest-at isSpace text from i e ∙ at-byte text i h)) ∙ parted isSpace (drop from text) .stops in
+        at-word ∙ ap (stepIn table) (at-byte text i h) ∙ step-word table (getD text i 0) (drop (i + 1) text) stops
+
+    -- a word that was read at i or behind it, as the step that the first byte calls for
+    found : (step : List ℕ → Step) (j : ℕ) (r : Word) → wordStep table (getD text i 0) (drop (i + 1) text) ≡ step (drop j text) → i ≤ j → Stands step text j r → Stands (stepIn table) text from r
+    found step j r f l w = record { same = w .same ∙ sym (first ∙ f); inside = earlier (length text) from j (omega arith) r (w .inside) }
+
+    whole : (step : List ℕ → Step) (r : Word) → wordStep table (getD text i 0) (drop (i + 1) text) ≡ step (getD text i 0 ∷ drop (i + 1) text) → Stands step text i r → Stands (stepIn table) text from r
+    whole step r f = found step i r (f ∙ ap step (sym (at-byte text i h))) (omega arith)
+
+    pub found-letters : (r : Word) → isCapital (getD text i 0) ≡ true → Stands (lettersAt table) text i r → Stands (stepIn table) text from r
+    found-letters r c = whole (lettersAt table) r (word-letters table (getD text i 0) (drop (i + 1) text) c)
+
+    module _ (c : isCapital (getD text i 0) ≡ false) where
+      pub found-decimal : (r : Word) → isDigit (getD text i 0) ≡ true → Stands decimalAt text i r → Stands (stepIn table) text from r
+      found-decimal r d = whole decimalAt r (word-decimal table (getD text i 0) (drop (i + 1) text) c d)
+
+      module _ (d : isDigit (getD text i 0) ≡ false) where
+        pub found-hex : (r : Word) → getD text i 0 ≡ 35 → Stands hexAt text (i + 1) r → Stands (stepIn table) text from r
+        found-hex r f = found hexAt (i + 1) r (word-hex table (getD text i 0) (drop (i + 1) text) c d f) (omega arith)
+
+        pub found-quoted : (r : Word) → getD text i 0 ≡ 34 → Stands quotedAt text (i + 1) r → Stands (stepIn table) text from r
+        found-quoted r f = found quotedAt (i + 1) r (word-quoted table (getD text i 0) (drop (i + 1) text) c d f) (omega arith)
+
+        pub found-symbol : (r : Word) → (getD text i 0 ≡ 35 → ⊥) → (getD text i 0 ≡ 34 → ⊥) → Stands symbolAt text i r → Stands (stepIn table) text from r
+        found-symbol r f g = whole symbolAt r (word-symbol table (getD text i 0) (drop (i + 1) text) c d f g)
