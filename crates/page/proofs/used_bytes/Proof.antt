@@ -1,0 +1,19 @@
+use Rattle.nibl.specs.Page.{used}
+use native.Mathlib.Omega.{arith}
+use mathlib.Core.Path.{_∙_}
+use borrow.Author.Needs.{needs}
+use Rattle.page.proofs.used_bytes.Statement.{statement}
+use Rattle.page.proofs.used_bytes.Tie as tie
+use Rattle.page.proofs.used_bytes.Reads as reads
+use Rattle.page.proofs.used_bytes.Lts as lts
+use Rattle.page.proofs.used_from.Reads as used-from-reads
+
+used-from-requires : tie.Need-used-from-requires
+used-from-requires c κs = search needs
+
+returns : tie.Need-returns
+unfolding used
+returns c = c .used-from .ensures ∙ omega arith
+
+pub used-bytes-spec : {M : Type 1} → statement M
+used-bytes-spec = tie.close (tie.spec used-from-requires returns)
