@@ -5,3 +5,5 @@ pub mod Ways
 pub mod Numbers
 pub mod Storing
 pub mod Retyping
+pub mod Refusing
+pub mod Fixed
