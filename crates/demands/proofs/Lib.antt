@@ -7,3 +7,4 @@ pub mod Storing
 pub mod Retyping
 pub mod Refusing
 pub mod Fixed
+pub mod Listing
