@@ -8,3 +8,4 @@ pub mod Retyping
 pub mod Refusing
 pub mod Fixed
 pub mod Listing
+pub mod Held

@@ -1,15 +1,25 @@
 -- What a call leaves, written out: the demands' sentences name these.
-use Prim.Native.Nat.{ℕ, _+_}
+use Prim.Native.Nat.{ℕ, _+_, _≤_}
+use mathlib.Core.Path.{_≡_}
 use mathlib.Core.Bool.{Bool, true, false}
 use mathlib.Core.List.{List, [], _∷_}
+use mathlib.Core.Option.{some}
+use lib.ListN.{length, drop}
+use lib.Seq.{sets}
 use lib.Dec.{eqb}
 use Rattle.nibl.specs.Bytes.{if_then_else_}
-use Rattle.nibl.specs.Page.{Stored}
+use Rattle.nibl.specs.Typing.{Gathered, gather}
+use Rattle.nibl.specs.Stack.{popOf}
+use Rattle.nibl.specs.Page.{Stored, mark}
+use Rattle.nibl.specs.Meaning.{World, Env, withGosubs}
 use Rattle.nibl.specs.Calls.{Lent, Outcome}
 use Rattle.nibl.specs.declared.Paused.the-variants.{Nowhere}
 use Rattle.nibl.specs.declared.Session.{Session}
+use Rattle.nibl.specs.declared.Place.{Place}
+use Rattle.nibl.specs.declared.Top.the-variants as top
 use Rattle.nibl.specs.declared.StopLine.the-variants as stopLine
 use Rattle.nibl.specs.declared.Answer.{Answer}
+use Rattle.demands.specs.Asks.{GivenIn}
 
 -- the records of a number, and the others, in their order
 abbrev pub ofLine : ℕ → List Stored → List Stored
@@ -54,3 +64,36 @@ unchanged x n =
 -- the line is taken, the pause ended, and nothing else changed
 abbrev pub lineTaken : Lent → ℕ → ℕ → Outcome
 lineTaken x n taken = record { answer = answered x n taken; session = unpaused (x .session); page = x .page; memory = x .memory; output = x .output }
+
+-- Whole items from a position of the output on, one after the other: the output then, and the position
+pub data Items : List ℕ → ℕ → List ℕ → ℕ → Type 0 where
+  noItem : {out : List ℕ} {at : ℕ} → Items out at out at
+  item : {out out' : List ℕ} {at at' : ℕ} (bs : List ℕ) → at + length bs ≤ length out → Items (sets out at bs) (at + length bs) out' at' → Items out at out' at'
+
+-- whole lines of the input, as they are gathered, from a position on
+pub data Lines (e : Env) : ℕ → ℕ → Type 0 where
+  noLine : {at : ℕ} → Lines e at at
+  line : {at at' : ℕ} (g : Gathered) → gather (e .lim) (drop at (e .input)) ≡ some g → Lines e (at + g .taken) at' → Lines e at at'
+
+-- all of the record but its variables
+pub record SameButVars (s t : Session) : Type 0 where
+  pub flags : t .flags ≡ s .flags
+  pub gosubs : t .gosubs ≡ s .gosubs
+  pub dos : t .dos ≡ s .dos
+  pub fors : t .fors ≡ s .fors
+  pub paused : t .paused ≡ s .paused
+
+-- what a refusing statement leaves, from w to u: us are the variables that its INPUT names
+pub record Refused (e : Env) (us : List ℕ) (w u : World) : Type 0 where
+  pub given : GivenIn us (w .session .vars) (u .session .vars)
+  pub rest : SameButVars (w .session) (u .session)
+  pub memory : u .memory ≡ w .memory
+  pub items : Items (w .output) (w .outpos) (u .output) (u .outpos)
+  pub lines : Lines e (w .inpos) (u .inpos)
+
+-- "RETURN to the immediate mark" pops one place, the mark, and changes nothing else of the record
+pub record Returned (s t : Session) : Type 0 where
+  pub place : Place
+  pub top : popOf (s .gosubs) .top ≡ top.At place
+  pub mark : place .0 ≡ mark
+  pub rest : t ≡ withGosubs s (popOf (s .gosubs) .stack)

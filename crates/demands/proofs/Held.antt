@@ -1,0 +1,102 @@
+-- "Fixed effects" of a statement: what a refusing one leaves, and that no stop clears the stacks. Assumes nothing.
+use Prim.Native.Nat.{ℕ, zero, suc, _+_, _-_, _≤_}
+use mathlib.Core.Path.{_≡_, refl, sym, ap, subst, _∙_}
+use mathlib.Core.Bool.{Bool, true, false, not, false≢true}
+use mathlib.Core.List.{List, [], _∷_, _++_}
+use mathlib.Core.Option.{Option, none, some}
+use native.Mathlib.Omega.{arith}
+use lib.ListN.{length, take, drop}
+use lib.Seq.{sets, sets-eq, length-sets}
+use lib.Dec.{eqb}
+use borrow.Author.Tests.{eqb-true}
+use Rattle.nibl.specs.Bytes.{if_then_else_}
+use Rattle.nibl.specs.Tree.{Stmt}
+use Rattle.nibl.specs.Stack.{popOf}
+use Rattle.nibl.specs.Typing.{Gathered, gather}
+use Rattle.nibl.specs.Page.{isAmong, mark}
+use Rattle.nibl.specs.Meaning.{World, Env, Next, on, skip, go, stop, Done, done, withVar, withGosubs, withSession, withInpos, withOutput, after, exec}
+use Rattle.nibl.specs.declared.Place.{Place}
+use Rattle.nibl.specs.declared.Session.{Session}
+use Rattle.nibl.specs.declared.Top.the-variants as top
+use Rattle.demands.specs.Effects.{refusals, forVars, Gives, gave, refused, gives, Does, writes, takes, refuses, passes, skips, assigns, assignsFlags, stores, goesTo, saves, returns, loops, repeats, leaves, begins, again, finishes, inputs}
+use Rattle.demands.specs.Asks.{asks, inputVars, GivenIn, stay, give}
+use Rattle.demands.specs.Leaves.{Items, noItem, item, Lines, noLine, line, SameButVars, Refused, Returned}
+use Rattle.demands.proofs.Effects.{exec-does}
+use Rattle.demands.proofs.Refusing.{Refusing, exec-refuses}
+use Rattle.demands.proofs.Refusing as refusing
+
+-- memory, output and input
+record Around (e : Env) (w u : World) : Type 0 where
+  memory : u .memory ≡ w .memory
+  items : Items (w .output) (w .outpos) (u .output) (u .outpos)
+  lines : Lines e (w .inpos) (u .inpos)
+
+data Leaves (e : Env) (w : World) : Done → Type 0 where
+  onward : {u : World} → Leaves e w (done on u)
+  skipped : {u : World} → Leaves e w (done skip u)
+  jumped : {u : World} {q : ℕ} → Leaves e w (done (go q) u)
+  returned : {u : World} → Returned (w .session) (u .session) → Around e w u → Leaves e w (done (stop 0) u)
+  stopped : {u : World} {n : ℕ} → isAmong refusals n ≡ true → SameButVars (w .session) (u .session) → Around e w u → Leaves e w (done (stop n) u)
+
+module _ (e : Env) where
+  still : (w : World) → Around e w w
+  still w = record { memory = refl; items = noItem; lines = noLine }
+
+  same : (s : Session) → SameButVars s s
+  same s = record { flags = refl; gosubs = refl; dos = refl; fors = refl; paused = refl }
+
+  -- after a change that is not of the record
+  behind : {v w : World} → w .session ≡ v .session → ((u : World) → Around e w u → Around e v u) → {d : Done} → Leaves e w d → Leaves e v d
+  behind h f onward = onward
+  behind h f skipped = skipped
+  behind h f jumped = jumped
+  behind h f (returned {u = u} r a) = returned (subst (λ s. Returned s (u .session)) h r) (f u a)
+  behind h f (stopped {u = u} n k a) = stopped n (subst (λ s. SameButVars s (u .session)) h k) (f u a)
+
+  gives-leave : (v : World) {w : World} {d : Done} → SameButVars (v .session) (w .session) → Around e v w → Gives w d → Leaves e v d
+  gives-leave v k a gave = onward
+  gives-leave v k a (refused h) = stopped h k a
+  gives-leave v k a (gives x y g) =
+      gives-leave v (record { flags = k .flags; gosubs = k .gosubs; dos = k .dos; fors = k .fors; paused = k .paused }) (record { memory = a .memory; items = a .items; lines = a .lines }) g
+
+  return-leaves : (w : World) (p : Place) → popOf (w .session .gosubs) .top ≡ top.At p → (b : Bool) → eqb (p .0) mark ≡ b
+      → Leaves e w (done (if b then stop 0 else go (suc (p .0))) (withSession w (withGosubs (w .session) (popOf (w .session .gosubs) .stack))))
+  return-leaves w p h true m = returned (record { place = p; top = h; mark = eqb-true (p .0) mark m; rest = refl }) (record { memory = refl; items = noItem; lines = noLine })
+  return-leaves w p h false m = jumped
+
+  does-leave : {vs : List ℕ} {w : World} {d : Done} → Does e vs w d → Leaves e w d
+  does-leave (writes bs h d) = behind refl (λ u a. record { memory = a .memory; items = item bs h (a .items); lines = a .lines }) (does-leave d)
+  does-leave (takes g h d) = behind refl (λ u a. record { memory = a .memory; items = a .items; lines = line g h (a .lines) }) (does-leave d)
+  does-leave (refuses {w = w} h) = stopped h (same (w .session)) (still w)
+  does-leave passes = onward
+  does-leave skips = skipped
+  does-leave (assigns v x) = onward
+  does-leave (assignsFlags x) = onward
+  does-leave (stores m h) = onward
+  does-leave (goesTo n h) = jumped
+  does-leave (saves n h g) = jumped
+  does-leave (returns {w = w} p h) = return-leaves w p h (eqb (p .0) mark) refl
+  does-leave (loops h) = onward
+  does-leave (repeats p h) = jumped
+  does-leave (leaves p h) = onward
+  does-leave (begins v x y z l h) = onward
+  does-leave (again v f h g) = jumped
+  does-leave (finishes v f h g) = onward
+  does-leave {w = w} (inputs g) = gives-leave w (same (w .session)) (still w) g
+
+refused-by : {e : Env} {us : List ℕ} {b : Bool} {w u : World} {n : ℕ} → Leaves e w (done (stop n) u) → Refusing us b (w .session .vars) (done (stop n) u) → (n ≡ 0 → ⊥)
+    → Refused e us w u
+refused-by (returned r a) g z = absurd (z refl)
+refused-by (stopped m k a) refusing.ends z = absurd (z refl)
+refused-by (stopped m k a) (refusing.refuses i g) z = record { given = g; rest = k; memory = a .memory; items = a .items; lines = a .lines }
+
+-- "A refusing statement leaves variables, flags, stacks, memory as before it, but .." INPUT's given variables; "No stop clears the stacks"
+pub refusing-statement : (e : Env) (q : Stmt) (w u : World) (n : ℕ) → exec e q w ≡ done (stop n) u → (n ≡ 0 → ⊥) → Refused e (inputVars q) w u
+refusing-statement e q w u n h z = refused-by (rw h at (does-leave e (exec-does e q w))) (rw h at (exec-refuses e q w)) z
+
+-- and a statement that stops with 0 is a RETURN to the mark
+pub returning-statement : (e : Env) (q : Stmt) (w u : World) → exec e q w ≡ done (stop 0) u → Returned (w .session) (u .session)
+returning-statement e q w u h = by (rw h at (does-leave e (exec-does e q w))) where
+  by : {u : World} → Leaves e w (done (stop 0) u) → Returned (w .session) (u .session)
+  by (returned r a) = r
+  by (stopped m k a) = absurd (false≢true m)
