@@ -2,27 +2,30 @@
 use Prim.Native.Nat.{ℕ, zero, suc, _+_, _-_, _≤_}
 use mathlib.Core.Path.{_≡_, refl, sym, ap, subst, _∙_}
 use mathlib.Core.Bool.{Bool, true, false, not, false≢true}
-use mathlib.Core.List.{List, [], _∷_, _++_}
+use mathlib.Core.List.{List, [], _∷_, _++_, append-assoc}
 use mathlib.Core.Option.{Option, none, some}
 use native.Mathlib.Omega.{arith}
-use lib.ListN.{length, take, drop}
-use lib.Seq.{sets, sets-eq, length-sets}
+use lib.ListN.{length, take, drop, length-append}
+use lib.Seq.{sets, sets-eq, length-sets, take-at, take-take, drop-append-add, drop-drop, length-take-le}
 use lib.Dec.{eqb}
 use borrow.Author.Tests.{eqb-true}
 use Rattle.nibl.specs.Bytes.{if_then_else_}
 use Rattle.nibl.specs.Tree.{Stmt}
 use Rattle.nibl.specs.Stack.{popOf}
 use Rattle.nibl.specs.Typing.{Gathered, gather}
-use Rattle.nibl.specs.Page.{isAmong, mark}
+use Rattle.nibl.specs.Page.{Stored, isAmong, mark}
 use Rattle.nibl.specs.Meaning.{World, Env, Next, on, skip, go, stop, Done, done, withVar, withGosubs, withSession, withInpos, withOutput, after, exec}
+use Rattle.nibl.specs.Calls.{Ran, envAt, runFrom, listFrom}
+use Rattle.nibl.specs.Calls.{onward as onwards}
 use Rattle.nibl.specs.declared.Place.{Place}
 use Rattle.nibl.specs.declared.Session.{Session}
 use Rattle.nibl.specs.declared.Top.the-variants as top
 use Rattle.demands.specs.Effects.{refusals, forVars, Gives, gave, refused, gives, Does, writes, takes, refuses, passes, skips, assigns, assignsFlags, stores, goesTo, saves, returns, loops, repeats, leaves, begins, again, finishes, inputs}
 use Rattle.demands.specs.Asks.{asks, inputVars, GivenIn, stay, give}
-use Rattle.demands.specs.Leaves.{Items, noItem, item, Lines, noLine, line, SameButVars, Refused, Returned}
-use Rattle.demands.proofs.Effects.{exec-does}
-use Rattle.demands.proofs.Refusing.{Refusing, exec-refuses}
+use Rattle.demands.specs.Leaves.{Items, noItem, item, Lines, noLine, line, SameButVars, Refused, Returned, Grown}
+use Rattle.demands.proofs.Effects.{exec-does, list-does}
+use Rattle.demands.proofs.Runs.{endOf, crOf, every-run}
+use Rattle.demands.proofs.Refusing.{Refusing, exec-refuses, list-refuses}
 use Rattle.demands.proofs.Refusing as refusing
 
 -- memory, output and input
@@ -100,3 +103,92 @@ returning-statement e q w u h = by (rw h at (does-leave e (exec-does e q w))) wh
   by : {u : World} → Leaves e w (done (stop 0) u) → Returned (w .session) (u .session)
   by (returned r a) = r
   by (stopped m k a) = absurd (false≢true m)
+
+-- LIST: "lines already out stay"
+pub refusing-list : (e : Env) (n : ℕ) (rs : List Stored) (w u : World) (m : ℕ) → listFrom n rs w ≡ done (stop m) u → (m ≡ 0 → ⊥) → Refused e [] w u
+refusing-list e n rs w u m h z = refused-by (rw h at (does-leave e (list-does e [] n rs w))) (rw h at (list-refuses [] false n rs w)) z
+
+-- "output only grows by whole items"
+sets-before : (out : List ℕ) (at : ℕ) (bs : List ℕ) → at + length bs ≤ length out → take at (sets out at bs) ≡ take at out
+sets-before out at bs h =
+    rw (sets-eq bs out at h, append-assoc (take at out) bs (drop (at + length bs) out)) (take-at (take at out) _ at (length-take-le at out (omega arith)))
+
+sets-behind : (out : List ℕ) (at : ℕ) (bs : List ℕ) (k : ℕ) → at + length bs ≤ length out → at + length bs ≤ k → drop k (sets out at bs) ≡ drop k out
+sets-behind out at bs k h i =
+    let front : List ℕ = take at out ++ bs in
+    let l : length front ≡ at + length bs = length-append (take at out) bs ∙ omega (arith, length-take-le at out (omega arith)) in
+    let m : length front + (k - (at + length bs)) ≡ k = omega arith in
+    let n : at + length bs + (k - (at + length bs)) ≡ k = omega arith in
+    rw (sets-eq bs out at h)
+    (ap (λ (j : ℕ). drop j (front ++ drop (at + length bs) out)) (sym m)
+    ∙ drop-append-add front (drop (at + length bs) out) (k - (at + length bs))
+    ∙ drop-drop (k - (at + length bs)) (at + length bs) out
+    ∙ ap (λ (j : ℕ). drop j out) n)
+
+pub items-grow : {out out' : List ℕ} {at at' : ℕ} → Items out at out' at' → Grown out at out' at'
+items-grow noItem = record { forward = omega arith; long = refl; before = refl; behind = refl }
+items-grow (item {out = out} {out' = out'} {at = at} {at' = at'} bs h r) =
+    let g = items-grow r in
+    let m : at ≤ at + length bs = omega arith in
+    record {
+      forward = omega (arith, g .forward);
+      long = g .long ∙ length-sets out at bs;
+      before =
+        sym (take-take at (at + length bs) out' m) ∙ ap (take at) (g .before) ∙ take-take at (at + length bs) (sets out at bs) m ∙ sets-before out at bs h;
+      behind = g .behind ∙ sets-behind out at bs at' h (g .forward);
+    }
+
+-- "input only by whole lines"
+pub lines-forward : {e : Env} {at at' : ℕ} → Lines e at at' → at ≤ at'
+lines-forward noLine = omega arith
+lines-forward (line g h r) = omega (arith, lines-forward r)
+
+-- what no step changes: the lengths of memory and output
+pub record SameLengths (w u : World) : Type 0 where
+  pub memory : length (u .memory) ≡ length (w .memory)
+  pub output : length (u .output) ≡ length (w .output)
+
+abbrev pub worldAfter : Done → World
+worldAfter (done n w) = w
+
+gives-lengths : {w : World} {d : Done} → Gives w d → SameLengths w (worldAfter d)
+gives-lengths gave = record { memory = refl; output = refl }
+gives-lengths (refused h) = record { memory = refl; output = refl }
+gives-lengths (gives v x g) = let l = gives-lengths g in record { memory = l .memory; output = l .output }
+
+pub does-lengths : {e : Env} {vs : List ℕ} {w : World} {d : Done} → Does e vs w d → SameLengths w (worldAfter d)
+does-lengths (writes {w = w} bs h d) = let l = does-lengths d in record { memory = l .memory; output = l .output ∙ length-sets (w .output) (w .outpos) bs }
+does-lengths (takes g h d) = let l = does-lengths d in record { memory = l .memory; output = l .output }
+does-lengths (refuses h) = record { memory = refl; output = refl }
+does-lengths passes = record { memory = refl; output = refl }
+does-lengths skips = record { memory = refl; output = refl }
+does-lengths (assigns v x) = record { memory = refl; output = refl }
+does-lengths (assignsFlags x) = record { memory = refl; output = refl }
+does-lengths (stores m h) = record { memory = h; output = refl }
+does-lengths (goesTo n h) = record { memory = refl; output = refl }
+does-lengths (saves n h g) = record { memory = refl; output = refl }
+does-lengths (returns p h) = record { memory = refl; output = refl }
+does-lengths (loops h) = record { memory = refl; output = refl }
+does-lengths (repeats p h) = record { memory = refl; output = refl }
+does-lengths (leaves p h) = record { memory = refl; output = refl }
+does-lengths (begins v x y z l h) = record { memory = refl; output = refl }
+does-lengths (again v f h g) = record { memory = refl; output = refl }
+does-lengths (finishes v f h g) = record { memory = refl; output = refl }
+does-lengths (inputs g) = gives-lengths g
+
+pub then-lengths : {w u v : World} → SameLengths w u → SameLengths u v → SameLengths w v
+then-lengths a b = record { memory = b .memory ∙ a .memory; output = b .output ∙ a .output }
+
+onward-lengths : (w : World) (d : Done) (p cr : ℕ) (k : ℕ → World → Ran) → SameLengths w (worldAfter d) → ((q : ℕ) (u : World) → SameLengths u (k q u .world))
+    → SameLengths w (onwards d p cr k .world)
+onward-lengths w (done on u) p cr k l f = then-lengths l (f (suc p) u)
+onward-lengths w (done skip u) p cr k l f = then-lengths l (f (suc cr) u)
+onward-lengths w (done (go q) u) p cr k l f = then-lengths l (f q u)
+onward-lengths w (done (stop n) u) p cr k l f = l
+
+pub run-lengths : (k : ℕ) (e : Env) (q : ℕ) (w : World) → SameLengths w (runFrom k e q w .world)
+run-lengths k e q w =
+    every-run e (λ k q w r. SameLengths w (r .world)) (λ k q w h. record { memory = refl; output = refl }) (λ q w a h. record { memory = refl; output = refl })
+    (λ k q w a h g. record { memory = refl; output = refl })
+    (λ k q w a m s h g i. onward-lengths w (exec (envAt e (endOf e a m)) (m .statement) w) (endOf e a m) (crOf e a) (runFrom k e)
+      (does-lengths (exec-does (envAt e (endOf e a m)) (m .statement) w)) i) k q w

@@ -9,3 +9,4 @@ pub mod Refusing
 pub mod Fixed
 pub mod Listing
 pub mod Held
+pub mod Outside

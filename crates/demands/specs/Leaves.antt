@@ -4,13 +4,14 @@ use mathlib.Core.Path.{_≡_}
 use mathlib.Core.Bool.{Bool, true, false}
 use mathlib.Core.List.{List, [], _∷_}
 use mathlib.Core.Option.{some}
-use lib.ListN.{length, drop}
+use lib.ListN.{length, take, drop}
 use lib.Seq.{sets}
 use lib.Dec.{eqb}
 use Rattle.nibl.specs.Bytes.{if_then_else_}
 use Rattle.nibl.specs.Typing.{Gathered, gather}
 use Rattle.nibl.specs.Stack.{popOf}
-use Rattle.nibl.specs.Page.{Stored, mark}
+use Rattle.nibl.specs.Tree.{Typed, blank, new, clear, run, delete, list, store, immediate}
+use Rattle.nibl.specs.Page.{Stored, mark, used}
 use Rattle.nibl.specs.Meaning.{World, Env, withGosubs}
 use Rattle.nibl.specs.Calls.{Lent, Outcome}
 use Rattle.nibl.specs.declared.Paused.the-variants.{Nowhere}
@@ -97,3 +98,26 @@ pub record Returned (s t : Session) : Type 0 where
   pub top : popOf (s .gosubs) .top ≡ top.At place
   pub mark : place .0 ≡ mark
   pub rest : t ≡ withGosubs s (popOf (s .gosubs) .stack)
+
+-- the output from one position to the other is new, and only that
+pub record Grown (out : List ℕ) (at : ℕ) (out' : List ℕ) (at' : ℕ) : Type 0 where
+  pub forward : at ≤ at'
+  pub long : length out' ≡ length out
+  pub before : take at out' ≡ take at out
+  pub behind : drop at' out' ≡ drop at' out
+
+-- the page after a call: of the same length, and every byte after its end mark as it was
+pub record PageHeld (page page' : List ℕ) : Type 0 where
+  pub long : length page' ≡ length page
+  pub after : drop (used page') page' ≡ drop (used page') page
+
+-- whether a typed line edits the program
+abbrev pub isEdit : Typed → Bool
+isEdit blank = false
+isEdit new = true
+isEdit clear = false
+isEdit run = false
+isEdit (delete n) = true
+isEdit (list n) = false
+isEdit (store n t ms) = true
+isEdit (immediate q) = false
