@@ -10,3 +10,4 @@ pub mod Fixed
 pub mod Listing
 pub mod Held
 pub mod Outside
+pub mod LastStep
