@@ -133,7 +133,7 @@ obey-silent k e w (store n t ms) = edit-silent (e .page) w (with (record { line 
 obey-silent k e w (immediate q) = by (needsProgram q) refl where
   by : (b : Bool) → needsProgram q ≡ b → Silent (elim b [ true ↦ stops 3 w (e .page) | false ↦ immediately k e (exec e q w) ])
   by true n h l = omega arith
-  by false n h l = immediate-silent k e (rw (needs-asks q n) at (exec-refuses e q w)) h l
+  by false n h l = immediate-silent k e (rw (needs-asks q n .0) at (exec-refuses e q w)) h l
 
 take-seven : {x : Lent} {o : Outcome} → Takes limit x o → o .answer .stop ≡ 7 → o .answer .line ≡ stopLine.NoLine → o ≡ unchanged x 7
 take-seven {x = x} (refused h) i l = ap (unchanged x) i

@@ -32,7 +32,7 @@ use Rattle.demands.proofs.Refusing as refusing
 record Around (e : Env) (w u : World) : Type 0 where
   memory : u .memory ≡ w .memory
   items : Items (w .output) (w .outpos) (u .output) (u .outpos)
-  lines : Lines e (w .inpos) (u .inpos)
+  lines : Lines (e .lim) (e .input) (w .inpos) (u .inpos)
 
 data Leaves (e : Env) (w : World) : Done → Type 0 where
   onward : {u : World} → Leaves e w (done on u)
@@ -139,7 +139,7 @@ items-grow (item {out = out} {out' = out'} {at = at} {at' = at'} bs h r) =
     }
 
 -- "input only by whole lines"
-pub lines-forward : {e : Env} {at at' : ℕ} → Lines e at at' → at ≤ at'
+pub lines-forward : {lim : ℕ} {input : List ℕ} {at at' : ℕ} → Lines lim input at at' → at ≤ at'
 lines-forward noLine = omega arith
 lines-forward (line g h r) = omega (arith, lines-forward r)
 

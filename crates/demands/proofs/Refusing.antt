@@ -1,7 +1,7 @@
 -- What a refusing statement leaves of the variables, and what it may be refused with. Assumes nothing.
 use Prim.Native.Nat.{ℕ, zero, suc, _+_}
 use mathlib.Core.Path.{_≡_, refl, sym, _∙_, ap}
-use mathlib.Core.Bool.{Bool, true, false, not}
+use mathlib.Core.Bool.{Bool, true, false, not, true≢false}
 use mathlib.Core.List.{List, [], _∷_, _++_}
 use mathlib.Core.Option.{Option, none, some}
 use native.Mathlib.Omega.{arith}
@@ -224,23 +224,23 @@ list-refuses us b n (r ∷ rs) w = by (λ u. list-refuses us b n rs u) (leb n (r
   by f true = put-refuses us b (listed r) w (listFrom n rs) (λ u h. again us b w u _ h (f u))
   by f false = f w
 
--- 7 is never an immediate statement's
-pub needs-asks : (q : Stmt) → needsProgram q ≡ false → asks q ≡ false
-needs-asks (letVar v a) h = refl
-needs-asks (letStat a) h = refl
-needs-asks (letByte a b) h = refl
-needs-asks (letCopy a b) h = refl
-needs-asks (letText a bs) h = refl
-needs-asks (goto a) h = refl
-needs-asks (gosub a) h = refl
-needs-asks (until a) h = refl
-needs-asks return h = refl
-needs-asks loop h = refl
-needs-asks remark h = refl
-needs-asks end h = refl
-needs-asks (print is′ b) h = refl
+-- 7 is never an immediate statement's, and it gives no variables by INPUT
+pub needs-asks : (q : Stmt) → needsProgram q ≡ false → (asks q ≡ false) × (inputVars q ≡ [])
+needs-asks (letVar v a) h = (refl, refl)
+needs-asks (letStat a) h = (refl, refl)
+needs-asks (letByte a b) h = (refl, refl)
+needs-asks (letCopy a b) h = (refl, refl)
+needs-asks (letText a bs) h = (refl, refl)
+needs-asks (goto a) h = (refl, refl)
+needs-asks (gosub a) h = (refl, refl)
+needs-asks (until a) h = (refl, refl)
+needs-asks return h = (refl, refl)
+needs-asks loop h = (refl, refl)
+needs-asks remark h = (refl, refl)
+needs-asks end h = (refl, refl)
+needs-asks (print is′ b) h = (refl, refl)
 needs-asks (ifThen a q) h = needs-asks q h
-needs-asks (for v a b c) h = refl
-needs-asks (next v) h = refl
-needs-asks (input vs) h = h
-needs-asks (inputText a) h = h
+needs-asks (for v a b c) h = (refl, refl)
+needs-asks (next v) h = (refl, refl)
+needs-asks (input vs) h = absurd (true≢false h)
+needs-asks (inputText a) h = absurd (true≢false h)

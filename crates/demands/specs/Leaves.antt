@@ -72,9 +72,9 @@ pub data Items : List ℕ → ℕ → List ℕ → ℕ → Type 0 where
   item : {out out' : List ℕ} {at at' : ℕ} (bs : List ℕ) → at + length bs ≤ length out → Items (sets out at bs) (at + length bs) out' at' → Items out at out' at'
 
 -- whole lines of the input, as they are gathered, from a position on
-pub data Lines (e : Env) : ℕ → ℕ → Type 0 where
-  noLine : {at : ℕ} → Lines e at at
-  line : {at at' : ℕ} (g : Gathered) → gather (e .lim) (drop at (e .input)) ≡ some g → Lines e (at + g .taken) at' → Lines e at at'
+pub data Lines (lim : ℕ) (input : List ℕ) : ℕ → ℕ → Type 0 where
+  noLine : {at : ℕ} → Lines lim input at at
+  line : {at at' : ℕ} (g : Gathered) → gather lim (drop at input) ≡ some g → Lines lim input (at + g .taken) at' → Lines lim input at at'
 
 -- all of the record but its variables
 pub record SameButVars (s t : Session) : Type 0 where
@@ -90,7 +90,7 @@ pub record Refused (e : Env) (us : List ℕ) (w u : World) : Type 0 where
   pub rest : SameButVars (w .session) (u .session)
   pub memory : u .memory ≡ w .memory
   pub items : Items (w .output) (w .outpos) (u .output) (u .outpos)
-  pub lines : Lines e (w .inpos) (u .inpos)
+  pub lines : Lines (e .lim) (e .input) (w .inpos) (u .inpos)
 
 -- "RETURN to the immediate mark" pops one place, the mark, and changes nothing else of the record
 pub record Returned (s t : Session) : Type 0 where
@@ -121,3 +121,15 @@ isEdit (delete n) = true
 isEdit (list n) = false
 isEdit (store n t ms) = true
 isEdit (immediate q) = false
+
+-- the same call with another budget
+abbrev pub withBudget : Lent → ℕ → Lent
+withBudget x k =
+    record {
+      session = x .session;
+      page = x .page;
+      memory = x .memory;
+      input = x .input;
+      output = x .output;
+      call = record { inpos = x .call .inpos; outpos = x .call .outpos; sense = x .call .sense; budget = k };
+    }
