@@ -3,3 +3,5 @@ pub mod Runs
 pub mod Budget
 pub mod Ways
 pub mod Numbers
+pub mod Places
+pub mod Fits
