@@ -86,10 +86,10 @@ on-top n d e s x h k = by (ltb d 1) refl (ltb n d) h where
   by false i false h = (ltb-false d 1 i, h)
 
 -- A session record that fits: by what the three stacks may hold
-abbrev Places : (Place → Bool) → PlaceStack → Type 0
+abbrev pub Places : (Place → Bool) → PlaceStack → Type 0
 Places f s = Held f 8 (s .depth) (s .places)
 
-abbrev Entries : (ForEntry → Bool) → ForStack → Type 0
+abbrev pub Entries : (ForEntry → Bool) → ForStack → Type 0
 Entries f s = Held f 4 (s .depth) (s .entries)
 
 pub record FitBy (g d : Place → Bool) (f : ForEntry → Bool) (ps : List ℕ) (s : Session) : Type 0 where
@@ -99,13 +99,13 @@ pub record FitBy (g d : Place → Bool) (f : ForEntry → Bool) (ps : List ℕ) 
   pub flags : ltb (s .flags) 8 ≡ true
   pub paused : fitsPaused ps (s .paused) ≡ true
 
-abbrev savedIn : List ℕ → Place → Bool
+abbrev pub savedIn : List ℕ → Place → Bool
 savedIn ps p = isAmong ps (p .0) || eqb (p .0) mark
 
-abbrev placeIn : List ℕ → Place → Bool
+abbrev pub placeIn : List ℕ → Place → Bool
 placeIn ps p = isAmong ps (p .0)
 
-abbrev entryIn : List ℕ → ForEntry → Bool
+abbrev pub entryIn : List ℕ → ForEntry → Bool
 entryIn ps e = ltb (e .var) 26 && isAmong ps (e .place .0)
 
 abbrev pub Fit : List ℕ → Session → Type 0
@@ -178,7 +178,7 @@ module _ {g d : Place → Bool} {f : ForEntry → Bool} {ps : List ℕ} {s : Ses
   fit-vars x = record { gosubs = h .gosubs; dos = h .dos; fors = h .fors; flags = h .flags; paused = h .paused }
 
 module _ (g d : Place → Bool) (f : ForEntry → Bool) (ps : List ℕ) where
-  abbrev Fits : World → Type 0
+  abbrev pub Fits : World → Type 0
   Fits w = FitBy g d f ps (w .session)
 
   gives-fits : {w : World} {r : Done} → Gives w r → Fits w → Fits (worldOf r)
@@ -188,7 +188,7 @@ module _ (g d : Place → Bool) (f : ForEntry → Bool) (ps : List ℕ) where
 
   module _ (e : Env) (vs : List ℕ) (saved : g (place (e .here)) ≡ true) (looped : d (place (e .here)) ≡ true)
       (begun : (v l s : ℕ) → isAmong vs v ≡ true → f (record { var = v; limit = l; step = s; place = place (e .here) }) ≡ true) where
-    does-fits : {w : World} {r : Done} → Does e vs w r → Fits w → Fits (worldOf r)
+    pub does-fits : {w : World} {r : Done} → Does e vs w r → Fits w → Fits (worldOf r)
     does-fits (writes bs l k) h = does-fits k h
     does-fits (takes y l k) h = does-fits k h
     does-fits (refuses n) h = h
@@ -233,7 +233,7 @@ module _ (lim : ℕ) (e : Env) (vs : List ℕ) (short : lim ≤ 251) (good : isG
     by true h = toEnd
     by false h = toPlace (or-cases (isAmong (placesOf (e .page)) (p .0)) false h (λ i. i) (λ i. absurd (false≢true i)))
 
-  does-goes : {w : World} {r : Done} → Does e vs w r → Fit (placesOf (e .page)) (w .session) → Goes (e .page) r
+  pub does-goes : {w : World} {r : Done} → Does e vs w r → Fit (placesOf (e .page)) (w .session) → Goes (e .page) r
   does-goes (writes bs l k) h = does-goes k h
   does-goes (takes y l k) h = does-goes k h
   does-goes (refuses n) h = toEnd
@@ -304,13 +304,13 @@ pub found-lettered : (s t : List ℕ) (m : Member) → member s ≡ found m t �
 found-lettered s t m e = member-lettered (ok-found (rw e at (it (member-same s))))
 
 -- An immediate statement leaves the stacks of DO and FOR alone
-abbrev loopsOf : World → PlaceStack × ForStack
+abbrev pub loopsOf : World → PlaceStack × ForStack
 loopsOf w = (w .session .dos, w .session .fors)
 
-record Keeps (w : World) (d : Done) : Type 0 where
-  same : loopsOf (worldOf d) ≡ loopsOf w
+pub record Keeps (w : World) (d : Done) : Type 0 where
+  pub same : loopsOf (worldOf d) ≡ loopsOf w
 
-kept : {w : World} {d : Done} → loopsOf (worldOf d) ≡ loopsOf w → Keeps w d
+pub kept : {w : World} {d : Done} → loopsOf (worldOf d) ≡ loopsOf w → Keeps w d
 kept e = record { same = e }
 
 module _ {A : Type 0} where
@@ -318,13 +318,13 @@ module _ {A : Type 0} where
   given-keeps (is a) w k f = f a
   given-keeps (no n) w k f = kept refl
 
-went-keeps : (w : World) (d : Done) (k : World → Done) → Keeps w d → ((u : World) → Keeps u (k u)) → Keeps w (went d k)
+pub went-keeps : (w : World) (d : Done) (k : World → Done) → Keeps w d → ((u : World) → Keeps u (k u)) → Keeps w (went d k)
 went-keeps w (done on u) k h f = kept (f u .same ∙ h .same)
 went-keeps w (done skip u) k h f = kept (h .same)
 went-keeps w (done (go q) u) k h f = kept (h .same)
 went-keeps w (done (stop n) u) k h f = kept (h .same)
 
-put-keeps : (bs : List ℕ) (w : World) → Keeps w (put bs w)
+pub put-keeps : (bs : List ℕ) (w : World) → Keeps w (put bs w)
 unfolding put
 put-keeps bs w = if-split (Keeps w) (leb (w .outpos + length bs) (length (w .output))) (λ _. kept refl) (λ _. kept refl)
 
@@ -356,7 +356,7 @@ unfolding returnBy
 return-keeps w top.Empty = kept refl
 return-keeps w (top.At p) = kept refl
 
-exec-keeps : (e : Env) (q : Stmt) (w : World) → needsProgram q ≡ false → Keeps w (exec e q w)
+pub exec-keeps : (e : Env) (q : Stmt) (w : World) → needsProgram q ≡ false → Keeps w (exec e q w)
 unfolding exec
 exec-keeps e (letVar v a) w h = given-keeps (eval e w a) w _ (λ x. kept refl)
 exec-keeps e (letStat a) w h = given-keeps (eval e w a) w _ (λ x. kept refl)

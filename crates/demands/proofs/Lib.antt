@@ -5,3 +5,4 @@ pub mod Ways
 pub mod Numbers
 pub mod Places
 pub mod Fits
+pub mod Running
