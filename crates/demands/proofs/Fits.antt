@@ -74,7 +74,7 @@ module _ {A : Type 0} (f : A → Bool) where
     held-top : (x : A) → 1 ≤ d → f (getD l (d - 1) x) ≡ true
     held-top x g = all-at l d (d - 1) x (omega arith) (omega arith) (h .live)
 
-  held-none : {n : ℕ} {l : List A} → length l ≡ n → Held n 0 l
+  pub held-none : {n : ℕ} {l : List A} → length l ≡ n → Held n 0 l
   held-none e = record { deep = omega arith; room = e; live = refl }
 
 -- what is on top is there

@@ -6,3 +6,5 @@ pub mod Numbers
 pub mod Places
 pub mod Fits
 pub mod Running
+pub mod Typed
+pub mod Sound
