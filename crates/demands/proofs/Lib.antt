@@ -7,4 +7,8 @@ pub mod Places
 pub mod Fits
 pub mod Running
 pub mod Typed
+pub mod Obeys
 pub mod Sound
+pub mod Five
+pub mod Line
+pub mod Paused
