@@ -1,14 +1,14 @@
 -- A statement does nothing but what the list of effects has. Assumes nothing.
 use Prim.Native.Nat.{ℕ, zero, suc, _+_, _-_, _%_, _≤_, _<_}
 use mathlib.Core.Path.{_≡_, refl, sym, subst, _∙_, ap}
-use mathlib.Core.Bool.{Bool, true, false, not}
+use mathlib.Core.Bool.{Bool, true, false, not, _||_}
 use mathlib.Core.List.{List, [], _∷_, _++_}
 use mathlib.Core.Option.{Option, none, some}
 use native.Mathlib.Omega.{arith}
 use lib.ListN.{length, getD, drop}
 use lib.Seq.{sets, length-sets}
 use lib.Dec.{ltb, leb, eqb}
-use borrow.Author.Tests.{leb-true, eq-eqb}
+use borrow.Author.Tests.{leb-true, eq-eqb, eqb-true}
 use Rattle.nibl.specs.Bytes.{if_then_else_, bytes, all, notCR}
 use Rattle.nibl.specs.Tree.{Op, times, over, both, plus, minus, either, equal, less, greater, atMost, atLeast, unequal}
 use Rattle.nibl.specs.Tree.{Expr, var, const, stat, top, byteAt, invert, negate, modulo, two}
@@ -28,13 +28,33 @@ use Rattle.nibl.specs.declared.TopFor.{TopFor}
 use Rattle.nibl.specs.declared.TopFor.the-variants as topf
 use Rattle.demands.specs.Effects.{refusals, forVars, Gives, gave, refused, gives, Does, writes, takes, refuses, passes, skips, assigns, assignsFlags, stores, goesTo, saves, returns, loops, repeats, leaves, begins, again, finishes, inputs}
 
--- a value's refusal is one of the list
+abbrev pub allIn : List ℕ → List ℕ → Bool
+allIn [] ns = true
+allIn (m ∷ ms) ns = elim (isAmong ns m) [ true ↦ allIn ms ns | false ↦ false ]
+
+-- a number of one list is one of another that holds all of it
+pub widen : (ms ns : List ℕ) → allIn ms ns ≡ true → (n : ℕ) → isAmong ms n ≡ true → isAmong ns n ≡ true
+widen [] ns h n g = let z : _≡_ {A = ℕ} 0 1 = cc in absurd (omega arith)
+widen (m ∷ ms) ns h n g = by (λ h g. widen ms ns h n g) (isAmong ns m) refl h (eqb n m) refl g where
+  by : (allIn ms ns ≡ true → isAmong ms n ≡ true → isAmong ns n ≡ true) → (b : Bool) → isAmong ns m ≡ b → (elim b [ true ↦ allIn ms ns | false ↦ false ]) ≡ true
+      → (c : Bool) → eqb n m ≡ c → (c || isAmong ms n) ≡ true → isAmong ns n ≡ true
+  by f true i h true e g = rw (eqb-true n m e) i
+  by f true i h false e g = f h g
+  by f false i h c e g = let z : _≡_ {A = ℕ} 0 1 = cc in absurd (omega arith)
+
+-- what a value, a line, a byte or a string that was asked for may be refused with
+abbrev pub valueRefusals : List ℕ
+valueRefusals = 8 ∷ 13 ∷ 16 ∷ []
+
 pub data Known {A : Type 0} : Result A → Type 0 where
   given′ : {a : A} → Known (is a)
-  refused′ : {n : ℕ} → isAmong refusals n ≡ true → Known (no n)
+  refused′ : {n : ℕ} → isAmong valueRefusals n ≡ true → Known (no n)
+
+value-refusal : (n : ℕ) → isAmong valueRefusals n ≡ true → isAmong refusals n ≡ true
+value-refusal n h = widen valueRefusals refusals refl n h
 
 module _ {A B : Type 0} where
-  bind-known : (r : Result A) (k : A → Result B) → Known r → ((a : A) → Known (k a)) → Known (bind r k)
+  pub bind-known : (r : Result A) (k : A → Result B) → Known r → ((a : A) → Known (k a)) → Known (bind r k)
   bind-known (is a) k h f = f a
   bind-known (no n) k (refused′ h) f = refused′ h
 
@@ -66,7 +86,7 @@ byte-known : (m : List ℕ) (a : ℕ) → Known (byteOf m a)
 unfolding byteOf
 byte-known m a = choice-known (ltb a (length m)) (is (getD m a 0)) (no 16) given′ (refused′ refl)
 
-string-known : (m : List ℕ) (a : ℕ) → Known (stringAt m a)
+pub string-known : (m : List ℕ) (a : ℕ) → Known (stringAt m a)
 unfolding stringAt
 string-known m a = choice-known (all notCR (drop a m)) (no 16) (is _) (refused′ refl) given′
 
@@ -87,7 +107,7 @@ module _ (e : Env) (vs : List ℕ) where
     -- what follows a value that is there
     given-does : (r : Result A) (w : World) (k : A → Done) → Known r → ((a : A) → r ≡ is a → Does e vs w (k a)) → Does e vs w (given r w k)
     given-does (is a) w k h f = f a refl
-    given-does (no n) w k (refused′ h) f = refuses h
+    given-does (no n) w k (refused′ h) f = refuses (value-refusal n h)
 
   -- an item, and what follows it
   put-does : (bs : List ℕ) (w : World) (k : World → Done) → ((u : World) → Does e vs u (k u)) → Does e vs w (went (put bs w) k)
@@ -108,13 +128,13 @@ module _ (e : Env) (vs : List ℕ) where
     go true h = writes bs (leb-true _ _ h) passes
     go false h = refuses refl
 
-  went-went : (d : Done) (k j : World → Done) → went (went d k) j ≡ went d (λ w. went (k w) j)
+  pub went-went : (d : Done) (k j : World → Done) → went (went d k) j ≡ went d (λ w. went (k w) j)
   went-went (done on w) k j = refl
   went-went (done skip w) k j = refl
   went-went (done (go q) w) k j = refl
   went-went (done (stop n) w) k j = refl
 
-  given-went : {A : Type 0} (r : Result A) (w : World) (k : A → Done) (j : World → Done) → went (given r w k) j ≡ given r w (λ a. went (k a) j)
+  pub given-went : {A : Type 0} (r : Result A) (w : World) (k : A → Done) (j : World → Done) → went (given r w k) j ≡ given r w (λ a. went (k a) j)
   given-went (is a) w k j = refl
   given-went (no n) w k j = refl
 
@@ -139,7 +159,7 @@ module _ (e : Env) (vs : List ℕ) where
   unfolding keepIn
   keep-does w r h f = given-does r w _ h (λ m g. stores m (f m g))
 
-  store-known : (m : List ℕ) (a : ℕ) (bs : List ℕ) → Known (storeAt m a bs)
+  pub store-known : (m : List ℕ) (a : ℕ) (bs : List ℕ) → Known (storeAt m a bs)
   unfolding storeAt
   store-known m a bs = choice-known (leb (a + length bs) (length m)) (is _) (no 16) given′ (refused′ refl)
 
@@ -154,7 +174,7 @@ module _ (e : Env) (vs : List ℕ) where
   copy-length m (is bs) a l h = kept-length m a (bs ++ (13 ∷ [])) l h
   copy-length m (no n) a l h = let z : _≡_ {A = ℕ} 0 1 = cc in absurd (omega arith)
 
-  line-known : (o : Option ℕ) → Known (lineThere o)
+  pub line-known : (o : Option ℕ) → Known (lineThere o)
   line-known none = refused′ refl
   line-known (some q) = given′
 
@@ -166,7 +186,7 @@ module _ (e : Env) (vs : List ℕ) where
   to-line : (r : Value) (w : World) (k : ℕ → Done) → Known r → ((n q : ℕ) → find (e .page) n ≡ some q → Does e vs w (k q))
       → Does e vs w (given (bind r (λ n. lineThere (find (e .page) n))) w k)
   to-line (is n) w k h f = given-does _ w k (line-known (find (e .page) n)) (λ q g. f n q (line-there (find (e .page) n) q g))
-  to-line (no n) w k (refused′ h) f = refuses h
+  to-line (no n) w k (refused′ h) f = refuses (value-refusal n h)
 
   choice-does : (b : Bool) (w : World) (d f : Done) → (b ≡ true → Does e vs w d) → (b ≡ false → Does e vs w f) → Does e vs w (if b then d else f)
   choice-does true w d f h g = h refl
@@ -225,7 +245,7 @@ module _ (e : Env) (vs : List ℕ) where
     by : ((u : World) → Gives u (assign e us es u)) → (r : Value) → Known r
         → Gives w (given r w (λ x. assign e us es (withSession w (withVar (w .session) v x))))
     by f (is x) h = gives v x (f _)
-    by f (no n) (refused′ h) = refused h
+    by f (no n) (refused′ h) = refused (value-refusal n h)
 
   reply-does : (us : List ℕ) (w : World) (o : Option (List Expr)) → Does e vs w (assignReply e us w o)
   reply-does us w none = refuses refl

@@ -6,9 +6,13 @@ pub mod Numbers
 pub mod Places
 pub mod Fits
 pub mod Running
-pub mod Typed
 pub mod Obeys
 pub mod Sound
 pub mod Five
 pub mod Line
 pub mod Paused
+pub mod Storing
+pub mod Retyping
+pub mod Refusing
+pub mod Fixed
+pub mod Listing

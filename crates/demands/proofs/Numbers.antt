@@ -18,11 +18,15 @@ use Rattle.nibl.specs.declared.Paused.{Paused}
 use Rattle.nibl.specs.declared.Paused.the-variants.{Nowhere, Start, At}
 use Rattle.demands.proofs.Runs.{oneStep, endOf, crOf, every-run}
 use Rattle.demands.proofs.Budget.{StopsWith, goes, skipped, jumped, stopped, stopNumbers, does-stops, exec-stops}
-use Rattle.demands.proofs.Effects.{list-does}
+use Rattle.demands.proofs.Effects.{widen, list-does}
 use Rattle.demands.proofs.Ways.{Takes, refused, noCR, overlong, unread, reads, every-line, Continues, refused′, continues, every-continue}
 
 abbrev pub replyNumbers : List ℕ
 replyNumbers = 0 ∷ 1 ∷ 2 ∷ 3 ∷ 5 ∷ 6 ∷ 7 ∷ 8 ∷ 9 ∷ 10 ∷ 11 ∷ 12 ∷ 13 ∷ 14 ∷ 15 ∷ 16 ∷ 17 ∷ 18 ∷ 19 ∷ 20 ∷ []
+
+-- past the first refusals: 2 and 3 are a typed line's, and these a run's or a statement's too
+abbrev pub runNumbers : List ℕ
+runNumbers = 0 ∷ 5 ∷ 6 ∷ 7 ∷ 8 ∷ 9 ∷ 10 ∷ 11 ∷ 12 ∷ 13 ∷ 14 ∷ 15 ∷ 16 ∷ 17 ∷ 20 ∷ []
 
 abbrev pub OneOf : List ℕ → ℕ → Type 0
 OneOf ns n = isAmong ns n ≡ true
@@ -30,86 +34,87 @@ OneOf ns n = isAmong ns n ≡ true
 abbrev pub Numbered : Outcome → Type 0
 Numbered o = OneOf replyNumbers (o .answer .stop)
 
-abbrev pub allIn : List ℕ → List ℕ → Bool
-allIn [] ns = true
-allIn (m ∷ ms) ns = elim (isAmong ns m) [ true ↦ allIn ms ns | false ↦ false ]
-
--- a number of one list is one of another that holds all of it
-pub widen : (ms ns : List ℕ) → allIn ms ns ≡ true → (n : ℕ) → OneOf ms n → OneOf ns n
-widen [] ns h n g = let z : _≡_ {A = ℕ} 0 1 = cc in absurd (omega arith)
-widen (m ∷ ms) ns h n g = by (λ h g. widen ms ns h n g) (isAmong ns m) refl h (eqb n m) refl g where
-  by : (allIn ms ns ≡ true → OneOf ms n → OneOf ns n) → (b : Bool) → isAmong ns m ≡ b → (elim b [ true ↦ allIn ms ns | false ↦ false ]) ≡ true
-      → (c : Bool) → eqb n m ≡ c → (c || isAmong ms n) ≡ true → OneOf ns n
-  by f true i h true e g = rw (eqb-true n m e) i
-  by f true i h false e g = f h g
-  by f false i h c e g = let z : _≡_ {A = ℕ} 0 1 = cc in absurd (omega arith)
-
-step-numbers : (d : Done) → StopsWith d → (l p cr : ℕ) (k : ℕ → World → Ran) → ((q : ℕ) (w : World) → OneOf replyNumbers (k q w .stop))
-    → OneOf replyNumbers (stepped l (onward d p cr k) .stop)
+step-numbers : (d : Done) → StopsWith d → (l p cr : ℕ) (k : ℕ → World → Ran) → ((q : ℕ) (w : World) → OneOf runNumbers (k q w .stop))
+    → OneOf runNumbers (stepped l (onward d p cr k) .stop)
 step-numbers (done on w) s l p cr k f = f (suc p) w
 step-numbers (done skip w) s l p cr k f = f (suc cr) w
 step-numbers (done (go q) w) s l p cr k f = f q w
-step-numbers (done (stop n) w) (stopped h) l p cr k f = widen stopNumbers replyNumbers refl n h
+step-numbers (done (stop n) w) (stopped h) l p cr k f = widen stopNumbers runNumbers refl n h
 
-run-numbers : (k : ℕ) (e : Env) (q : ℕ) (w : World) → OneOf replyNumbers (runFrom k e q w .stop)
+pub run-numbers : (k : ℕ) (e : Env) (q : ℕ) (w : World) → OneOf runNumbers (runFrom k e q w .stop)
 run-numbers k e q w =
-    every-run e (λ k q w r. OneOf replyNumbers (r .stop)) (λ k q w h. refl) (λ q w a h. refl) (λ k q w a h g. refl)
+    every-run e (λ k q w r. OneOf runNumbers (r .stop)) (λ k q w h. refl) (λ q w a h. refl) (λ k q w a h g. refl)
     (λ k q w a m s h g i. step-numbers (exec (envAt e (endOf e a m)) (m .statement) w) (exec-stops (envAt e (endOf e a m)) (m .statement) w) 0 (endOf e a m) (crOf e a) (runFrom k e) i) k q w
 
-first-numbers : (lim : ℕ) (x : Lent) (n : ℕ) → firstRefusal lim x ≡ n → OneOf replyNumbers n
+-- the first refusals, and 0 for none
+abbrev pub firstNumbers : List ℕ
+firstNumbers = 0 ∷ 1 ∷ 18 ∷ 19 ∷ []
+
+pub first-numbers : (lim : ℕ) (x : Lent) (n : ℕ) → firstRefusal lim x ≡ n → OneOf firstNumbers n
 unfolding firstRefusal
-first-numbers lim x n h = subst (OneOf replyNumbers) h (by (not (inRange x)) (not (isGood lim (x .page))) (not (fits (x .page) (x .session)))) where
-  by : (a b c : Bool) → OneOf replyNumbers (if a then 1 else if b then 18 else if c then 19 else 0)
+first-numbers lim x n h = subst (OneOf firstNumbers) h (by (not (inRange x)) (not (isGood lim (x .page))) (not (fits (x .page) (x .session)))) where
+  by : (a b c : Bool) → OneOf firstNumbers (if a then 1 else if b then 18 else if c then 19 else 0)
   by true b c = refl
   by false true c = refl
   by false false true = refl
   by false false false = refl
 
-edit-numbers : (page : List ℕ) (w : World) (rs : List Stored) → Numbered (edited page w rs)
-unfolding edited
-edit-numbers page w rs = by (leb (length (programBytes rs)) (length page)) where
-  by : (b : Bool) → Numbered (if b then stops 0 (withSession w (clearStacks (w .session))) (onto page rs) else stops 2 w page)
-  by true = refl
-  by false = refl
+-- how a read line ends: with no room, in need of a program, or with a number of a run
+pub data Obeys (e : Env) (w : World) : Outcome → Type 0 where
+  full : Obeys e w (stops 2 w (e .page))
+  unfit : Obeys e w (stops 3 w (e .page))
+  ends : {o : Outcome} → OneOf runNumbers (o .answer .stop) → Obeys e w o
 
-immediate-numbers : (k : ℕ) (e : Env) (d : Done) → StopsWith d → Numbered (immediately k e d)
+edit-obeys : (e : Env) (w : World) (rs : List Stored) → Obeys e w (edited (e .page) w rs)
+unfolding edited
+edit-obeys e w rs = by (leb (length (programBytes rs)) (length (e .page))) where
+  by : (b : Bool) → Obeys e w (if b then stops 0 (withSession w (clearStacks (w .session))) (onto (e .page) rs) else stops 2 w (e .page))
+  by true = ends refl
+  by false = full
+
+immediate-numbers : (k : ℕ) (e : Env) (d : Done) → StopsWith d → OneOf runNumbers (immediately k e d .answer .stop)
 immediate-numbers k e (done on w) s = refl
 immediate-numbers k e (done skip w) s = refl
 immediate-numbers k e (done (go q) w) s = run-numbers k e q w
-immediate-numbers k e (done (stop n) w) (stopped h) = widen stopNumbers replyNumbers refl n h
+immediate-numbers k e (done (stop n) w) (stopped h) = widen stopNumbers runNumbers refl n h
 
-obey-numbers : (k : ℕ) (e : Env) (w : World) (t : Typed) → Numbered (obey k e w t)
+pub obey-obeys : (k : ℕ) (e : Env) (w : World) (t : Typed) → Obeys e w (obey k e w t)
 unfolding obey
-obey-numbers k e w blank = refl
-obey-numbers k e w new = edit-numbers (e .page) w []
-obey-numbers k e w clear = refl
-obey-numbers k e w run = run-numbers k e 0 _
-obey-numbers k e w (delete n) = by (hasLine n (recordsOf (e .page))) where
-  by : (b : Bool) → Numbered (elim b [ true ↦ edited (e .page) w (without n (recordsOf (e .page))) | false ↦ stops 0 w (e .page) ])
-  by true = edit-numbers (e .page) w (without n (recordsOf (e .page)))
-  by false = refl
-obey-numbers k e w (list n) = immediate-numbers k e (listFrom n (recordsOf (e .page)) w) (does-stops (list-does e [] n (recordsOf (e .page)) w))
-obey-numbers k e w (store n t ms) = edit-numbers (e .page) w (with (record { line = n; text = t }) (recordsOf (e .page)))
-obey-numbers k e w (immediate q) = by (needsProgram q) where
-  by : (b : Bool) → Numbered (elim b [ true ↦ stops 3 w (e .page) | false ↦ immediately k e (exec e q w) ])
-  by true = refl
-  by false = immediate-numbers k e (exec e q w) (exec-stops e q w)
+obey-obeys k e w blank = ends refl
+obey-obeys k e w new = edit-obeys e w []
+obey-obeys k e w clear = ends refl
+obey-obeys k e w run = ends (run-numbers k e 0 _)
+obey-obeys k e w (delete n) = by (hasLine n (recordsOf (e .page))) where
+  by : (b : Bool) → Obeys e w (elim b [ true ↦ edited (e .page) w (without n (recordsOf (e .page))) | false ↦ stops 0 w (e .page) ])
+  by true = edit-obeys e w (without n (recordsOf (e .page)))
+  by false = ends refl
+obey-obeys k e w (list n) = ends (immediate-numbers k e (listFrom n (recordsOf (e .page)) w) (does-stops (list-does e [] n (recordsOf (e .page)) w)))
+obey-obeys k e w (store n t ms) = edit-obeys e w (with (record { line = n; text = t }) (recordsOf (e .page)))
+obey-obeys k e w (immediate q) = by (needsProgram q) where
+  by : (b : Bool) → Obeys e w (elim b [ true ↦ stops 3 w (e .page) | false ↦ immediately k e (exec e q w) ])
+  by true = unfit
+  by false = ends (immediate-numbers k e (exec e q w) (exec-stops e q w))
+
+obey-numbers : {e : Env} {w : World} {o : Outcome} → Obeys e w o → Numbered o
+obey-numbers full = refl
+obey-numbers unfit = refl
+obey-numbers (ends {o = o} h) = widen runNumbers replyNumbers refl (o .answer .stop) h
 
 take-numbers : {lim : ℕ} {x : Lent} {o : Outcome} → Takes lim x o → Numbered o
-take-numbers {lim = lim} {x = x} (refused {n} h) = first-numbers lim x (suc n) h
+take-numbers {lim = lim} {x = x} (refused {n} h) = widen firstNumbers replyNumbers refl (suc n) (first-numbers lim x (suc n) h)
 take-numbers (noCR z h) = refl
 take-numbers (overlong g z h l) = refl
 take-numbers (unread g h r) = refl
-take-numbers {lim = lim} {x = x} (reads g t h r) = obey-numbers (x .call .budget) (envOf lim x) (begun x (g .taken)) t
+take-numbers {lim = lim} {x = x} (reads g t h r) = obey-numbers (obey-obeys (x .call .budget) (envOf lim x) (begun x (g .taken)) t)
 
-paused-numbers : (lim : ℕ) (x : Lent) (p : Paused) → Numbered (continueFrom lim x p)
+pub paused-numbers : (lim : ℕ) (x : Lent) (p : Paused) → OneOf runNumbers (continueFrom lim x p .answer .stop)
 paused-numbers lim x Nowhere = refl
 paused-numbers lim x Start = run-numbers (x .call .budget) (envOf lim x) 0 (begun x 0)
 paused-numbers lim x (At p) = run-numbers (x .call .budget) (envOf lim x) (suc (p .0)) (begun x 0)
 
 continue-numbers : {lim : ℕ} {x : Lent} {o : Outcome} → Continues lim x o → Numbered o
-continue-numbers {lim = lim} {x = x} (refused′ {n} h) = first-numbers lim x (suc n) h
-continue-numbers {lim = lim} {x = x} (continues h) = paused-numbers lim x (x .session .paused)
+continue-numbers {lim = lim} {x = x} (refused′ {n} h) = widen firstNumbers replyNumbers refl (suc n) (first-numbers lim x (suc n) h)
+continue-numbers {lim = lim} {x = x} (continues h) = widen runNumbers replyNumbers refl (continueFrom lim x (x .session .paused) .answer .stop) (paused-numbers lim x (x .session .paused))
 
 pub every-reply-is-numbered : (x : Lent) → Numbered (takeLine x) × Numbered (continueRun x)
 unfolding takeLine continueRun

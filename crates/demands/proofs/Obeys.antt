@@ -25,13 +25,13 @@ use Rattle.page.proofs.Program.{Program, none as no-record}
 use Rattle.page.proofs.Changes.{with-program, without-program, onto-good}
 use Rattle.demands.specs.Effects.{refusals}
 use Rattle.demands.proofs.Budget.{StopsWith, stopped, stopNumbers}
-use Rattle.demands.proofs.Numbers.{widen}
+use Rattle.demands.proofs.Effects.{widen}
 use Rattle.demands.proofs.Ways.{Typing, Takes, refused, noCR, overlong, unread, reads, every-line, Continues, refused′, continues, every-continue}
 use Rattle.demands.proofs.Places.{Stands, good-laid, laid-program}
 use Rattle.demands.proofs.Fits.{Fit, FitBy, Sized, fit-of, fit-fits, fit-sized, fit-vars, held-none, Goes, toPlace, worldOf as worldAfter}
 use Rattle.demands.proofs.Running.{Left, statement-left, list-left, Goings, runsOut, pauses, steps, run-goes}
 use Rattle.demands.proofs.Running.{stops as halts}
-use Rattle.demands.proofs.Typed.{typed-storable}
+use Rattle.demands.proofs.Storing.{stored-storable}
 
 -- what an obeyed line, or a continued run, may answer: all but the first refusals, 7 at the typed line, and 5
 abbrev pub runNumbers : List ℕ
@@ -116,7 +116,7 @@ module _ (lim : ℕ) (x : Lent) (short : lim ≤ 251) (good : isGood lim (x .pag
     by : (l : ℕ) (s : List ℕ) (ms : List Member) → t ≡ store l s ms → Program lim 0 (with (record { line = l; text = s }) (recordsOf (x .page)))
     by l s ms e =
         let h : length (g .line .bytes) ≤ lim = taken lim (drop (x .call .inpos) (x .input)) g (y .line) .fine .fits in
-        with-program (record { line = l; text = s }) (typed-storable lim short h (typed-sound (g .line .bytes) (store l s ms) (r ∙ ap some e))) (omega arith) (program lim env short good)
+        with-program (record { line = l; text = s }) (stored-storable lim short (typed-sound (g .line .bytes) (store l s ms) (r ∙ ap some e)) h) (omega arith) (program lim env short good)
 
   pub continue-ways : Obeyed lim (x .call .budget) env (continueFrom lim x (x .session .paused))
   continue-ways = by (x .session .paused) (fit .paused) where

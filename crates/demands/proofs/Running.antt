@@ -21,7 +21,7 @@ use Rattle.demands.specs.Effects.{refusals, forVars, Does}
 use Rattle.demands.proofs.Effects.{exec-does, list-does}
 use Rattle.demands.proofs.Runs.{oneStep, endOf, crOf, every-run}
 use Rattle.demands.proofs.Budget.{StopsWith, goes, skipped, jumped, stopped, stopNumbers, does-stops}
-use Rattle.demands.proofs.Numbers.{widen}
+use Rattle.demands.proofs.Effects.{widen}
 use Rattle.demands.proofs.Places.{Stands, Follows, nothing as ended, text, Ready, stands-follows}
 use Rattle.demands.proofs.Fits.{Fit, FitBy, Held, Goes, toNext, toRecord, toPlace, toEnd, worldOf, does-fits, does-goes, found-lettered, Keeps, kept, went-keeps, put-keeps, exec-keeps, savedIn, placeIn, entryIn}
 

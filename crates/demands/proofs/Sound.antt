@@ -25,7 +25,7 @@ use Rattle.page.proofs.Program.{Program, none as no-record}
 use Rattle.page.proofs.Changes.{with-program, without-program, onto-good}
 use Rattle.demands.specs.Effects.{refusals}
 use Rattle.demands.proofs.Budget.{StopsWith, stopped, stopNumbers}
-use Rattle.demands.proofs.Numbers.{widen}
+use Rattle.demands.proofs.Effects.{widen}
 use Rattle.demands.proofs.Ways.{Typing, Takes, refused, noCR, overlong, unread, reads, every-line, Continues, refused′, continues, every-continue}
 use Rattle.demands.proofs.Places.{Stands, good-laid, laid-program}
 use Rattle.demands.proofs.Fits.{Fit, FitBy, Sized, fit-of, fit-fits, fit-sized, fit-vars, held-none, Goes, toPlace, worldOf as worldAfter}

@@ -1,1 +1,4 @@
 pub mod Effects
+pub mod Leaves
+pub mod Asks
+pub mod Listing
