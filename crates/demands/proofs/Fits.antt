@@ -1,15 +1,15 @@
 -- A session record that fits a page fits it after every statement, and a statement goes on only to where a run may stand. Assumes nothing.
 use Prim.Native.Nat.{ℕ, zero, suc, _+_, _-_, _%_, _≤_, _<_}
-use mathlib.Core.Path.{_≡_, refl, sym, ap, subst, _∙_}
-use mathlib.Core.Bool.{Bool, true, false, not, _&&_, _||_, false≢true, true≢false}
-use mathlib.Core.List.{List, [], _∷_, _++_}
-use mathlib.Core.Option.{Option, none, some}
+use mathlib.Core.Path.{_≡_, refl, _∙_}
+use mathlib.Core.Bool.{Bool, true, false, _&&_, _||_, false≢true, true≢false}
+use mathlib.Core.List.{List, [], _∷_}
+use mathlib.Core.Option.{some}
 use native.Mathlib.Omega.{arith}
 use native.Mathlib.Numerals.{add-one}
 use lib.ListN.{length, getD, set, take, length-set}
 use lib.Dec.{ltb, leb, eqb}
 use borrow.Author.Tests.{eqb-true, ltb-true, ltb-false, lt-ltb, le-leb, leb-true}
-use Rattle.nibl.specs.Bytes.{if_then_else_, isCapital, all}
+use Rattle.nibl.specs.Bytes.{if_then_else_, all}
 use Rattle.nibl.specs.Words.{Token, variable, Word, spaced, letter, letters, digits, hexDigits, quoted, pair, symbol}
 use Rattle.nibl.specs.Grammar.{Statement, aLetVar, aLetStat, aLetByte, aLetText, aLetCopy, aGoto, aGosub, aReturn, aPrint, anIf, aDo, anUntil, aFor, aNext, anInput, anInputText, aRemark, anEnd}
 use Rattle.nibl.specs.Tree.{Item, text, stored, value}
@@ -18,7 +18,7 @@ use Rattle.nibl.specs.Read.{found, member}
 use Rattle.nibl.specs.Values.{Result, is, no, printed}
 use Rattle.nibl.specs.Stack.{onTop, noPlace, noEntry, pushOf, popOf, pushFor, popFor}
 use Rattle.nibl.specs.Page.{isAmong, mark, isGood, find, placesOf, fitsPaused, fitsWith, fits}
-use Rattle.nibl.specs.Meaning.{World, Env, Next, on, skip, go, stop, Done, done, withVars, withVar, withSession, withMemory, place, bind, given, went, eval, stringAt, lineThere, put, putItem, putItems, putEnd, keepIn, gosubTo, returnBy, after, exec}
+use Rattle.nibl.specs.Meaning.{World, Env, on, skip, go, stop, Done, done, withVars, place, bind, given, went, eval, stringAt, lineThere, put, putItem, putItems, putEnd, keepIn, gosubTo, returnBy, after, exec}
 use Rattle.nibl.specs.Calls.{needsProgram}
 use Rattle.nibl.specs.declared.Place.{Place}
 use Rattle.nibl.specs.declared.PlaceStack.{PlaceStack}
@@ -30,13 +30,13 @@ use Rattle.nibl.specs.declared.Session.{Session}
 use Rattle.nibl.specs.declared.Top.{Top}
 use Rattle.nibl.specs.declared.Top.the-variants as top
 use Rattle.nibl.specs.declared.TopFor.the-variants as topf
-use Rattle.nibl.proofs.Words.{if-split, and-left, and-right, or-cases}
+use Rattle.nibl.proofs.Words.{if-split, or-cases}
 use Rattle.nibl.proofs.Rules.{W, it, ok-found}
 use Rattle.nibl.proofs.Lines.{AMember, atEnd, atColon, member-same}
-use Rattle.page.proofs.Walk.{by-cases}
 use Rattle.page.proofs.Program.{both}
 use Rattle.demands.specs.Effects.{forVars, Gives, gave, refused, gives, Does, writes, takes, refuses, passes, skips, assigns, assignsFlags, stores, goesTo, saves, returns, loops, repeats, leaves, begins, again, finishes, inputs}
-use Rattle.demands.proofs.Places.{Stands, find-stands}
+use Rattle.demands.specs.Sound.{Sized, Sound, Stands}
+use Rattle.demands.proofs.Places.{find-stands}
 
 -- A stack: what its live part holds passes, and its array has its length
 module _ {A : Type 0} (f : A → Bool) where
@@ -111,13 +111,7 @@ entryIn ps e = ltb (e .var) 26 && isAmong ps (e .place .0)
 abbrev pub Fit : List ℕ → Session → Type 0
 Fit ps s = FitBy (savedIn ps) (placeIn ps) (entryIn ps) ps s
 
--- the arrays' lengths are those of the record's type
-pub record Sized (s : Session) : Type 0 where
-  pub gosubs : length (s .gosubs .places) ≡ 8
-  pub dos : length (s .dos .places) ≡ 8
-  pub fors : length (s .fors .entries) ≡ 4
-
-pub fit-of : (ps : List ℕ) (s : Session) → Sized s → fitsWith ps s ≡ true → Fit ps s
+fit-of : (ps : List ℕ) (s : Session) → Sized s → fitsWith ps s ≡ true → Fit ps s
 fit-of ps s z h =
     let a = both (leb (s .gosubs .depth) 8) _ h in
     let b = both (leb (s .dos .depth) 8) _ (a .1) in
@@ -130,15 +124,30 @@ fit-of ps s z h =
       gosubs = record { deep = leb-true _ _ (a .0); room = z .gosubs; live = d .0 };
       dos = record { deep = leb-true _ _ (b .0); room = z .dos; live = e .0 };
       fors = record { deep = leb-true _ _ (c .0); room = z .fors; live = f .0 };
-      flags = g .0; paused = g .1 }
+      flags = g .0;
+      paused = g .1;
+    }
 
-pub fit-fits : (ps : List ℕ) (s : Session) → Fit ps s → fitsWith ps s ≡ true
+fit-fits : (ps : List ℕ) (s : Session) → Fit ps s → fitsWith ps s ≡ true
 fit-fits ps s h =
-    rw (le-leb (s .gosubs .depth) 8 (h .gosubs .deep), le-leb (s .dos .depth) 8 (h .dos .deep), le-leb (s .fors .depth) 4 (h .fors .deep),
-      h .gosubs .live, h .dos .live, h .fors .live, h .flags) (h .paused)
+    rw (
+      le-leb (s .gosubs .depth) 8 (h .gosubs .deep),
+      le-leb (s .dos .depth) 8 (h .dos .deep),
+      le-leb (s .fors .depth) 4 (h .fors .deep),
+      h .gosubs .live,
+      h .dos .live,
+      h .fors .live,
+      h .flags,
+    ) (h .paused)
 
-pub fit-sized : {ps : List ℕ} {s : Session} → Fit ps s → Sized s
-fit-sized h = record { gosubs = h .gosubs .room; dos = h .dos .room; fors = h .fors .room }
+pub sound-fit : {lim : ℕ} {page : List ℕ} {s : Session} → Sound lim page s → Fit (placesOf page) s
+unfolding fits
+sound-fit {page = page} {s = s} h = fit-of (placesOf page) s (h .sized) (h .fitting)
+
+pub fit-sound : (lim : ℕ) {page : List ℕ} {s : Session} → isGood lim page ≡ true → Fit (placesOf page) s → Sound lim page s
+unfolding fits
+fit-sound lim {page = page} {s = s} g f =
+    record { good = g; fitting = fit-fits (placesOf page) s f; sized = record { gosubs = f .gosubs .room; dos = f .dos .room; fors = f .fors .room } }
 
 -- Pushes and pops
 module _ (f : Place → Bool) (s : PlaceStack) (h : Places f s) where

@@ -1,36 +1,27 @@
 -- "When an answer has a line number, it is that of the record the last step's place lies in"; "there is none for 0, for 14, and for stops from a typed line
 -- or its immediate statement". Assumes nothing.
-use Prim.Native.Nat.{ℕ, zero, suc, _+_, _≤_}
-use mathlib.Core.Path.{_≡_, refl, sym, ap, subst, _∙_}
-use mathlib.Core.Bool.{Bool, true, false, _||_, false≢true}
+use Prim.Native.Nat.{ℕ, suc, _≤_}
+use mathlib.Core.Path.{_≡_, refl, sym, _∙_}
+use mathlib.Core.Bool.{true, false, _||_, false≢true}
 use mathlib.Core.List.{List, [], _∷_}
-use mathlib.Core.Logic.{_⊎_, inl, inr}
-use mathlib.Core.Option.{Option, none, some}
+use mathlib.Core.Logic.{inl, inr}
 use native.Mathlib.Omega.{arith}
-use lib.ListN.{length}
 use lib.Dec.{eqb}
 use borrow.Author.Tests.{eqb-true, eqb-false}
-use Rattle.nibl.specs.Bytes.{if_then_else_}
 use Rattle.nibl.specs.Page.{isAmong, isGood, placesOf, lineOf}
 use Rattle.nibl.specs.Meaning.{World, Env}
-use Rattle.nibl.specs.Calls.{Lent, Outcome, Ran, runFrom, stopAt, ended, takeLineIn, continueRunIn, envOf}
-use Rattle.nibl.specs.declared.StopLine.{StopLine}
+use Rattle.nibl.specs.Calls.{Lent, Outcome, Ran, runFrom, stopAt, stops, worldOf, firstRefusal, takeLine, continueRun, envOf, limit}
 use Rattle.nibl.specs.declared.StopLine.the-variants as stopLine
 use Rattle.page.proofs.Walk.{by-cases, or-false}
 use Rattle.nibl.proofs.Words.{or-cases}
+use Rattle.demands.specs.Sound.{Sound, Stands, Shows, noLine, aLine, Answered, byLine, byRun}
 use Rattle.demands.proofs.Ways.{Takes, refused, noCR, overlong, unread, reads, every-line, Continues, refused′, continues, every-continue}
-use Rattle.demands.proofs.Places.{Stands, LiesIn, place-lies}
-use Rattle.demands.proofs.Fits.{Fit}
+use Rattle.demands.proofs.Numbers.{first-numbers}
+use Rattle.demands.proofs.Places.{place-lies}
+use Rattle.demands.proofs.Fits.{sound-fit, fit-sound}
 use Rattle.demands.proofs.Running.{Goings, runsOut, pauses, steps, run-goes}
 use Rattle.demands.proofs.Running.{stops as halts}
 use Rattle.demands.proofs.Obeys.{Obeyed, stands, edits, runs, read-ways, continue-ways}
-use Rattle.demands.proofs.Sound.{Sound, sound-fit, first-refusals}
-
--- the line that the answer of a run shows; `at` is the place of the last step, where a statement gave the stop
-pub data Shows (page : List ℕ) (r : Ran) : StopLine → Type 0 where
-  noLine : (r .stop ≡ 0) ⊎ (r .stop ≡ 14) → Shows page r stopLine.NoLine
-  aLine : (r .stop ≡ 0 → ⊥) → (r .stop ≡ 14 → ⊥) → isAmong (placesOf page) (r .at) ≡ true → LiesIn page (r .at) (lineOf page (r .at))
-      → Shows page r (stopLine.At (record { 0 = lineOf page (r .at) }))
 
 -- the last of the lines that were stepped through, if there is one
 data LastIs (l : ℕ) : List ℕ → Type 0 where
@@ -66,41 +57,41 @@ module _ (lim : ℕ) (e : Env) (short : lim ≤ 251) (good : isGood lim (e .page
   goings-show r g =
       by-cases (eqb (r .stop) 0 || eqb (r .stop) 14)
       (λ h. rw (silent (r .stop) (r .lines) h)
-        (noLine (or-cases (eqb (r .stop) 0) (eqb (r .stop) 14) h (λ i. inl (eqb-true (r .stop) 0 i)) (λ i. inr (eqb-true (r .stop) 14 i)))))
+      (noLine (or-cases (eqb (r .stop) 0) (eqb (r .stop) 14) h (λ i. inl (eqb-true (r .stop) 0 i)) (λ i. inr (eqb-true (r .stop) 14 i)))))
       (λ h.
-        let n = or-false (eqb (r .stop) 0) (eqb (r .stop) 14) h in
-        let s = goings-stopped g h in
-        rw (spoken (r .stop) h (s .last))
-        (aLine (eqb-false (r .stop) 0 (n .0)) (eqb-false (r .stop) 14 (n .1)) (s .place) (place-lies lim (e .page) short good (r .at) (s .place))))
+      let n = or-false (eqb (r .stop) 0) (eqb (r .stop) 14) h in
+      let s = goings-stopped g h in
+      rw (spoken (r .stop) h (s .last))
+      (aLine (eqb-false (r .stop) 0 (n .0)) (eqb-false (r .stop) 14 (n .1)) (s .place) (place-lies lim (e .page) short good (r .at) (s .place))))
 
-  pub run-shows : (k q : ℕ) (w : World) → Stands (e .page) q → Fit (placesOf (e .page)) (w .session)
-      → Shows (e .page) (runFrom k e q w) (stopAt (runFrom k e q w .stop) (runFrom k e q w .lines))
-  run-shows k q w s f = goings-show (runFrom k e q w) (run-goes lim e short good k q w s f)
+-- "when an answer has a line number, it is that of the record the last step's place lies in"
+pub run-shows : (lim : ℕ) (e : Env) → lim ≤ 251 → (k q : ℕ) (w : World) → Sound lim (e .page) (w .session) → Stands (e .page) q
+    → Shows (e .page) (runFrom k e q w) (stopAt (runFrom k e q w .stop) (runFrom k e q w .lines))
+run-shows lim e short k q w h s = goings-show lim e short (h .good) (runFrom k e q w) (run-goes lim e short (h .good) k q w s (sound-fit h))
 
--- Of the calls: how every call on a good page with a fitting record answers
-pub data Answered (lim : ℕ) (x : Lent) (o : Outcome) : Type 0 where
-  -- a stop that no program statement gave: it has no line, no step was counted, and it is no pause
-  byLine : o .answer .line ≡ stopLine.NoLine → o .answer .steps ≡ 0 → (o .answer .stop ≡ 14 → ⊥) → Answered lim x o
-  -- that of a run
-  byRun : (q : ℕ) (w : World) → Stands (x .page) q → Fit (placesOf (x .page)) (w .session) → o ≡ ended (runFrom (x .call .budget) (envOf lim x) q w) (x .page)
-      → Shows (x .page) (runFrom (x .call .budget) (envOf lim x) q w) (o .answer .line) → Answered lim x o
-
+-- Of the calls
 module _ (lim : ℕ) (short : lim ≤ 251) (x : Lent) (sound : Sound lim (x .page) (x .session)) where
-  obeyed-answer : {o : Outcome} → Obeyed lim (x .call .budget) (envOf lim x) o → Answered lim x o
+  obeyed-answer : {o : ℕ → Outcome} → Obeyed lim (envOf lim x) o → Answered lim x (o (x .call .budget))
   obeyed-answer (stands h f) = byLine refl refl (λ e. false≢true (rw e at h))
-  obeyed-answer (edits p l n f) = byLine refl refl (λ e. omega arith)
-  obeyed-answer (runs q w s f) = byRun q w s f refl (run-shows lim (envOf lim x) short (sound .good) (x .call .budget) q w s f)
+  obeyed-answer (edits p n f) = byLine refl refl (λ e. omega arith)
+  obeyed-answer (runs q w s f) =
+      let h = fit-sound lim (sound .good) f in
+      byRun q w s h refl (run-shows lim (envOf lim x) short (x .call .budget) q w h s)
+
+  first-answer : (n : ℕ) → firstRefusal lim x ≡ suc n → Answered lim x (stops (suc n) (worldOf x) (x .page))
+  first-answer n e = byLine refl refl (λ h. false≢true (rw h at (first-numbers lim x (suc n) e)))
 
   take-answer : {o : Outcome} → Takes lim x o → Answered lim x o
-  take-answer (refused e) = byLine refl refl (λ h. false≢true (rw (e ∙ h) at (first-refusals lim x)))
+  take-answer (refused {n = n} e) = first-answer n e
   take-answer (noCR z e) = byLine refl refl (λ h. omega arith)
   take-answer (overlong g z e l) = byLine refl refl (λ h. omega arith)
   take-answer (unread g y e) = byLine refl refl (λ h. omega arith)
   take-answer (reads g t y e) = obeyed-answer (read-ways lim x short (sound .good) (sound-fit sound) g t y e)
 
   continue-answer : {o : Outcome} → Continues lim x o → Answered lim x o
-  continue-answer (refused′ e) = byLine refl refl (λ h. false≢true (rw (e ∙ h) at (first-refusals lim x)))
+  continue-answer (refused′ {n = n} e) = first-answer n e
   continue-answer (continues e) = obeyed-answer (continue-ways lim x short (sound .good) (sound-fit sound))
 
-  pub the-answers-line : Answered lim x (takeLineIn lim x) × Answered lim x (continueRunIn lim x)
-  the-answers-line = (take-answer (every-line lim x), continue-answer (every-continue lim x))
+pub the-answers-line : (x : Lent) → Sound limit (x .page) (x .session) → Answered limit x (takeLine x) × Answered limit x (continueRun x)
+unfolding takeLine continueRun
+the-answers-line x h = (take-answer limit (omega arith) x h (every-line limit x), continue-answer limit (omega arith) x h (every-continue limit x))

@@ -1,20 +1,20 @@
 -- Where a run can stand on a good page, what it reads there, and in which record a place lies. Assumes nothing.
 use Prim.Native.Nat.{ℕ, zero, suc, _+_, _-_, _≤_, _<_}
-use mathlib.Core.Path.{_≡_, refl, sym, ap, subst, _∙_}
-use mathlib.Core.Bool.{Bool, true, false, not, _&&_, _||_, false≢true}
+use mathlib.Core.Path.{_≡_, refl, sym, ap, _∙_}
+use mathlib.Core.Bool.{Bool, true, false, _&&_, _||_, false≢true}
 use mathlib.Core.List.{List, [], _∷_, _++_}
 use mathlib.Core.Option.{Option, none, some}
 use native.Mathlib.Omega.{arith}
-use lib.ListN.{length, getD, take, drop, length-append, length-drop, take-append-drop}
-use lib.Seq.{drop-append-le, drop-length, drop-cons, drop-drop, length-take-le, getD-drop, getD-append-seam}
+use lib.ListN.{length, getD, take, drop, length-drop, take-append-drop}
+use lib.Seq.{drop-append-le, drop-length, drop-cons, drop-drop, length-take-le, getD-drop}
 use lib.Dec.{leb, eqb}
-use borrow.Author.Tests.{eqb-true, eq-eqb, ne-eqb, le-leb, le-ltb, lt-ltb, not-true}
-use Rattle.nibl.specs.Bytes.{if_then_else_, isText, notCR, All, none as every-none, each, front}
-use Rattle.nibl.specs.Tree.{Member, Stmt}
+use borrow.Author.Tests.{eqb-true, eq-eqb, ne-eqb, le-leb, le-ltb, lt-ltb}
+use Rattle.nibl.specs.Bytes.{if_then_else_, notCR, All, none as every-none, each, front}
+use Rattle.nibl.specs.Tree.{Member}
 use Rattle.nibl.specs.Grammar.{Members, lastMember, moreMembers}
-use Rattle.nibl.specs.Read.{Found, found, member, reading}
-use Rattle.nibl.specs.Page.{Stored, isEnd, lineAt, lengthAt, textAt, hasReading, isStorable, isRecord, goodN, isGood, recordsN, recordsOf, size, positionIn, find, lineIn, lineOf, endsFrom, endsOf, placesIn, placesOf, isAmong, fitsPaused}
-use Rattle.nibl.specs.Calls.{textFrom, lineFrom, pausedAt}
+use Rattle.nibl.specs.Read.{found, member, reading}
+use Rattle.nibl.specs.Page.{Stored, isEnd, lineAt, lengthAt, textAt, hasReading, isStorable, isRecord, goodN, isGood, recordsN, recordsOf, size, positionIn, find, lineIn, lineOf, endsFrom, endsOf, placesIn, placesOf, isAmong}
+use Rattle.nibl.specs.Calls.{textFrom, lineFrom}
 use Rattle.nibl.proofs.Words.{or-cases}
 use Rattle.nibl.proofs.Over.{word-over}
 use Rattle.nibl.proofs.Rules.{W}
@@ -26,6 +26,7 @@ use Rattle.page.specs.Walk.{stopsAt}
 use Rattle.page.proofs.Walk.{by-cases, or-right, recordAt, records-some, records-none}
 use Rattle.page.proofs.Program.{both, Storable, Program, none as no-record, each as a-record, record-known, good-step}
 use Rattle.page.proofs.Changes.{storable}
+use Rattle.demands.specs.Sound.{Stands, LiesIn}
 
 -- The records of a good page, each at its position: numbers rise from low on
 pub data Laid (lim : ℕ) (page : List ℕ) : ℕ → ℕ → List Stored → Type 0 where
@@ -159,8 +160,8 @@ ready : (page : List ℕ) (a : ℕ) (t : List ℕ) (ms : List Member) → lineFr
 ready page a t ms e r h =
     let known = reading-sound t ms r in
     members-some known (λ m rest i.
-      begins-found (reading-begins t (r ∙ ap some i)) (λ u f.
-        by u f (h _ (rw i (among-first (a + (length t - m .left)) (endsFrom a (length t) rest)))) (h _ (last-end a (length t) known))))
+    begins-found (reading-begins t (r ∙ ap some i)) (λ u f.
+    by u f (h _ (rw i (among-first (a + (length t - m .left)) (endsFrom a (length t) rest)))) (h _ (last-end a (length t) known))))
   where
     by : {m : Member} (u : List ℕ) → member t ≡ found m u → isAmong (placesOf page) (a + (length t - m .left)) ≡ true → isAmong (placesOf page) (a + length t) ≡ true → Ready page a
     by {m = m} u f g c = record { begins = m; rest = u; finds = rw e f; end = rw e g; cr = rw e c }
@@ -253,18 +254,7 @@ module _ (page : List ℕ) (at : ℕ) (t : List ℕ) (body : drop (at + 3) page 
         let colon = record-byte (n - suc k) 58 (u ++ (13 ∷ drop (at + (n + 4)) page)) (omega arith) (rw (i .colon)) in
         text (text-colon page (at + 3 + (n - suc k)) colon)
         (rw a (ready page (at + 3 + (n - k)) u rest (record-line (n - k) (omega arith)) (reading-after t (r .reads) f)
-          (rw (long, same) (λ p h. places p (followed-within (at + 3) n f p h)))))
-
--- where a run may stand: the program's start, or after a place
-abbrev pub Stands : List ℕ → ℕ → Type 0
-Stands page q = fitsPaused (placesOf page) (pausedAt q) ≡ true
-
--- A place lies in the record of its line
-pub record LiesIn (page : List ℕ) (p l : ℕ) : Type 0 where
-  pub at : ℕ
-  pub stands : find page l ≡ some at
-  pub behind : at + 3 ≤ p
-  pub inside : p < at + lengthAt (drop at page)
+        (rw (long, same) (λ p h. places p (followed-within (at + 3) n f p h)))))
 
 -- the places of these records are places of the page
 abbrev HoldsIn : List ℕ → ℕ → List Stored → Type 0
@@ -339,7 +329,13 @@ module _ (lim : ℕ) (page : List ℕ) where
       inner f g =
           let line : lineIn (p - at) (r ∷ rs) ≡ r .line = rw (lt-ltb (p - at) (size r) (omega arith)) in
           record {
-            start = at; above = rw line l; found = rw (line, eq-eqb (r .line) (r .line) refl); ahead = omega arith; behind = f; inside = omega arith }
+            start = at;
+            above = rw line l;
+            found = rw (line, eq-eqb (r .line) (r .line) refl);
+            ahead = omega arith;
+            behind = f;
+            inside = omega arith;
+          }
 
       here : {ms : List Member} → EndOf (at + 3) (length (r .text)) p ms → Lies low at (r ∷ rs) p
       here (atCR f) = inner (omega arith) (omega arith)
@@ -350,8 +346,13 @@ module _ (lim : ℕ) (page : List ℕ) where
           let back : p - at - size r ≡ p - (at + size r) = omega arith in
           let line : lineIn (p - at) (r ∷ rs) ≡ lineIn (p - (at + size r)) rs = rw (le-ltb (p - at) (size r) (omega arith), back) in
           record {
-            start = d .start; above = rw line (omega arith); found = rw (line, ne-eqb (r .line) (lineIn (p - (at + size r)) rs) (λ f. omega arith)) (d .found);
-            ahead = omega arith; behind = d .behind; inside = d .inside }
+            start = d .start;
+            above = rw line (omega arith);
+            found = rw (line, ne-eqb (r .line) (lineIn (p - (at + size r)) rs) (λ f. omega arith)) (d .found);
+            ahead = omega arith;
+            behind = d .behind;
+            inside = d .inside;
+          }
 
 -- On a good page
 module _ (lim : ℕ) (page : List ℕ) (short : lim ≤ 251) (good : isGood lim page ≡ true) where

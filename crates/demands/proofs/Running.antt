@@ -1,29 +1,27 @@
 -- How a run of a good page with a fitting record goes: at every step a member is read, its end is a place, and the record still fits.
 -- Assumes nothing.
-use Prim.Native.Nat.{ℕ, zero, suc, _+_, _-_, _≤_, _<_}
-use mathlib.Core.Path.{_≡_, refl, sym, ap, _∙_}
-use mathlib.Core.Bool.{Bool, true, false, _||_}
+use Prim.Native.Nat.{ℕ, zero, suc, _≤_, _<_}
+use mathlib.Core.Path.{_≡_, refl, ap}
+use mathlib.Core.Bool.{Bool, true, false}
 use mathlib.Core.List.{List, [], _∷_}
-use mathlib.Core.Option.{Option, none, some}
+use mathlib.Core.Option.{none, some}
 use native.Mathlib.Omega.{arith}
-use lib.ListN.{length, take}
-use lib.Dec.{ltb, leb, eqb}
-use borrow.Author.Tests.{lt-ltb, eqb-true}
+use lib.ListN.{take}
+use lib.Dec.{leb}
+use borrow.Author.Tests.{lt-ltb}
 use Rattle.nibl.specs.Bytes.{all}
-use Rattle.nibl.specs.Tree.{Member, Stmt}
-use Rattle.nibl.specs.Read.{Found, nothing, found, member}
-use Rattle.nibl.specs.Page.{Stored, isAmong, mark, isGood, placesOf, lineOf, fitsPaused}
-use Rattle.nibl.specs.Meaning.{World, Env, Next, on, skip, go, stop, Done, done, put, went, exec}
-use Rattle.nibl.specs.Calls.{Ran, ran, stepped, textFrom, lineFrom, envAt, onward, runFrom, needsProgram, listed, listFrom, pausing, withPaused, pausedAt}
-use Rattle.nibl.specs.declared.Session.{Session}
+use Rattle.nibl.specs.Tree.{Stmt}
+use Rattle.nibl.specs.Page.{Stored, isAmong, mark, isGood, placesOf, lineOf}
+use Rattle.nibl.specs.Meaning.{World, Env, on, skip, go, stop, Done, done, put, went, exec}
+use Rattle.nibl.specs.Calls.{Ran, ran, stepped, textFrom, lineFrom, envAt, onward, runFrom, needsProgram, listed, listFrom}
 use Rattle.page.proofs.Walk.{or-right}
-use Rattle.demands.specs.Effects.{refusals, forVars, Does}
+use Rattle.demands.specs.Effects.{forVars, Does}
+use Rattle.demands.specs.Sound.{Stands}
 use Rattle.demands.proofs.Effects.{exec-does, list-does}
-use Rattle.demands.proofs.Runs.{oneStep, endOf, crOf, every-run}
-use Rattle.demands.proofs.Budget.{StopsWith, goes, skipped, jumped, stopped, stopNumbers, does-stops}
-use Rattle.demands.proofs.Effects.{widen}
-use Rattle.demands.proofs.Places.{Stands, Follows, nothing as ended, text, Ready, stands-follows}
-use Rattle.demands.proofs.Fits.{Fit, FitBy, Held, Goes, toNext, toRecord, toPlace, toEnd, worldOf, does-fits, does-goes, found-lettered, Keeps, kept, went-keeps, put-keeps, exec-keeps, savedIn, placeIn, entryIn}
+use Rattle.demands.proofs.Runs.{endOf, crOf, every-run}
+use Rattle.demands.proofs.Budget.{StopsWith, goes, stopped, stopNumbers, does-stops}
+use Rattle.demands.proofs.Places.{Follows, nothing as ended, text, Ready, stands-follows}
+use Rattle.demands.proofs.Fits.{Fit, Held, Goes, toPlace, worldOf, does-fits, does-goes, found-lettered, Keeps, kept, went-keeps, put-keeps, exec-keeps, savedIn, placeIn, entryIn}
 
 -- a statement left a fitting record, and goes on to where a run may stand or stops with one of its numbers
 pub record Left (page : List ℕ) (d : Done) : Type 0 where
@@ -50,20 +48,22 @@ module _ (lim : ℕ) (e : Env) (short : lim ≤ 251) (good : isGood lim (e .page
       record {
         fit = does-fits (savedIn ps) (placeIn ps) (entryIn ps) ps (envAt e p) (forVars q) (rw h) h (λ u l s i. rw (lt-ltb u 26 (v u i)) h) d f;
         goes = does-goes lim (envAt e p) (forVars q) short good d f;
-        stops = does-stops d }
+        stops = does-stops d;
+      }
 
   -- LIST and an immediate statement, which leave the stacks of DO and FOR alone
   immediate-left : (vs : List ℕ) (w : World) (d : Done) → e .here ≡ mark → Does e vs w d → Keeps w d → Fit ps (w .session) → Left (e .page) d
   immediate-left vs w d h x k f =
       let saved : savedIn ps (record { 0 = e .here }) ≡ true = rw h (or-right (isAmong ps mark) true refl) in
       let g = does-fits (savedIn ps) (λ p. true) (λ y. true) ps e vs saved refl (λ v l s i. refl) x
-        (record { gosubs = f .gosubs; dos = any-held (f .dos); fors = any-held (f .fors); flags = f .flags; paused = f .paused }) in
+      (record { gosubs = f .gosubs; dos = any-held (f .dos); fors = any-held (f .fors); flags = f .flags; paused = f .paused }) in
       let dos = ap (λ x. x .0) (k .same) in
       let fors = ap (λ x. x .1) (k .same) in
       record {
         fit = record { gosubs = g .gosubs; dos = rw dos (f .dos); fors = rw fors (f .fors); flags = g .flags; paused = g .paused };
         goes = does-goes lim e vs short good x f;
-        stops = does-stops x }
+        stops = does-stops x;
+      }
 
   pub statement-left : (q : Stmt) (w : World) → e .here ≡ mark → needsProgram q ≡ false → Fit ps (w .session) → Left (e .page) (exec e q w)
   statement-left q w h n f = immediate-left (forVars q) w (exec e q w) h (exec-does e q w) (exec-keeps e q w n) f
@@ -115,14 +115,14 @@ module _ (lim : ℕ) (e : Env) (short : lim ≤ 251) (good : isGood lim (e .page
       (λ k q w h s f. runsOut h f)
       (λ q w a h s f. pauses h (follows-ready (stands-follows lim (e .page) short good q s) h) s f)
       (λ k q w a h g s f.
-        let r = follows-ready (stands-follows lim (e .page) short good q s) h in
-        let i = r .finds in
-        let z : _≡_ {A = ℕ} 0 1 = cc in
-        absurd (omega arith))
+      let r = follows-ready (stands-follows lim (e .page) short good q s) h in
+      let i = r .finds in
+      let z : _≡_ {A = ℕ} 0 1 = cc in
+      absurd (omega arith))
       (λ k q w a m t h g i s f.
-        let r = follows-ready (stands-follows lim (e .page) short good q s) h in
-        let j = r .finds in
-        let same : r .begins ≡ m = cc in
-        let end : isAmong (placesOf (e .page)) (endOf e a m) ≡ true = rw same at (r .end) in
-        step-goes k (endOf e a m) (crOf e a) _ (runFrom k e) end (r .cr)
-        (program-left lim e short good (m .statement) w (endOf e a m) end (found-lettered (lineFrom (e .page) a) t m g) f) i) k q w
+      let r = follows-ready (stands-follows lim (e .page) short good q s) h in
+      let j = r .finds in
+      let same : r .begins ≡ m = cc in
+      let end : isAmong (placesOf (e .page)) (endOf e a m) ≡ true = rw same at (r .end) in
+      step-goes k (endOf e a m) (crOf e a) _ (runFrom k e) end (r .cr)
+      (program-left lim e short good (m .statement) w (endOf e a m) end (found-lettered (lineFrom (e .page) a) t m g) f) i) k q w

@@ -2,3 +2,4 @@ pub mod Effects
 pub mod Leaves
 pub mod Asks
 pub mod Listing
+pub mod Sound
