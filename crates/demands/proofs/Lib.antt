@@ -3,6 +3,14 @@ pub mod Runs
 pub mod Budget
 pub mod Ways
 pub mod Numbers
+pub mod Places
+pub mod Fits
+pub mod Running
+pub mod Obeys
+pub mod Sound
+pub mod Five
+pub mod Line
+pub mod Paused
 pub mod Storing
 pub mod Retyping
 pub mod Refusing

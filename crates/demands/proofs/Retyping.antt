@@ -203,7 +203,7 @@ module _ (x : Lent) (bytes : Bytes (x .page)) (g : Gathered) (h : Typing limit x
     pub retyping-replaces : usedBy (others n (recordsOf (x .page))) + (length t + 4) ≤ length (x .page)
         → Edits x (g .taken) (takeLine x) × Replaces x n t (takeLine x)
     retyping-replaces room =
-        let p = with-program q (stored-storable r line-short) (omega arith) program in
+        let p = with-program q (stored-storable limit (omega arith) r line-short) (omega arith) program in
         let w = with-is q program in
         let f : usedBy (with q (recordsOf (x .page))) ≤ length (x .page) = omega (arith, w .room) in
         rw stores (

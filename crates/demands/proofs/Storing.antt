@@ -16,7 +16,6 @@ use Rattle.nibl.specs.Read.{reading}
 use Rattle.nibl.specs.Readings.{LineReading}
 use Rattle.nibl.specs.Values.{digitsN, digits}
 use Rattle.nibl.specs.Page.{Stored, hasReading, isStorable}
-use Rattle.nibl.specs.Calls.{limit}
 use Rattle.nibl.proofs.Ends.{members-first}
 use Rattle.nibl.proofs.Whole.{reading-complete}
 use Rattle.page.proofs.Walk.{by-cases}
@@ -79,9 +78,10 @@ pub number-word : {table : List (List ℕ)} {n : ℕ} {s t : List ℕ} → Word 
 number-word (spaced w) = let h = number-word w in record { low = h .low; room = omega arith }
 number-word (words.digits {ds = ds} {s = s} r l) = record { low = l; room = omega (arith, digits-shortest r, length-append ds s) }
 
-pub stored-storable : {s t : List ℕ} {n : ℕ} {ms : List Member} → LineReading s (store n t ms) → length s ≤ limit → Storable limit (record { line = n; text = t })
+-- within a limit that a record's length byte has room for
+pub stored-storable : {s t : List ℕ} {n : ℕ} {ms : List Member} (lim : ℕ) → lim ≤ 251 → LineReading s (store n t ms) → length s ≤ lim → Storable lim (record { line = n; text = t })
 unfolding isStorable
-stored-storable {t = t} {n = n} (aStore w ms) h =
+stored-storable {t = t} {n = n} lim r (aStore w ms) h =
     let k = number-word w in
-    let l : length t + length (digits n) ≤ limit = omega arith in
-    storable limit n t (omega arith) (k .low) (rw (reading-complete ms, members-first ms, le-leb (length t + length (digits n)) limit l))
+    let l : length t + length (digits n) ≤ lim = omega arith in
+    storable lim n t r (k .low) (rw (reading-complete ms, members-first ms, le-leb (length t + length (digits n)) lim l))

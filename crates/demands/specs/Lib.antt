@@ -2,3 +2,4 @@ pub mod Effects
 pub mod Asks
 pub mod Leaves
 pub mod Listing
+pub mod Sound
