@@ -38,6 +38,14 @@ use Rattle.demands.specs.Effects.{forVars, Gives, gave, refused, gives, 
 use Rattle.demands.specs.Sound.{Sized, Sound, Stands}
 use Rattle.demands.proofs.Places.{find-stands}
 
+-- what is on top is there
+on-top : {B : Type 0} (n d : ℕ) (e s x : B) → onTop n d e s ≡ x → (e ≡ x → ⊥) → (1 ≤ d) × (s ≡ x)
+on-top n d e s x h k = by (ltb d 1) refl (ltb n d) h where
+  by : (b : Bool) → ltb d 1 ≡ b → (c : Bool) → (if b then e else if c then e else s) ≡ x → (1 ≤ d) × (s ≡ x)
+  by true i c h = absurd (k h)
+  by false i true h = absurd (k h)
+  by false i false h = (ltb-false d 1 i, h)
+
 -- A stack: what its live part holds passes, and its array has its length
 module _ {A : Type 0} (f : A → Bool) where
   all-push : (l : List A) (d : ℕ) (x : A) → all f (take d l) ≡ true → f x ≡ true → all f (take (suc d) (set l d x)) ≡ true
@@ -74,16 +82,12 @@ module _ {A : Type 0} (f : A → Bool) where
     held-top : (x : A) → 1 ≤ d → f (getD l (d - 1) x) ≡ true
     held-top x g = all-at l d (d - 1) x (omega arith) (omega arith) (h .live)
 
+    -- what a look at the top shows, as c says it
+    held-shown : {B : Type 0} (x y : A) (e : B) (c : A → B) → onTop n d e (c (getD l (d - 1) y)) ≡ c x → (e ≡ c x → ⊥) → ((a : A) → c a ≡ c x → a ≡ x) → f x ≡ true
+    held-shown x y e c g k i = let t = on-top n d e (c (getD l (d - 1) y)) (c x) g k in rw (← i (getD l (d - 1) y) (t .1)) (held-top y (t .0))
+
   pub held-none : {n : ℕ} {l : List A} → length l ≡ n → Held n 0 l
   held-none e = record { deep = omega arith; room = e; live = refl }
-
--- what is on top is there
-on-top : {B : Type 0} (n d : ℕ) (e s x : B) → onTop n d e s ≡ x → (e ≡ x → ⊥) → (1 ≤ d) × (s ≡ x)
-on-top n d e s x h k = by (ltb d 1) refl (ltb n d) h where
-  by : (b : Bool) → ltb d 1 ≡ b → (c : Bool) → (if b then e else if c then e else s) ≡ x → (1 ≤ d) × (s ≡ x)
-  by true i c h = absurd (k h)
-  by false i true h = absurd (k h)
-  by false i false h = (ltb-false d 1 i, h)
 
 -- A session record that fits: by what the three stacks may hold
 abbrev pub Places : (Place → Bool) → PlaceStack → Type 0
@@ -158,11 +162,7 @@ module _ (f : Place → Bool) (s : PlaceStack) (h : Places f s) where
   pop-places = held-pop f h
 
   top-place : (p : Place) → popOf s .top ≡ top.At p → f p ≡ true
-  top-place p e =
-      let t = on-top 8 (s .depth) top.Empty (top.At (getD (s .places) (s .depth - 1) noPlace)) (top.At p) e (λ i. let z : _≡_ {A = ℕ} 0 1 = cc in omega arith) in
-      let j = t .1 in
-      let q : getD (s .places) (s .depth - 1) noPlace ≡ p = cc in
-      rw (← q) (held-top f h noPlace (t .0))
+  top-place p e = held-shown f h p noPlace top.Empty top.At e (λ i. let z : _≡_ {A = ℕ} 0 1 = cc in omega arith) (λ q i. cc)
 
 module _ (f : ForEntry → Bool) (s : ForStack) (h : Entries f s) where
   push-entries : (x : ForEntry) → f x ≡ true → Entries f (pushFor s x .stack)
@@ -172,11 +172,7 @@ module _ (f : ForEntry → Bool) (s : ForStack) (h : Entries f s) where
   pop-entries = held-pop f h
 
   top-entry : (x : ForEntry) → popFor s .top ≡ topf.Entry x → f x ≡ true
-  top-entry x e =
-      let t = on-top 4 (s .depth) topf.Empty (topf.Entry (getD (s .entries) (s .depth - 1) noEntry)) (topf.Entry x) e (λ i. let z : _≡_ {A = ℕ} 0 1 = cc in omega arith) in
-      let j = t .1 in
-      let q : getD (s .entries) (s .depth - 1) noEntry ≡ x = cc in
-      rw (← q) (held-top f h noEntry (t .0))
+  top-entry x e = held-shown f h x noEntry topf.Empty topf.Entry e (λ i. let z : _≡_ {A = ℕ} 0 1 = cc in omega arith) (λ y i. cc)
 
 -- What a statement leaves
 abbrev pub worldOf : Done → World

@@ -46,6 +46,7 @@ pub record LastStep (e : Env) (q : ℕ) (w : World) (r : Ran) : Type 0 where
   pub rest : List ℕ
   pub stands : member (lineFrom (e .page) start) ≡ found last rest
   pub stops : exec (envAt e (endOf e start last)) (last .statement) (runFrom before e q w .world) ≡ done (stop (r .stop)) (r .world)
+  pub place : r .at ≡ endOf e start last
 
 module _ (e : Env) (q : ℕ) (w : World) (a : ℕ) (m : Member) (s : List ℕ) (h : textFrom (e .page) q ≡ some a) (g : member (lineFrom (e .page) a) ≡ found m s) where
   abbrev d : Done
@@ -71,6 +72,7 @@ module _ (e : Env) (q : ℕ) (w : World) (a : ℕ) (m : Member) (s : List ℕ) (
         rest = s;
         stands = g;
         stops = rw (run-zero e q w a h) f;
+        place = refl;
       })
 
   -- or later
@@ -90,6 +92,7 @@ module _ (e : Env) (q : ℕ) (w : World) (a : ℕ) (m : Member) (s : List ℕ) (
         rest = t .rest;
         stands = t .stands;
         stops = rw more (t .stops);
+        place = t .place;
       })
 
   goes-on : (k : ℕ) → ((q : ℕ) (w : World) → (OneOf unsaid (runFrom k e q w .stop) → ⊥) → LastStep e q w (runFrom k e q w)) → (c : Done) → d ≡ c → (q' : ℕ) (u : World)

@@ -11,12 +11,17 @@ use borrow.Author.Tests.{eqb-true, eqb-false}
 use Rattle.nibl.specs.Page.{isAmong, isGood, placesOf, lineOf}
 use Rattle.nibl.specs.Meaning.{World, Env}
 use Rattle.nibl.specs.Calls.{Lent, Outcome, Ran, runFrom, stopAt, stops, worldOf, firstRefusal, takeLine, continueRun, envOf, limit}
+use Rattle.nibl.specs.declared.StopLine.{StopLine}
 use Rattle.nibl.specs.declared.StopLine.the-variants as stopLine
 use Rattle.page.proofs.Walk.{by-cases, or-false}
 use Rattle.nibl.proofs.Words.{or-cases}
-use Rattle.demands.specs.Sound.{Sound, Stands, Shows, noLine, aLine, Answered, byLine, byRun}
+use Rattle.demands.specs.Sound.{Sound, Stands, LiesIn, Shows, noLine, aLine, Answered, byLine, byRun}
 use Rattle.demands.proofs.Ways.{Takes, refused, noCR, overlong, unread, reads, every-line, Continues, refused′, continues, every-continue}
-use Rattle.demands.proofs.Numbers.{first-numbers}
+use Rattle.demands.proofs.Runs.{endOf}
+use Rattle.demands.proofs.Numbers.{OneOf, first-numbers}
+use Rattle.demands.proofs.Fixed.{unsaid}
+use Rattle.demands.proofs.LastStep.{LastStep, last-step}
+use Rattle.demands.proofs.Five.{no-grammar-refusal-while-running}
 use Rattle.demands.proofs.Places.{place-lies}
 use Rattle.demands.proofs.Fits.{sound-fit, fit-sound}
 use Rattle.demands.proofs.Running.{Goings, runsOut, pauses, steps, run-goes}
@@ -68,6 +73,30 @@ module _ (lim : ℕ) (e : Env) (short : lim ≤ 251) (good : isGood lim (e .page
 pub run-shows : (lim : ℕ) (e : Env) → lim ≤ 251 → (k q : ℕ) (w : World) → Sound lim (e .page) (w .session) → Stands (e .page) q
     → Shows (e .page) (runFrom k e q w) (stopAt (runFrom k e q w .stop) (runFrom k e q w .lines))
 run-shows lim e short k q w h s = goings-show lim e short (h .good) (runFrom k e q w) (run-goes lim e short (h .good) k q w s (sound-fit h))
+
+-- and the last step is the one that gave the stop
+pub record StepsLine (e : Env) (q : ℕ) (w : World) (r : Ran) : Type 0 where
+  pub step : LastStep e q w r
+  pub line : stopAt (r .stop) (r .lines) ≡ stopLine.At (record { 0 = lineOf (e .page) (endOf e (step .start) (step .last)) })
+  pub lies : LiesIn (e .page) (endOf e (step .start) (step .last)) (lineOf (e .page) (endOf e (step .start) (step .last)))
+
+pub the-last-steps-line : (lim : ℕ) (e : Env) → lim ≤ 251 → (k q : ℕ) (w : World) → Sound lim (e .page) (w .session) → Stands (e .page) q
+    → (runFrom k e q w .stop ≡ 0 → ⊥) → (runFrom k e q w .stop ≡ 14 → ⊥) → StepsLine e q w (runFrom k e q w)
+the-last-steps-line lim e short k q w h s m n = by (run-shows lim e short k q w h s) refl where
+  r : Ran
+  r = runFrom k e q w
+
+  stopped : OneOf unsaid (r .stop) → ⊥
+  stopped i =
+      or-cases (eqb (r .stop) 0) _ i (λ j. m (eqb-true _ 0 j)) (λ i. or-cases (eqb (r .stop) 5) _ i
+      (λ j. no-grammar-refusal-while-running lim e short k q w h s (eqb-true _ 5 j)) (λ i. or-cases (eqb (r .stop) 14) false i (λ j. n (eqb-true _ 14 j)) (λ j. false≢true j)))
+
+  by : {l : StopLine} → Shows (e .page) r l → stopAt (r .stop) (r .lines) ≡ l → StepsLine e q w r
+  by (noLine (inl i)) f = absurd (m i)
+  by (noLine (inr i)) f = absurd (n i)
+  by (aLine i j p d) f =
+      let t = last-step k e q w stopped in
+      record { step = t; line = rw (← t .place) f; lies = rw (← t .place) d }
 
 -- Of the calls
 module _ (lim : ℕ) (short : lim ≤ 251) (x : Lent) (sound : Sound lim (x .page) (x .session)) where
