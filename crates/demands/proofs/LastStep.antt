@@ -35,6 +35,7 @@ use Rattle.demands.proofs.Budget.{steps-within}
 use Rattle.demands.proofs.Refusing.{needs-asks}
 use Rattle.demands.proofs.Numbers.{OneOf}
 use Rattle.demands.proofs.Fixed.{unsaid, run-named}
+use Rattle.demands.proofs.Five.{continuing-never-answers-5, exactly-5, five-takes-only-the-line}
 
 -- r is the run from q on that pauses one step before its end, and then one member, which stops
 pub record LastStep (e : Env) (q : ℕ) (w : World) (r : Ran) : Type 0 where
@@ -301,11 +302,6 @@ module _ (x : Lent) where
   take-less e (unread g h r) l n m = absurd (no-line-at refl n)
   take-less e (reads g y h r) l n m = rw e (by-kind g y h r (kind env (begun x (g .taken)) y) l (rw e at n) (λ z. m (rw e z)))
 
-  -- a program statement that refused in a call: by the same call with one step less, which pauses before it
-  pub refused-in-take-line : (l : LineNumber) → takeLine x .answer .line ≡ stopLine.At l → (takeLine x .answer .stop ≡ 5 → ⊥) → OneLess env (takeLine (budgeted (takeLine x .answer .steps - 1) x)) (takeLine x)
-  unfolding takeLine
-  refused-in-take-line = take-less refl (every-line limit x)
-
   continue-again : (p : Paused) → x .session .paused ≡ p → firstRefusal limit x ≡ 0 → (b : ℕ) → b ≤ x .call .budget → continueRun (budgeted b x) ≡ continueFrom limit (budgeted b x) p
   unfolding continueRun continueRunIn
   continue-again p e h b l = rw (less-sound x b l h, continueRunIn) (rw e)
@@ -320,9 +316,17 @@ module _ (x : Lent) where
     by Start f n m = less-by-one env (x .call .budget) 0 (begun x 0) (λ b. continueRun (budgeted b x)) (λ b i. continue-again Start f h b i) l n m
     by (At p) f n m = less-by-one env (x .call .budget) (suc (p .0)) (begun x 0) (λ b. continueRun (budgeted b x)) (λ b i. continue-again (At p) f h b i) l n m
 
-  pub refused-in-continue : (l : LineNumber) → continueRun x .answer .line ≡ stopLine.At l → (continueRun x .answer .stop ≡ 5 → ⊥) → OneLess env (continueRun (budgeted (continueRun x .answer .steps - 1) x)) (continueRun x)
-  unfolding continueRun
-  refused-in-continue = continue-less refl (every-continue limit x)
+  -- A program statement that refused in a call: by the same call with one step less, which pauses before it
+  module _ (sized : Sized (x .session)) (l : LineNumber) where
+    pub refused-in-take-line : takeLine x .answer .line ≡ stopLine.At l → OneLess (envOf limit x) (takeLine (budgeted (takeLine x .answer .steps - 1) x)) (takeLine x)
+    unfolding takeLine
+    refused-in-take-line n =
+        take-less refl (every-line limit x) l n
+        (λ m. no-line-at (ap (λ o. o .answer .line) (five-takes-only-the-line x sized m .leaves)) n)
+
+    pub refused-in-continue : continueRun x .answer .line ≡ stopLine.At l → OneLess (envOf limit x) (continueRun (budgeted (continueRun x .answer .steps - 1) x)) (continueRun x)
+    unfolding continueRun
+    refused-in-continue n = continue-less refl (every-continue limit x) l n (continuing-never-answers-5 x sized)
 
 -- A typed line's own refusal: the record but for its pause, the page and the memory are as before; the output only grows by whole items
 pub record RefusedLine (x : Lent) (g : Gathered) (o : Outcome) : Type 0 where
@@ -333,19 +337,26 @@ pub record RefusedLine (x : Lent) (g : Gathered) (o : Outcome) : Type 0 where
   pub lines : Lines limit (x .input) (x .call .inpos + g .taken) (o .answer .inpos)
   pub steps : o .answer .steps ≡ 0
 
+of-unsaid : (n : ℕ) → OneOf unsaid n → (n ≡ 0 → ⊥) → (n ≡ 5 → ⊥) → (n ≡ 14 → ⊥) → ⊥
+of-unsaid n i a b c =
+    by-cases (eqb n 0) (λ e. a (eqb-true n 0 e)) (λ e. by-cases (eqb n 5) (λ f. b (eqb-true n 5 f)) (λ f. by-cases (eqb n 14) (λ g. c (eqb-true n 14 g))
+    (λ g. false≢true (rw (e, f, g) at i))))
+
 none-given : {vars after : List ℕ} → GivenIn [] vars after → after ≡ vars
 none-given stay = refl
 
-pub refusing-line : (x : Lent) (g : Gathered) (y : Typed) → Typing limit x g → LineReading (g .line .bytes) y → takeLine x .answer .line ≡ stopLine.NoLine
-    → (OneOf unsaid (takeLine x .answer .stop) → ⊥) → RefusedLine x g (takeLine x)
-refusing-line x g y h r n m = by (kind (envOf limit x) (begun x (g .taken)) y) where
+pub refusing-line : (x : Lent) → Sized (x .session) → (g : Gathered) (y : Typed) → Typing limit x g → LineReading (g .line .bytes) y
+    → takeLine x .answer .line ≡ stopLine.NoLine → (takeLine x .answer .stop ≡ 0 → ⊥) → (takeLine x .answer .stop ≡ 14 → ⊥) → RefusedLine x g (takeLine x)
+refusing-line x sized g y h r n ended′ paused = by (kind (envOf limit x) (begun x (g .taken)) y) where
   o : takeLine x ≡ obey (x .call .budget) (envOf limit x) (begun x (g .taken)) y
   o = line-read x g y h (typed-complete r)
+  m : OneOf unsaid (takeLine x .answer .stop) → ⊥
+  m i = of-unsaid (takeLine x .answer .stop) i ended′ (λ e. exactly-5 x g sized (h .sound) (h .line) (h .short) .0 e y r) paused
   by : Kind (envOf limit x) (begun x (g .taken)) y → RefusedLine x g (takeLine x)
   by (runs q u f) =
       let i = o ∙ f (x .call .budget) in
       absurd (m (rw i (run-named (x .call .budget) (envOf limit x) q u (rw i at n))))
-  by (settles f j) = absurd (m (rw (o, f (x .call .budget)) refl))
+  by (settles f j) = absurd (ended′ (rw (o, f (x .call .budget)) refl))
   by (refuses k u f j) =
       let s = j .rest in
       rw (o, f (x .call .budget))

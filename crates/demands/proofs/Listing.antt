@@ -35,13 +35,13 @@ use Rattle.letter.proofs.Classes.{isPlain}
 use Rattle.letter.proofs.Typed as letters
 use Rattle.value.proofs.Digits.{value-digits, digits-are, digits-some}
 use Rattle.value.proofs.Writing.{sets-append}
-use Rattle.page.proofs.Program.{both, Bytes, Storable, Program, none, each, program-length, good-program, good-bytes, good-fits}
+use Rattle.page.proofs.Program.{both, Bytes, Storable, Program, none, each, program-length, good-bytes}
 use Rattle.page.proofs.Changes.{lower, onto-good, onto-records}
 use Rattle.demands.specs.Leaves.{unpaused, stackless}
 use Rattle.demands.specs.Listing.{listing, listingRoom, written, lentNext, afterLines, answers, Stops0, lastLF}
 use Rattle.demands.specs.Listing as listings
 use Rattle.demands.proofs.Ways.{Typing}
-use Rattle.demands.proofs.Retyping.{Accepted, accepted-of, accepted-is, line-read, edited-fits, onto-length, onto-after, onto-used}
+use Rattle.demands.proofs.Retyping.{Accepted, accepted-of, accepted-is, program, program-room, line-read, edited-fits, onto-length, onto-after, onto-used}
 
 -- What LIST writes
 listed-length : (r : Stored) → length (listed r) ≡ length (digits (r .line)) + length (r .text) + 2
@@ -367,16 +367,9 @@ module _ (x : Lent) (bytes′ : Bytes (x .page)) (g : Gathered) (h : Typing limi
   abbrev lines : ℕ
   lines = length (recordsOf (x .page))
 
-  program : Program limit 0 (recordsOf (x .page))
-  program = good-program limit (x .page) bytes′ (accepted-of x (h .sound) .good)
-
-  top-inside : usedBy (recordsOf (x .page)) ≤ length (x .page)
-  unfolding used
-  top-inside = good-fits limit (x .page) bytes′ (accepted-of x (h .sound) .good)
-
   typed-back : Typed y (recordsOf (x .page)) (lastLF (recordsOf (x .page))) lines y
   typed-back =
-      all-typed y (recordsOf (x .page)) program (omega (arith, long, top-inside)) y
+      all-typed y (recordsOf (x .page)) (program x g h) (omega (arith, long, program-room x g h)) y
       (record {
         sound = accepted-of y sound;
         page = rw empty;
@@ -402,7 +395,7 @@ module _ (x : Lent) (bytes′ : Bytes (x .page)) (g : Gathered) (h : Typing limi
   back =
       let t = typed-back .after in
       record {
-        top = rw (t .page) (onto-used (y .page) program);
+        top = rw (t .page) (onto-used (y .page) (program x g h));
         same = rw (t .page) same-program;
         after = rw (t .page) (onto-after (y .page) (recordsOf (x .page)));
         memory = t .memory;

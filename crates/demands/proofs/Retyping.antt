@@ -199,7 +199,7 @@ module _ (x : Lent) (g : Gathered) (h : Typing limit x g) where
   pub program : Program limit 0 (recordsOf (x .page))
   program = laid-program on-page
 
-  program-room : usedBy (recordsOf (x .page)) ≤ length (x .page)
+  pub program-room : usedBy (recordsOf (x .page)) ≤ length (x .page)
   program-room = omega (arith, laid-room on-page)
 
   pub line-short : length (g .line .bytes) ≤ limit
