@@ -25,15 +25,17 @@ use Rattle.nibl.specs.declared.LineNumber.{LineNumber}
 use Rattle.nibl.specs.declared.Paused.{Paused}
 use Rattle.nibl.specs.declared.Paused.the-variants.{Nowhere, Start, At}
 use Rattle.demands.specs.Asks.{inputVars, GivenIn, stay}
-use Rattle.demands.specs.Leaves.{unpaused, Items, noItem, Lines, noLine, Refused, withBudget}
+use Rattle.demands.specs.Leaves.{unpaused, Items, noItem, Lines, noLine, Refused}
+use Rattle.demands.specs.Sound.{Sized, budgeted}
 use Rattle.demands.proofs.Held.{refusing-statement, refusing-list}
 use Rattle.demands.proofs.Runs.{run-zero, run-suc, oneStep, endOf, crOf, every-run}
-use Rattle.demands.proofs.Retyping.{Sound, sound-of, sound-is, edited-fits, edited-full, line-read}
+use Rattle.demands.proofs.Retyping.{Accepted, accepted-of, accepted-is, edited-fits, edited-full, line-read}
 use Rattle.demands.proofs.Ways.{Typing, Takes, refused, noCR, overlong, unread, reads, every-line, Continues, refused′, continues, every-continue}
 use Rattle.demands.proofs.Budget.{steps-within}
 use Rattle.demands.proofs.Refusing.{needs-asks}
 use Rattle.demands.proofs.Numbers.{OneOf}
 use Rattle.demands.proofs.Fixed.{unsaid, run-named}
+use Rattle.demands.proofs.Five.{continuing-never-answers-5, exactly-5, five-takes-only-the-line}
 
 -- r is the run from q on that pauses one step before its end, and then one member, which stops
 pub record LastStep (e : Env) (q : ℕ) (w : World) (r : Ran) : Type 0 where
@@ -260,11 +262,11 @@ module _ (e : Env) (k q : ℕ) (u : World) (call : ℕ → Outcome) (same : (b :
         rw (b, same (t .before) (omega (arith, t .count, steps-within k e q u))) (run-less k e q u n t)
 
 -- a sound call is sound with a smaller budget
-less-sound : (x : Lent) (k : ℕ) → k ≤ x .call .budget → firstRefusal limit x ≡ 0 → firstRefusal limit (withBudget x k) ≡ 0
-less-sound x k l h = sound-is (record { inRange = by (s .inRange); good = s .good; fit = s .fit }) where
-  s : Sound x
-  s = sound-of x h
-  by : inRange x ≡ true → inRange (withBudget x k) ≡ true
+less-sound : (x : Lent) (k : ℕ) → k ≤ x .call .budget → firstRefusal limit x ≡ 0 → firstRefusal limit (budgeted k x) ≡ 0
+less-sound x k l h = accepted-is (record { inRange = by (s .inRange); good = s .good; fit = s .fit }) where
+  s : Accepted x
+  s = accepted-of x h
+  by : inRange x ≡ true → inRange (budgeted k x) ≡ true
   by h =
       let a = both (leb 2 (length (x .page))) _ h in
       let b = both (leb (length (x .page)) 4096) _ (a .1) in
@@ -283,16 +285,16 @@ module _ (x : Lent) where
   env = envOf limit x
 
   abbrev Less : (Lent → Outcome) → Outcome → Type 0
-  Less call o = OneLess env (call (withBudget x (o .answer .steps - 1))) o
+  Less call o = OneLess env (call (budgeted (o .answer .steps - 1) x)) o
 
   -- the call on the same line with another budget
   read-again : (g : Gathered) (y : Typed) → Typing limit x g → typed (g .line .bytes) ≡ some y → (b : ℕ) → b ≤ x .call .budget
-      → takeLine (withBudget x b) ≡ obey b env (begun x (g .taken)) y
-  read-again g y h r b l = line-read (withBudget x b) g y (record { sound = less-sound x b l (h .sound); line = h .line; short = h .short }) r
+      → takeLine (budgeted b x) ≡ obey b env (begun x (g .taken)) y
+  read-again g y h r b l = line-read (budgeted b x) g y (record { sound = less-sound x b l (h .sound); line = h .line; short = h .short }) r
 
   by-kind : (g : Gathered) (y : Typed) → Typing limit x g → typed (g .line .bytes) ≡ some y → Kind env (begun x (g .taken)) y
       → (l : LineNumber) → takeLine x .answer .line ≡ stopLine.At l → (takeLine x .answer .stop ≡ 5 → ⊥) → Less takeLine (takeLine x)
-  by-kind g y h r (runs q u f) l n m = less-by-one env (x .call .budget) q u (λ b. takeLine (withBudget x b)) (λ b i. read-again g y h r b i ∙ f b) l n m
+  by-kind g y h r (runs q u f) l n m = less-by-one env (x .call .budget) q u (λ b. takeLine (budgeted b x)) (λ b i. read-again g y h r b i ∙ f b) l n m
   by-kind g y h r (settles f j) l n m = absurd (no-line-at (ap (λ o. o .answer .line) (line-read x g y h r) ∙ j (x .call .budget)) n)
   by-kind g y h r (refuses i u f j) l n m = absurd (no-line-at (ap (λ o. o .answer .line) (line-read x g y h r ∙ f (x .call .budget))) n)
 
@@ -303,12 +305,7 @@ module _ (x : Lent) where
   take-less e (unread g h r) l n m = absurd (no-line-at refl n)
   take-less e (reads g y h r) l n m = rw e (by-kind g y h r (kind env (begun x (g .taken)) y) l (rw e at n) (λ z. m (rw e z)))
 
-  -- a program statement that refused in a call: by the same call with one step less, which pauses before it
-  pub refused-in-take-line : (l : LineNumber) → takeLine x .answer .line ≡ stopLine.At l → (takeLine x .answer .stop ≡ 5 → ⊥) → OneLess env (takeLine (withBudget x (takeLine x .answer .steps - 1))) (takeLine x)
-  unfolding takeLine
-  refused-in-take-line = take-less refl (every-line limit x)
-
-  continue-again : (p : Paused) → x .session .paused ≡ p → firstRefusal limit x ≡ 0 → (b : ℕ) → b ≤ x .call .budget → continueRun (withBudget x b) ≡ continueFrom limit (withBudget x b) p
+  continue-again : (p : Paused) → x .session .paused ≡ p → firstRefusal limit x ≡ 0 → (b : ℕ) → b ≤ x .call .budget → continueRun (budgeted b x) ≡ continueFrom limit (budgeted b x) p
   unfolding continueRun continueRunIn
   continue-again p e h b l = rw (less-sound x b l h, continueRunIn) (rw e)
 
@@ -319,12 +316,20 @@ module _ (x : Lent) where
     k = x .call .budget
     by : (p : Paused) → x .session .paused ≡ p → continueRun x .answer .line ≡ stopLine.At l → (continueRun x .answer .stop ≡ 5 → ⊥) → Less continueRun (continueRun x)
     by Nowhere f n m = absurd (no-line-at (ap (λ o. o .answer .line) (continue-again Nowhere f h (x .call .budget) (omega arith))) n)
-    by Start f n m = less-by-one env (x .call .budget) 0 (begun x 0) (λ b. continueRun (withBudget x b)) (λ b i. continue-again Start f h b i) l n m
-    by (At p) f n m = less-by-one env (x .call .budget) (suc (p .0)) (begun x 0) (λ b. continueRun (withBudget x b)) (λ b i. continue-again (At p) f h b i) l n m
+    by Start f n m = less-by-one env (x .call .budget) 0 (begun x 0) (λ b. continueRun (budgeted b x)) (λ b i. continue-again Start f h b i) l n m
+    by (At p) f n m = less-by-one env (x .call .budget) (suc (p .0)) (begun x 0) (λ b. continueRun (budgeted b x)) (λ b i. continue-again (At p) f h b i) l n m
 
-  pub refused-in-continue : (l : LineNumber) → continueRun x .answer .line ≡ stopLine.At l → (continueRun x .answer .stop ≡ 5 → ⊥) → OneLess env (continueRun (withBudget x (continueRun x .answer .steps - 1))) (continueRun x)
-  unfolding continueRun
-  refused-in-continue = continue-less refl (every-continue limit x)
+  -- A program statement that refused in a call: by the same call with one step less, which pauses before it
+  module _ (sized : Sized (x .session)) (l : LineNumber) where
+    pub refused-in-take-line : takeLine x .answer .line ≡ stopLine.At l → OneLess (envOf limit x) (takeLine (budgeted (takeLine x .answer .steps - 1) x)) (takeLine x)
+    unfolding takeLine
+    refused-in-take-line n =
+        take-less refl (every-line limit x) l n
+        (λ m. no-line-at (ap (λ o. o .answer .line) (five-takes-only-the-line x sized m .leaves)) n)
+
+    pub refused-in-continue : continueRun x .answer .line ≡ stopLine.At l → OneLess (envOf limit x) (continueRun (budgeted (continueRun x .answer .steps - 1) x)) (continueRun x)
+    unfolding continueRun
+    refused-in-continue n = continue-less refl (every-continue limit x) l n (continuing-never-answers-5 x sized)
 
 -- A typed line's own refusal: the record but for its pause, the page and the memory are as before; the output only grows by whole items
 pub record RefusedLine (x : Lent) (g : Gathered) (o : Outcome) : Type 0 where
@@ -335,19 +340,26 @@ pub record RefusedLine (x : Lent) (g : Gathered) (o : Outcome) : Type 0 where
   pub lines : Lines limit (x .input) (x .call .inpos + g .taken) (o .answer .inpos)
   pub steps : o .answer .steps ≡ 0
 
+of-unsaid : (n : ℕ) → OneOf unsaid n → (n ≡ 0 → ⊥) → (n ≡ 5 → ⊥) → (n ≡ 14 → ⊥) → ⊥
+of-unsaid n i a b c =
+    by-cases (eqb n 0) (λ e. a (eqb-true n 0 e)) (λ e. by-cases (eqb n 5) (λ f. b (eqb-true n 5 f)) (λ f. by-cases (eqb n 14) (λ g. c (eqb-true n 14 g))
+    (λ g. false≢true (rw (e, f, g) at i))))
+
 none-given : {vars after : List ℕ} → GivenIn [] vars after → after ≡ vars
 none-given stay = refl
 
-pub refusing-line : (x : Lent) (g : Gathered) (y : Typed) → Typing limit x g → LineReading (g .line .bytes) y → takeLine x .answer .line ≡ stopLine.NoLine
-    → (OneOf unsaid (takeLine x .answer .stop) → ⊥) → RefusedLine x g (takeLine x)
-refusing-line x g y h r n m = by (kind (envOf limit x) (begun x (g .taken)) y) where
+pub refusing-line : (x : Lent) → Sized (x .session) → (g : Gathered) (y : Typed) → Typing limit x g → LineReading (g .line .bytes) y
+    → takeLine x .answer .line ≡ stopLine.NoLine → (takeLine x .answer .stop ≡ 0 → ⊥) → (takeLine x .answer .stop ≡ 14 → ⊥) → RefusedLine x g (takeLine x)
+refusing-line x sized g y h r n ended′ paused = by (kind (envOf limit x) (begun x (g .taken)) y) where
   o : takeLine x ≡ obey (x .call .budget) (envOf limit x) (begun x (g .taken)) y
   o = line-read x g y h (typed-complete r)
+  m : OneOf unsaid (takeLine x .answer .stop) → ⊥
+  m i = of-unsaid (takeLine x .answer .stop) i ended′ (λ e. exactly-5 x g sized (h .sound) (h .line) (h .short) .0 e y r) paused
   by : Kind (envOf limit x) (begun x (g .taken)) y → RefusedLine x g (takeLine x)
   by (runs q u f) =
       let i = o ∙ f (x .call .budget) in
       absurd (m (rw i (run-named (x .call .budget) (envOf limit x) q u (rw i at n))))
-  by (settles f j) = absurd (m (rw (o, f (x .call .budget)) refl))
+  by (settles f j) = absurd (ended′ (rw (o, f (x .call .budget)) refl))
   by (refuses k u f j) =
       let s = j .rest in
       rw (o, f (x .call .budget))

@@ -35,13 +35,13 @@ use Rattle.letter.proofs.Classes.{isPlain}
 use Rattle.letter.proofs.Typed as letters
 use Rattle.value.proofs.Digits.{value-digits, digits-are, digits-some}
 use Rattle.value.proofs.Writing.{sets-append}
-use Rattle.page.proofs.Program.{both, Bytes, Storable, Program, none, each, program-length, good-program, good-bytes, good-fits}
+use Rattle.page.proofs.Program.{both, Bytes, Storable, Program, none, each, program-length, good-bytes}
 use Rattle.page.proofs.Changes.{lower, onto-good, onto-records}
 use Rattle.demands.specs.Leaves.{unpaused, stackless}
 use Rattle.demands.specs.Listing.{listing, listingRoom, written, lentNext, afterLines, answers, Stops0, lastLF}
 use Rattle.demands.specs.Listing as listings
 use Rattle.demands.proofs.Ways.{Typing}
-use Rattle.demands.proofs.Retyping.{Sound, sound-of, sound-is, line-read, edited-fits, onto-length, onto-after, onto-used}
+use Rattle.demands.proofs.Retyping.{Accepted, accepted-of, accepted-is, program, program-room, line-read, edited-fits, onto-length, onto-after, onto-used}
 
 -- What LIST writes
 listed-length : (r : Stored) → length (listed r) ≡ length (digits (r .line)) + length (r .text) + 2
@@ -215,7 +215,7 @@ onto-onto page ds es h =
 
 -- One listed line typed: m is what was lent at first, ds the records so far
 record Stage (m : Lent) (ds rs : List Stored) (lead : List ℕ) (y : Lent) : Type 0 where
-  sound : Sound y
+  sound : Accepted y
   page : y .page ≡ onto (m .page) ds
   memory : y .memory ≡ m .memory
   output : y .output ≡ m .output
@@ -271,7 +271,7 @@ module _ (m : Lent) (ds rs : List Stored) (r : Stored) (p : Program limit 0 (ds 
   g = gatheredLine r storable rs lead
 
   typing : Typing limit y g
-  typing = record { sound = sound-is (t .sound); line = rw (t .left) (line-gathered r storable rs b); short = refl }
+  typing = record { sound = accepted-is (t .sound); line = rw (t .left) (line-gathered r storable rs b); short = refl }
 
   abbrev more : List Stored
   more = ds ++ (r ∷ [])
@@ -367,18 +367,11 @@ module _ (x : Lent) (bytes′ : Bytes (x .page)) (g : Gathered) (h : Typing limi
   abbrev lines : ℕ
   lines = length (recordsOf (x .page))
 
-  program : Program limit 0 (recordsOf (x .page))
-  program = good-program limit (x .page) bytes′ (sound-of x (h .sound) .good)
-
-  top-inside : usedBy (recordsOf (x .page)) ≤ length (x .page)
-  unfolding used
-  top-inside = good-fits limit (x .page) bytes′ (sound-of x (h .sound) .good)
-
   typed-back : Typed y (recordsOf (x .page)) (lastLF (recordsOf (x .page))) lines y
   typed-back =
-      all-typed y (recordsOf (x .page)) program (omega (arith, long, top-inside)) y
+      all-typed y (recordsOf (x .page)) (program x g h) (omega (arith, long, program-room x g h)) y
       (record {
-        sound = sound-of y sound;
+        sound = accepted-of y sound;
         page = rw empty;
         memory = refl;
         output = refl;
@@ -395,14 +388,14 @@ module _ (x : Lent) (bytes′ : Bytes (x .page)) (g : Gathered) (h : Typing limi
       let pb : List ℕ = programBytes (recordsOf (x .page)) in
       let l : length pb ≡ usedBy (recordsOf (x .page)) = program-length (recordsOf (x .page)) in
       take-at pb _ (usedBy (recordsOf (x .page))) l
-      ∙ sym (ap (take (usedBy (recordsOf (x .page)))) (good-bytes limit (x .page) bytes′ (sound-of x (h .sound) .good)) ∙ take-at pb _ (usedBy (recordsOf (x .page))) l)
+      ∙ sym (ap (take (usedBy (recordsOf (x .page)))) (good-bytes limit (x .page) bytes′ (accepted-of x (h .sound) .good)) ∙ take-at pb _ (usedBy (recordsOf (x .page))) l)
 
   back : RoundTrip x y z
   unfolding used
   back =
       let t = typed-back .after in
       record {
-        top = rw (t .page) (onto-used (y .page) program);
+        top = rw (t .page) (onto-used (y .page) (program x g h));
         same = rw (t .page) same-program;
         after = rw (t .page) (onto-after (y .page) (recordsOf (x .page)));
         memory = t .memory;

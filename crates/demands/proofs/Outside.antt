@@ -23,17 +23,15 @@ use Rattle.nibl.specs.declared.StopLine.{StopLine}
 use Rattle.nibl.proofs.Determined.{determined}
 use Rattle.nibl.proofs.Lines.{typed-sound}
 use Rattle.nibl.proofs.Whole.{typed-complete}
-use Rattle.letter.proofs.Typed.{taken}
 use Rattle.page.proofs.Walk.{by-cases}
-use Rattle.page.proofs.Program.{Bytes, Program, program-length, good-program}
-use Rattle.page.proofs.Program as program
+use Rattle.page.proofs.Program.{Program, none as no-record, program-length}
 use Rattle.page.proofs.Changes.{with-program, without-program}
 use Rattle.demands.specs.Effects.{Does}
 use Rattle.demands.specs.Leaves.{PageHeld, isEdit}
 use Rattle.demands.proofs.Effects.{exec-does, list-does}
 use Rattle.demands.proofs.Ways.{Typing, Takes, refused, noCR, overlong, unread, reads, every-line, Continues, refused′, continues, every-continue}
 use Rattle.demands.proofs.Storing.{stored-storable}
-use Rattle.demands.proofs.Retyping.{sound-of, line-read, edited-fits, onto-length, onto-after, onto-used}
+use Rattle.demands.proofs.Retyping.{program, line-short,  onto-length, onto-after, onto-used}
 use Rattle.demands.proofs.Held.{SameLengths, worldAfter, does-lengths, then-lengths, run-lengths}
 
 -- The page
@@ -98,7 +96,7 @@ unfolding continueRun
 continue-keeps-the-page x = continue-page (every-continue limit x)
 
 -- "bytes after the new end mark hold"
-module _ (x : Lent) (bytes : Bytes (x .page)) where
+module _ (x : Lent) where
   abbrev Holds : Outcome → Type 0
   Holds o = PageHeld (x .page) (o .page)
 
@@ -106,28 +104,22 @@ module _ (x : Lent) (bytes : Bytes (x .page)) where
     abbrev w : World
     w = begun x (g .taken)
 
-    records-good : Program limit 0 (recordsOf (x .page))
-    records-good = good-program limit (x .page) bytes (sound-of x (h .sound) .good)
-
-    line-short : length (g .line .bytes) ≤ limit
-    line-short = taken limit (drop (x .call .inpos) (x .input)) g (h .line) .fine .fits
-
     same-holds : (o : Outcome) → o .page ≡ x .page → Holds o
     same-holds o e = rw e (kept-page (x .page))
 
     obey-holds : (y : Typed) → LineReading (g .line .bytes) y → Holds (obey (x .call .budget) (envOf limit x) w y)
     unfolding obey
     obey-holds blank r = kept-page (x .page)
-    obey-holds new r = edit-holds (x .page) w program.none
+    obey-holds new r = edit-holds (x .page) w no-record
     obey-holds clear r = kept-page (x .page)
     obey-holds run r = kept-page (x .page)
     obey-holds (delete n) r = by (hasLine n (recordsOf (x .page))) where
       by : (b : Bool) → Holds (elim b [ true ↦ edited (x .page) w (without n (recordsOf (x .page))) | false ↦ stops 0 w (x .page) ])
-      by true = edit-holds (x .page) w (without-program n records-good)
+      by true = edit-holds (x .page) w (without-program n (program x g h))
       by false = kept-page (x .page)
     obey-holds (list n) r = same-holds (immediately (x .call .budget) (envOf limit x) (listFrom n (recordsOf (x .page)) w)) (immediate-page (x .call .budget) (envOf limit x) (listFrom n (recordsOf (x .page)) w))
     obey-holds (store n t ms) r =
-        edit-holds (x .page) w (with-program (record { line = n; text = t }) (stored-storable r line-short) (omega arith) records-good)
+        edit-holds (x .page) w (with-program (record { line = n; text = t }) (stored-storable limit (omega arith) r (line-short x g h)) (omega arith) (program x g h))
     obey-holds (immediate q) r = by (needsProgram q) where
       by : (b : Bool) → Holds (elim b [ true ↦ stops 3 w (x .page) | false ↦ immediately (x .call .budget) (envOf limit x) (exec (envOf limit x) q w) ])
       by true = kept-page (x .page)

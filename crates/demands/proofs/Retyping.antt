@@ -1,7 +1,7 @@
 -- "Retyping replaces". Assumes nothing.
 use Prim.Native.Nat.{ℕ, zero, suc, _+_, _-_, _≤_, _<_}
 use mathlib.Core.Path.{_≡_, refl, sym, ap, subst, _∙_}
-use mathlib.Core.Bool.{Bool, true, false, not, _||_, false≢true, true≢false}
+use mathlib.Core.Bool.{Bool, true, false, not, _&&_, _||_, false≢true, true≢false}
 use mathlib.Core.List.{List, [], _∷_, _++_}
 use mathlib.Core.Option.{some}
 use native.Mathlib.Omega.{arith}
@@ -14,37 +14,38 @@ use Rattle.nibl.specs.Tree.{Member, Typed, delete, store}
 use Rattle.nibl.specs.Read.{typed}
 use Rattle.nibl.specs.Readings.{LineReading}
 use Rattle.nibl.specs.Typing.{Kept, Gathered, gather}
-use Rattle.nibl.specs.Page.{Stored, programBytes, isGood, fits, recordsOf, size, used, usedBy, hasLine, with, without, onto}
+use Rattle.nibl.specs.Page.{Stored, programBytes, isEnd, isGood, fits, recordsOf, size, used, usedBy, hasLine, with, without, onto}
 use Rattle.nibl.specs.Calls.{Lent, Outcome, stops, inRange, firstRefusal, worldOf, begun, envOf, clearStacks, edited, obey, obeyLine, obeyRead, takeLine, takeLineIn, limit}
 use Rattle.nibl.specs.Meaning.{World, withSession}
 use Rattle.nibl.proofs.Whole.{typed-complete}
 use Rattle.letter.proofs.Typed.{taken}
 use Rattle.page.proofs.Walk.{by-cases}
-use Rattle.page.proofs.Program.{Bytes, Storable, Program, none, each, program-length, good-program, good-fits}
+use Rattle.page.proofs.Program.{both, Program, none, each, program-length}
 use Rattle.page.proofs.Changes.{with-program, without-program, onto-good, onto-records}
 use Rattle.demands.specs.Leaves.{ofLine, others, answered, stackless, lineTaken}
 use Rattle.demands.proofs.Ways.{Typing}
+use Rattle.demands.proofs.Places.{Laid, ends, laid, good-laid, laid-program}
 use Rattle.demands.proofs.Storing.{stored-storable}
 
--- The parts of a sound call
-pub record Sound (x : Lent) : Type 0 where
+-- what a call past its first refusals has
+pub record Accepted (x : Lent) : Type 0 where
   pub inRange : inRange x ≡ true
   pub good : isGood limit (x .page) ≡ true
   pub fit : fits (x .page) (x .session) ≡ true
 
-pub sound-of : (x : Lent) → firstRefusal limit x ≡ 0 → Sound x
+pub accepted-of : (x : Lent) → firstRefusal limit x ≡ 0 → Accepted x
 unfolding firstRefusal
-sound-of x h = by (inRange x) refl (isGood limit (x .page)) refl (fits (x .page) (x .session)) refl h where
+accepted-of x h = by (inRange x) refl (isGood limit (x .page)) refl (fits (x .page) (x .session)) refl h where
   by : (a : Bool) → inRange x ≡ a → (b : Bool) → isGood limit (x .page) ≡ b → (c : Bool) → fits (x .page) (x .session) ≡ c
-      → _≡_ {A = ℕ} (if not a then 1 else if not b then 18 else if not c then 19 else 0) 0 → Sound x
+      → _≡_ {A = ℕ} (if not a then 1 else if not b then 18 else if not c then 19 else 0) 0 → Accepted x
   by true p true q true r e = record { inRange = p; good = q; fit = r }
   by false p b q c r e = absurd (omega arith)
   by true p false q c r e = absurd (omega arith)
   by true p true q false r e = absurd (omega arith)
 
-pub sound-is : {x : Lent} → Sound x → firstRefusal limit x ≡ 0
+pub accepted-is : {x : Lent} → Accepted x → firstRefusal limit x ≡ 0
 unfolding firstRefusal
-sound-is s = rw (s .inRange, s .good, s .fit)
+accepted-is s = rw (s .inRange, s .good, s .fit)
 
 -- what a line that was read does
 pub line-read : (x : Lent) (g : Gathered) (y : Typed) → Typing limit x g → typed (g .line .bytes) ≡ some y
@@ -129,6 +130,16 @@ module _ (q : Stored) where
         let m : eqb (r .line) n ≡ false = ne-eqb (r .line) n (λ g. eqb-false n (r .line) f (sym g)) in
         record { one = rw m (w .one); rest = rw m (ap (λ (l : List Stored). r ∷ l) (w .rest)); room = rw m (omega (arith, w .room)) }
 
+-- the records of a good page are on it
+end-long : (q : List ℕ) → isEnd q ≡ true → 2 ≤ length q
+end-long [] e = absurd (false≢true e)
+end-long (x ∷ []) e = absurd (false≢true (both (eqb x 255) false e .1))
+end-long (x ∷ y ∷ q) e = omega arith
+
+laid-room : {lim low at : ℕ} {page : List ℕ} {rs : List Stored} → Laid lim page low at rs → at + usedBy rs ≤ length page
+laid-room {at = at} {page = page} (ends e) = omega (arith, end-long (drop at page) e, length-drop at page)
+laid-room (laid e l s n t p) = omega (arith, laid-room p)
+
 -- What an edit leaves
 pub record Edits (x : Lent) (taken : ℕ) (o : Outcome) : Type 0 where
   pub answer : o .answer ≡ answered x 0 taken
@@ -181,15 +192,17 @@ pub record Deletes (x : Lent) (n : ℕ) (o : Outcome) : Type 0 where
   pub gone : ofLine n (recordsOf (o .page)) ≡ []
   pub rest : recordsOf (o .page) ≡ others n (recordsOf (x .page))
 
-module _ (x : Lent) (bytes : Bytes (x .page)) (g : Gathered) (h : Typing limit x g) where
-  program : Program limit 0 (recordsOf (x .page))
-  program = good-program limit (x .page) bytes (sound-of x (h .sound) .good)
+module _ (x : Lent) (g : Gathered) (h : Typing limit x g) where
+  on-page : Laid limit (x .page) 0 0 (recordsOf (x .page))
+  on-page = good-laid limit (x .page) (omega arith) (accepted-of x (h .sound) .good)
 
-  program-room : usedBy (recordsOf (x .page)) ≤ length (x .page)
-  unfolding used
-  program-room = good-fits limit (x .page) bytes (sound-of x (h .sound) .good)
+  pub program : Program limit 0 (recordsOf (x .page))
+  program = laid-program on-page
 
-  line-short : length (g .line .bytes) ≤ limit
+  pub program-room : usedBy (recordsOf (x .page)) ≤ length (x .page)
+  program-room = omega (arith, laid-room on-page)
+
+  pub line-short : length (g .line .bytes) ≤ limit
   line-short = taken limit (drop (x .call .inpos) (x .input)) g (h .line) .fine .fits
 
   module _ (n : ℕ) (t : List ℕ) (ms : List Member) (r : LineReading (g .line .bytes) (store n t ms)) where

@@ -121,15 +121,3 @@ isEdit (delete n) = true
 isEdit (list n) = false
 isEdit (store n t ms) = true
 isEdit (immediate q) = false
-
--- the same call with another budget
-abbrev pub withBudget : Lent → ℕ → Lent
-withBudget x k =
-    record {
-      session = x .session;
-      page = x .page;
-      memory = x .memory;
-      input = x .input;
-      output = x .output;
-      call = record { inpos = x .call .inpos; outpos = x .call .outpos; sense = x .call .sense; budget = k };
-    }
