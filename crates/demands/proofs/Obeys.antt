@@ -21,8 +21,7 @@ use Rattle.nibl.proofs.Lines.{typed-sound}
 use Rattle.letter.proofs.Typed.{taken}
 use Rattle.page.proofs.Program.{Program, none as no-record}
 use Rattle.page.proofs.Changes.{with-program, without-program}
-use Rattle.demands.specs.Leaves.{withBudget}
-use Rattle.demands.specs.Sound.{Stands}
+use Rattle.demands.specs.Sound.{Stands, budgeted}
 use Rattle.demands.proofs.Effects.{widen}
 use Rattle.demands.proofs.Budget.{StopsWith, stopped, stopNumbers}
 use Rattle.demands.proofs.Ways.{Typing}
@@ -108,9 +107,9 @@ module _ (lim : ℕ) (x : Lent) (short : lim ≤ 251) (good : isGood lim (x .pag
         let h : length (g .line .bytes) ≤ lim = taken lim (drop (x .call .inpos) (x .input)) g (y .line) .fine .fits in
         with-program (record { line = l; text = s }) (stored-storable lim short (typed-sound (g .line .bytes) (store l s ms) (r ∙ ap some e)) h) (omega arith) program
 
-  pub continue-ways : Obeyed lim env (λ k. continueFrom lim (withBudget x k) (x .session .paused))
+  pub continue-ways : Obeyed lim env (λ k. continueFrom lim (budgeted k x) (x .session .paused))
   continue-ways = by (x .session .paused) (fit .paused) where
-    by : (p : Paused) → fitsPaused (placesOf (x .page)) p ≡ true → Obeyed lim env (λ k. continueFrom lim (withBudget x k) p)
+    by : (p : Paused) → fitsPaused (placesOf (x .page)) p ≡ true → Obeyed lim env (λ k. continueFrom lim (budgeted k x) p)
     by Nowhere h = stands refl (begun-fit 0)
     by Start h = runs 0 (begun x 0) refl (begun-fit 0)
     by (At p) h = runs (suc (p .0)) (begun x 0) h (begun-fit 0)

@@ -18,8 +18,7 @@ use Rattle.nibl.specs.Page.{isGood, fits}
 use Rattle.nibl.specs.Meaning.{World, Env}
 use Rattle.nibl.specs.Calls.{Lent, Outcome, Ran, ran, textFrom, runFrom, stops, inRange, firstRefusal, begun, envOf, obeyRead, obeyLine, takeLine, takeLineIn, continueFrom, continueRun, continueRunIn, limit}
 use Rattle.page.proofs.Walk.{by-cases}
-use Rattle.demands.specs.Leaves.{withBudget}
-use Rattle.demands.specs.Sound.{Sized, Sound, Stands}
+use Rattle.demands.specs.Sound.{Sized, Sound, Stands, budgeted}
 use Rattle.demands.proofs.Runs.{run-none, run-suc}
 use Rattle.demands.proofs.Budget.{joined, split-run, steps-within}
 use Rattle.demands.proofs.Ways.{lineOf, Typing}
@@ -96,7 +95,7 @@ module _ (lim : ℕ) (short : lim ≤ 251) (x : Lent) (h : Sound lim (x .page) (
   read-pauses g y none e = unpaused 5 k (λ e. omega arith)
   read-pauses g y (some t) e = obeyed-pauses (read-ways lim x short (h .good) (sound-fit h) g t y e)
 
-  line-pauses : firstRefusal lim x ≡ 0 → (g : Option Gathered) → lineOf lim x ≡ g → Pausing k (λ n. obeyLine lim (withBudget x n) g)
+  line-pauses : firstRefusal lim x ≡ 0 → (g : Option Gathered) → lineOf lim x ≡ g → Pausing k (λ n. obeyLine lim (budgeted n x) g)
   line-pauses z none e = unpaused 7 k (λ e. omega arith)
   line-pauses z (some g) e = by (g .line .long) refl where
     by : (b : Bool) → g .line .long ≡ b
@@ -109,41 +108,41 @@ and-map : (a b c : Bool) → (b ≡ true → c ≡ true) → (a && b) ≡ true �
 and-map true b c f e = f e
 and-map false b c f e = e
 
-range-fewer : (x : Lent) (k : ℕ) → inRange (withBudget x (suc k)) ≡ true → inRange (withBudget x k) ≡ true
+range-fewer : (x : Lent) (k : ℕ) → inRange (budgeted (suc k) x) ≡ true → inRange (budgeted k x) ≡ true
 range-fewer x k =
     and-map (leb 2 (length (x .page))) _ _ (and-map (leb (length (x .page)) 4096) _ _ (and-map (leb (length (x .memory)) 4096) _ _
     (and-map (leb (length (x .input)) 65535) _ _ (and-map (leb (length (x .output)) 65535) _ _ (and-map (leb (x .call .inpos) (length (x .input))) _ _
     (and-map (leb (x .call .outpos) (length (x .output))) _ _ (λ e. let l = leb-true (suc k) 65535 e in le-leb k 65535 (omega arith))))))))
 
-unrefused-fewer : (lim : ℕ) (x : Lent) (k : ℕ) → firstRefusal lim (withBudget x (suc k)) ≡ 0 → firstRefusal lim (withBudget x k) ≡ 0
+unrefused-fewer : (lim : ℕ) (x : Lent) (k : ℕ) → firstRefusal lim (budgeted (suc k) x) ≡ 0 → firstRefusal lim (budgeted k x) ≡ 0
 unfolding firstRefusal
-unrefused-fewer lim x k h = by (inRange (withBudget x (suc k))) refl h where
+unrefused-fewer lim x k h = by (inRange (budgeted (suc k) x)) refl h where
   rest : ℕ
   rest = if not (isGood lim (x .page)) then 18 else if not (fits (x .page) (x .session)) then 19 else 0
 
-  by : (b : Bool) → inRange (withBudget x (suc k)) ≡ b → (if not b then 1 else rest) ≡ 0 → (if not (inRange (withBudget x k)) then 1 else rest) ≡ 0
+  by : (b : Bool) → inRange (budgeted (suc k) x) ≡ b → (if not b then 1 else rest) ≡ 0 → (if not (inRange (budgeted k x)) then 1 else rest) ≡ 0
   by true i e = rw (range-fewer x k i) e
   by false i e = absurd (omega arith)
 
-module _ (lim : ℕ) (short : lim ≤ 251) (x : Lent) (sized : Sized (x .session)) (k : ℕ) (z : firstRefusal lim (withBudget x (suc k)) ≡ 0) where
-  take-at : (n : ℕ) → firstRefusal lim (withBudget x n) ≡ 0 → takeLineIn lim (withBudget x n) ≡ obeyLine lim (withBudget x n) (lineOf lim x)
+module _ (lim : ℕ) (short : lim ≤ 251) (x : Lent) (sized : Sized (x .session)) (k : ℕ) (z : firstRefusal lim (budgeted (suc k) x) ≡ 0) where
+  take-at : (n : ℕ) → firstRefusal lim (budgeted n x) ≡ 0 → takeLineIn lim (budgeted n x) ≡ obeyLine lim (budgeted n x) (lineOf lim x)
   unfolding takeLineIn
   take-at n i = rw (i, takeLineIn)
 
-  continue-at : (n : ℕ) → firstRefusal lim (withBudget x n) ≡ 0 → continueRunIn lim (withBudget x n) ≡ continueFrom lim (withBudget x n) (x .session .paused)
+  continue-at : (n : ℕ) → firstRefusal lim (budgeted n x) ≡ 0 → continueRunIn lim (budgeted n x) ≡ continueFrom lim (budgeted n x) (x .session .paused)
   unfolding continueRunIn
   continue-at n i = rw (i, continueRunIn)
 
-  pub pauses-within : Pausing k (λ n. takeLineIn lim (withBudget x n)) × Pausing k (λ n. continueRunIn lim (withBudget x n))
+  pub pauses-within : Pausing k (λ n. takeLineIn lim (budgeted n x)) × Pausing k (λ n. continueRunIn lim (budgeted n x))
   pauses-within =
       let y = unrefused-fewer lim x k z in
-      let h = unrefused lim (withBudget x k) sized y in (
-        rw (take-at k y, take-at (suc k) z) (line-pauses lim short (withBudget x k) h k y (lineOf lim x) refl),
-        rw (continue-at k y, continue-at (suc k) z) (obeyed-pauses lim short (withBudget x k) h k (continue-ways lim (withBudget x k) short (h .good) (sound-fit h))),
+      let h = unrefused lim (budgeted k x) sized y in (
+        rw (take-at k y, take-at (suc k) z) (line-pauses lim short (budgeted k x) h k y (lineOf lim x) refl),
+        rw (continue-at k y, continue-at (suc k) z) (obeyed-pauses lim short (budgeted k x) h k (continue-ways lim (budgeted k x) short (h .good) (sound-fit h))),
       )
 
 -- a call answers 14 exactly when its steps are the budget, and with one more in the budget they would be one more
-pub paused-exactly : (x : Lent) (k : ℕ) → Sized (x .session) → firstRefusal limit (withBudget x (suc k)) ≡ 0
-    → Pausing k (λ n. takeLine (withBudget x n)) × Pausing k (λ n. continueRun (withBudget x n))
+pub paused-exactly : (x : Lent) (k : ℕ) → Sized (x .session) → firstRefusal limit (budgeted (suc k) x) ≡ 0
+    → Pausing k (λ n. takeLine (budgeted n x)) × Pausing k (λ n. continueRun (budgeted n x))
 unfolding takeLine continueRun
 paused-exactly x k s z = pauses-within limit (omega arith) x s k z

@@ -1,5 +1,5 @@
 -- What the sentences on sound calls speak of: a good page with a fitting record, where a run may stand, the record that a place lies in,
--- and the line that an answer shows.
+-- the line that an answer shows, and a call with another budget.
 use Prim.Native.Nat.{ℕ, _+_, _≤_, _<_}
 use mathlib.Core.Path.{_≡_}
 use mathlib.Core.Bool.{true}
@@ -50,3 +50,15 @@ pub data Answered (lim : ℕ) (x : Lent) (o : Outcome) : Type 0 where
   -- as a run ended
   byRun : (q : ℕ) (w : World) → Stands (x .page) q → Sound lim (x .page) (w .session) → o ≡ ended (runFrom (x .call .budget) (envOf lim x) q w) (x .page)
       → Shows (x .page) (runFrom (x .call .budget) (envOf lim x) q w) (o .answer .line) → Answered lim x o
+
+-- the same call with a budget of k
+abbrev pub budgeted : ℕ → Lent → Lent
+budgeted k x =
+    record {
+      session = x .session;
+      page = x .page;
+      memory = x .memory;
+      input = x .input;
+      output = x .output;
+      call = record { inpos = x .call .inpos; outpos = x .call .outpos; sense = x .call .sense; budget = k };
+    }
