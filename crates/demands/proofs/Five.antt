@@ -42,7 +42,7 @@ module _ (lim : ℕ) (short : lim ≤ 251) (x : Lent) (sized : Sized (x .session
   continue-other (refused′ {n = n} e) h = false≢true (rw h at (first-numbers lim x (suc n) e))
   continue-other (continues e) h =
       let s = unrefused lim x sized e in
-      settled-other (settled lim (envOf lim x) short (s .good) (continue-ways lim x short (s .good) (sound-fit s)) (x .call .budget)) h
+      settled-other (settled lim (envOf lim x) short (s .good) (continue-ways lim x short (s .good) (sound-fit s) e) (x .call .budget)) h
 
   pub continued-within : continueRunIn lim x .answer .stop ≡ 5 → ⊥
   continued-within = continue-other (every-continue lim x)

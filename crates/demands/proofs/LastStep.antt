@@ -29,7 +29,8 @@ use Rattle.demands.specs.Leaves.{unpaused, Items, noItem, Lines, noLine,
 use Rattle.demands.specs.Sound.{Sized, budgeted}
 use Rattle.demands.proofs.Held.{refusing-statement, refusing-list}
 use Rattle.demands.proofs.Runs.{run-zero, run-suc, oneStep, endOf, crOf, every-run}
-use Rattle.demands.proofs.Retyping.{Accepted, accepted-of, accepted-is, edited-fits, edited-full, line-read}
+use Rattle.demands.proofs.Accepted.{accepted-less}
+use Rattle.demands.proofs.Retyping.{edited-fits, edited-full, line-read}
 use Rattle.demands.proofs.Ways.{Typing, Takes, refused, noCR, overlong, unread, reads, every-line, Continues, refused′, continues, every-continue}
 use Rattle.demands.proofs.Budget.{steps-within}
 use Rattle.demands.proofs.Refusing.{needs-asks}
@@ -261,22 +262,6 @@ module _ (e : Env) (k q : ℕ) (u : World) (call : ℕ → Outcome) (same : (b :
         let b : length (runFrom k e q u .lines) - 1 ≡ t .before = omega (arith, t .count) in
         rw (b, same (t .before) (omega (arith, t .count, steps-within k e q u))) (run-less k e q u n t)
 
--- a sound call is sound with a smaller budget
-less-sound : (x : Lent) (k : ℕ) → k ≤ x .call .budget → firstRefusal limit x ≡ 0 → firstRefusal limit (budgeted k x) ≡ 0
-less-sound x k l h = accepted-is (record { inRange = by (s .inRange); good = s .good; fit = s .fit }) where
-  s : Accepted x
-  s = accepted-of x h
-  by : inRange x ≡ true → inRange (budgeted k x) ≡ true
-  by h =
-      let a = both (leb 2 (length (x .page))) _ h in
-      let b = both (leb (length (x .page)) 4096) _ (a .1) in
-      let c = both (leb (length (x .memory)) 4096) _ (b .1) in
-      let d = both (leb (length (x .input)) 65535) _ (c .1) in
-      let e = both (leb (length (x .output)) 65535) _ (d .1) in
-      let f = both (leb (x .call .inpos) (length (x .input))) _ (e .1) in
-      let g = both (leb (x .call .outpos) (length (x .output))) _ (f .1) in
-      rw (a .0, b .0, c .0, d .0, e .0, f .0, g .0) (le-leb k 65535 (omega (arith, leb-true (x .call .budget) 65535 (g .1))))
-
 no-line-at : {s : StopLine} {l : LineNumber} → s ≡ stopLine.NoLine → s ≡ stopLine.At l → ⊥
 no-line-at p q = let z : _≡_ {A = ℕ} 0 1 = cc in omega arith
 
@@ -290,7 +275,7 @@ module _ (x : Lent) where
   -- the call on the same line with another budget
   read-again : (g : Gathered) (y : Typed) → Typing limit x g → typed (g .line .bytes) ≡ some y → (b : ℕ) → b ≤ x .call .budget
       → takeLine (budgeted b x) ≡ obey b env (begun x (g .taken)) y
-  read-again g y h r b l = line-read (budgeted b x) g y (record { sound = less-sound x b l (h .sound); line = h .line; short = h .short }) r
+  read-again g y h r b l = line-read (budgeted b x) g y (record { sound = accepted-less limit x b (x .call .budget) l (h .sound); line = h .line; short = h .short }) r
 
   by-kind : (g : Gathered) (y : Typed) → Typing limit x g → typed (g .line .bytes) ≡ some y → Kind env (begun x (g .taken)) y
       → (l : LineNumber) → takeLine x .answer .line ≡ stopLine.At l → (takeLine x .answer .stop ≡ 5 → ⊥) → Less takeLine (takeLine x)
@@ -307,7 +292,7 @@ module _ (x : Lent) where
 
   continue-again : (p : Paused) → x .session .paused ≡ p → firstRefusal limit x ≡ 0 → (b : ℕ) → b ≤ x .call .budget → continueRun (budgeted b x) ≡ continueFrom limit (budgeted b x) p
   unfolding continueRun continueRunIn
-  continue-again p e h b l = rw (less-sound x b l h, continueRunIn) (rw e)
+  continue-again p e h b l = rw (accepted-less limit x b (x .call .budget) l h, continueRunIn) (rw e)
 
   continue-less : {o : Outcome} → o ≡ continueRun x → Continues limit x o → (l : LineNumber) → o .answer .line ≡ stopLine.At l → (o .answer .stop ≡ 5 → ⊥) → Less continueRun o
   continue-less e (refused′ h) l n m = absurd (no-line-at refl n)

@@ -3,9 +3,11 @@ pub mod Runs
 pub mod Budget
 pub mod Ways
 pub mod Numbers
+pub mod Accepted
 pub mod Places
 pub mod Fits
 pub mod Running
+pub mod Carried
 pub mod Obeys
 pub mod Sound
 pub mod Five

@@ -100,10 +100,10 @@ the-last-steps-line lim e short k q w h s m n = by (run-shows lim e short k q w 
 
 -- Of the calls
 module _ (lim : ℕ) (short : lim ≤ 251) (x : Lent) (sound : Sound lim (x .page) (x .session)) where
-  obeyed-answer : {o : ℕ → Outcome} → Obeyed lim (envOf lim x) o → Answered lim x (o (x .call .budget))
+  obeyed-answer : {o : ℕ → Outcome} → Obeyed lim (envOf lim x) (worldOf x) o → Answered lim x (o (x .call .budget))
   obeyed-answer (stands h f) = byLine refl refl (λ e. false≢true (rw e at h))
   obeyed-answer (edits p n f) = byLine refl refl (λ e. omega arith)
-  obeyed-answer (runs q w s f) =
+  obeyed-answer (runs q w s f i j) =
       let h = fit-sound lim (sound .good) f in
       byRun q w s h refl (run-shows lim (envOf lim x) short (x .call .budget) q w h s)
 
@@ -119,7 +119,7 @@ module _ (lim : ℕ) (short : lim ≤ 251) (x : Lent) (sound : Sound lim (x .pag
 
   continue-answer : {o : Outcome} → Continues lim x o → Answered lim x o
   continue-answer (refused′ {n = n} e) = first-answer n e
-  continue-answer (continues e) = obeyed-answer (continue-ways lim x short (sound .good) (sound-fit sound))
+  continue-answer (continues e) = obeyed-answer (continue-ways lim x short (sound .good) (sound-fit sound) e)
 
 pub the-answers-line : (x : Lent) → Sound limit (x .page) (x .session) → Answered limit x (takeLine x) × Answered limit x (continueRun x)
 unfolding takeLine continueRun

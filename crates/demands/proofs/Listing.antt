@@ -41,7 +41,8 @@ use Rattle.demands.specs.Leaves.{unpaused, stackless}
 use Rattle.demands.specs.Listing.{listing, listingRoom, written, lentNext, afterLines, answers, Stops0, lastLF}
 use Rattle.demands.specs.Listing as listings
 use Rattle.demands.proofs.Ways.{Typing}
-use Rattle.demands.proofs.Retyping.{Accepted, accepted-of, accepted-is, program, program-room, line-read, edited-fits, onto-length, onto-after, onto-used}
+use Rattle.demands.proofs.Accepted.{Accepted, accepted-of, accepted-is}
+use Rattle.demands.proofs.Retyping.{program, program-room, line-read, edited-fits, onto-length, onto-after, onto-used}
 
 -- What LIST writes
 listed-length : (r : Stored) → length (listed r) ≡ length (digits (r .line)) + length (r .text) + 2
@@ -215,7 +216,7 @@ onto-onto page ds es h =
 
 -- One listed line typed: m is what was lent at first, ds the records so far
 record Stage (m : Lent) (ds rs : List Stored) (lead : List ℕ) (y : Lent) : Type 0 where
-  sound : Accepted y
+  sound : Accepted limit y
   page : y .page ≡ onto (m .page) ds
   memory : y .memory ≡ m .memory
   output : y .output ≡ m .output
@@ -371,7 +372,7 @@ module _ (x : Lent) (bytes′ : Bytes (x .page)) (g : Gathered) (h : Typing limi
   typed-back =
       all-typed y (recordsOf (x .page)) (program x g h) (omega (arith, long, program-room x g h)) y
       (record {
-        sound = accepted-of y sound;
+        sound = accepted-of limit y sound;
         page = rw empty;
         memory = refl;
         output = refl;
@@ -388,7 +389,7 @@ module _ (x : Lent) (bytes′ : Bytes (x .page)) (g : Gathered) (h : Typing limi
       let pb : List ℕ = programBytes (recordsOf (x .page)) in
       let l : length pb ≡ usedBy (recordsOf (x .page)) = program-length (recordsOf (x .page)) in
       take-at pb _ (usedBy (recordsOf (x .page))) l
-      ∙ sym (ap (take (usedBy (recordsOf (x .page)))) (good-bytes limit (x .page) bytes′ (accepted-of x (h .sound) .good)) ∙ take-at pb _ (usedBy (recordsOf (x .page))) l)
+      ∙ sym (ap (take (usedBy (recordsOf (x .page)))) (good-bytes limit (x .page) bytes′ (accepted-of limit x (h .sound) .good)) ∙ take-at pb _ (usedBy (recordsOf (x .page))) l)
 
   back : RoundTrip x y z
   unfolding used

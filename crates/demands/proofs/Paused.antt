@@ -27,6 +27,7 @@ use Rattle.demands.proofs.Fits.{sound-fit, fit-sound}
 use Rattle.demands.proofs.Running.{Goings, runsOut, pauses, steps, run-goes}
 use Rattle.demands.proofs.Running.{stops as halts}
 use Rattle.demands.proofs.Obeys.{Obeyed, stands, edits, runs, read-ways, continue-ways}
+use Rattle.demands.proofs.Accepted.{accepted-less}
 use Rattle.demands.proofs.Sound.{unrefused}
 
 pub past-the-last-line : (e : Env) (q : ℕ) (w : World) → textFrom (e .page) q ≡ none → (k : ℕ) → runFrom k e q w ≡ ran 0 q w
@@ -86,10 +87,10 @@ abbrev pub Pausing : ℕ → (ℕ → Outcome) → Type 0
 Pausing k o = Exactly (o k .answer .stop) k (o k .answer .steps) (o (suc k) .answer .steps)
 
 module _ (lim : ℕ) (short : lim ≤ 251) (x : Lent) (h : Sound lim (x .page) (x .session)) (k : ℕ) where
-  obeyed-pauses : {o : ℕ → Outcome} → Obeyed lim (envOf lim x) o → Pausing k o
+  obeyed-pauses : {v : World} {o : ℕ → Outcome} → Obeyed lim (envOf lim x) v o → Pausing k o
   obeyed-pauses (stands {n = n} i f) = unpaused n k (λ e. false≢true (rw e at i))
   obeyed-pauses (edits p n f) = unpaused 0 k (λ e. omega arith)
-  obeyed-pauses (runs q w s f) = run-pauses-exactly lim (envOf lim x) short q w (fit-sound lim (h .good) f) s k
+  obeyed-pauses (runs q w s f i j) = run-pauses-exactly lim (envOf lim x) short q w (fit-sound lim (h .good) f) s k
 
   read-pauses : (g : Gathered) → Typing lim x g → (t : Option Typed) → typed (g .line .bytes) ≡ t → Pausing k (λ n. obeyRead n (envOf lim x) (begun x (g .taken)) t)
   read-pauses g y none e = unpaused 5 k (λ e. omega arith)
@@ -103,27 +104,6 @@ module _ (lim : ℕ) (short : lim ≤ 251) (x : Lent) (h : Sound lim (x .page) (
     by true l = unpaused 5 k (λ e. omega arith)
     by false l = read-pauses g (record { sound = z; line = e; short = l }) (typed (g .line .bytes)) refl
 
--- a call that is not refused at a budget is not refused at a smaller one
-and-map : (a b c : Bool) → (b ≡ true → c ≡ true) → (a && b) ≡ true → (a && c) ≡ true
-and-map true b c f e = f e
-and-map false b c f e = e
-
-range-fewer : (x : Lent) (k : ℕ) → inRange (budgeted (suc k) x) ≡ true → inRange (budgeted k x) ≡ true
-range-fewer x k =
-    and-map (leb 2 (length (x .page))) _ _ (and-map (leb (length (x .page)) 4096) _ _ (and-map (leb (length (x .memory)) 4096) _ _
-    (and-map (leb (length (x .input)) 65535) _ _ (and-map (leb (length (x .output)) 65535) _ _ (and-map (leb (x .call .inpos) (length (x .input))) _ _
-    (and-map (leb (x .call .outpos) (length (x .output))) _ _ (λ e. let l = leb-true (suc k) 65535 e in le-leb k 65535 (omega arith))))))))
-
-unrefused-fewer : (lim : ℕ) (x : Lent) (k : ℕ) → firstRefusal lim (budgeted (suc k) x) ≡ 0 → firstRefusal lim (budgeted k x) ≡ 0
-unfolding firstRefusal
-unrefused-fewer lim x k h = by (inRange (budgeted (suc k) x)) refl h where
-  rest : ℕ
-  rest = if not (isGood lim (x .page)) then 18 else if not (fits (x .page) (x .session)) then 19 else 0
-
-  by : (b : Bool) → inRange (budgeted (suc k) x) ≡ b → (if not b then 1 else rest) ≡ 0 → (if not (inRange (budgeted k x)) then 1 else rest) ≡ 0
-  by true i e = rw (range-fewer x k i) e
-  by false i e = absurd (omega arith)
-
 module _ (lim : ℕ) (short : lim ≤ 251) (x : Lent) (sized : Sized (x .session)) (k : ℕ) (z : firstRefusal lim (budgeted (suc k) x) ≡ 0) where
   take-at : (n : ℕ) → firstRefusal lim (budgeted n x) ≡ 0 → takeLineIn lim (budgeted n x) ≡ obeyLine lim (budgeted n x) (lineOf lim x)
   unfolding takeLineIn
@@ -135,10 +115,10 @@ module _ (lim : ℕ) (short : lim ≤ 251) (x : Lent) (sized : Sized (x .session
 
   pub pauses-within : Pausing k (λ n. takeLineIn lim (budgeted n x)) × Pausing k (λ n. continueRunIn lim (budgeted n x))
   pauses-within =
-      let y = unrefused-fewer lim x k z in
+      let y = accepted-less lim x k (suc k) (omega arith) z in
       let h = unrefused lim (budgeted k x) sized y in (
         rw (take-at k y, take-at (suc k) z) (line-pauses lim short (budgeted k x) h k y (lineOf lim x) refl),
-        rw (continue-at k y, continue-at (suc k) z) (obeyed-pauses lim short (budgeted k x) h k (continue-ways lim (budgeted k x) short (h .good) (sound-fit h))),
+        rw (continue-at k y, continue-at (suc k) z) (obeyed-pauses lim short (budgeted k x) h k (continue-ways lim (budgeted k x) short (h .good) (sound-fit h) y)),
       )
 
 -- a call answers 14 exactly when its steps are the budget, and with one more in the budget they would be one more

@@ -26,26 +26,7 @@ use Rattle.demands.specs.Leaves.{ofLine, others, answered, stackless, li
 use Rattle.demands.proofs.Ways.{Typing}
 use Rattle.demands.proofs.Places.{Laid, ends, laid, good-laid, laid-program}
 use Rattle.demands.proofs.Storing.{stored-storable}
-
--- what a call past its first refusals has
-pub record Accepted (x : Lent) : Type 0 where
-  pub inRange : inRange x ≡ true
-  pub good : isGood limit (x .page) ≡ true
-  pub fit : fits (x .page) (x .session) ≡ true
-
-pub accepted-of : (x : Lent) → firstRefusal limit x ≡ 0 → Accepted x
-unfolding firstRefusal
-accepted-of x h = by (inRange x) refl (isGood limit (x .page)) refl (fits (x .page) (x .session)) refl h where
-  by : (a : Bool) → inRange x ≡ a → (b : Bool) → isGood limit (x .page) ≡ b → (c : Bool) → fits (x .page) (x .session) ≡ c
-      → _≡_ {A = ℕ} (if not a then 1 else if not b then 18 else if not c then 19 else 0) 0 → Accepted x
-  by true p true q true r e = record { inRange = p; good = q; fit = r }
-  by false p b q c r e = absurd (omega arith)
-  by true p false q c r e = absurd (omega arith)
-  by true p true q false r e = absurd (omega arith)
-
-pub accepted-is : {x : Lent} → Accepted x → firstRefusal limit x ≡ 0
-unfolding firstRefusal
-accepted-is s = rw (s .inRange, s .good, s .fit)
+use Rattle.demands.proofs.Accepted.{accepted-of}
 
 -- what a line that was read does
 pub line-read : (x : Lent) (g : Gathered) (y : Typed) → Typing limit x g → typed (g .line .bytes) ≡ some y
@@ -194,7 +175,7 @@ pub record Deletes (x : Lent) (n : ℕ) (o : Outcome) : Type 0 where
 
 module _ (x : Lent) (g : Gathered) (h : Typing limit x g) where
   on-page : Laid limit (x .page) 0 0 (recordsOf (x .page))
-  on-page = good-laid limit (x .page) (omega arith) (accepted-of x (h .sound) .good)
+  on-page = good-laid limit (x .page) (omega arith) (accepted-of limit x (h .sound) .good)
 
   pub program : Program limit 0 (recordsOf (x .page))
   program = laid-program on-page

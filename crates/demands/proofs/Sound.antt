@@ -16,6 +16,7 @@ use Rattle.demands.specs.Sound.{Sized, Sound, Stands}
 use Rattle.demands.proofs.Effects.{widen}
 use Rattle.demands.proofs.Budget.{stopNumbers}
 use Rattle.demands.proofs.Ways.{Takes, refused, noCR, overlong, unread, reads, every-line, Continues, refused′, continues, every-continue}
+use Rattle.demands.proofs.Accepted.{accepted-of}
 use Rattle.demands.proofs.Fits.{Fit, sound-fit, fit-sound}
 use Rattle.demands.proofs.Running.{Goings, runsOut, pauses, steps, run-goes}
 use Rattle.demands.proofs.Running.{stops as halts}
@@ -61,22 +62,15 @@ module _ (lim : ℕ) (e : Env) (short : lim ≤ 251) (good : isGood lim (e .page
       (λ h. paused-fit (goings-fit g) (pausedAt (r .at)) (goings-stands g (eqb-true (r .stop) 14 h))) (λ h. goings-fit g) in
       record { sound = fit-sound lim good left; number = widen goingNumbers obeyNumbers refl (r .stop) (goings-number g) }
 
-  pub settled : {o : ℕ → Outcome} → Obeyed lim e o → (k : ℕ) → Settled lim (o k)
+  pub settled : {v : World} {o : ℕ → Outcome} → Obeyed lim e v o → (k : ℕ) → Settled lim (o k)
   settled (stands {n = n} h f) k = record { sound = fit-sound lim good f; number = widen lineNumbers obeyNumbers refl n h }
   settled (edits {rs = rs} p n f) k =
       record { sound = fit-sound lim (onto-good (e .page) p) (cleared-fit f (placesOf (onto (e .page) rs)) n); number = refl }
-  settled (runs q w s f) k = run-settled k q w s f
+  settled (runs q w s f i j) k = run-settled k q w s f
 
 -- past the first refusals page and record are sound
 pub unrefused : (lim : ℕ) (x : Lent) → Sized (x .session) → firstRefusal lim x ≡ 0 → Sound lim (x .page) (x .session)
-unfolding firstRefusal
-unrefused lim x z h = by (inRange x) (isGood lim (x .page)) refl (fits (x .page) (x .session)) refl h where
-  by : (a b : Bool) → isGood lim (x .page) ≡ b → (c : Bool) → fits (x .page) (x .session) ≡ c
-      → _≡_ {A = ℕ} (if not a then 1 else if not b then 18 else if not c then 19 else 0) 0 → Sound lim (x .page) (x .session)
-  by false b i c j h = absurd (omega arith)
-  by true false i c j h = absurd (omega arith)
-  by true true i false j h = absurd (omega arith)
-  by true true i true j h = record { good = i; fitting = j; sized = z }
+unrefused lim x z h = let a = accepted-of lim x h in record { good = a .good; fitting = a .fit; sized = z }
 
 module _ (lim : ℕ) (short : lim ≤ 251) (x : Lent) (h : Sound lim (x .page) (x .session)) where
   abbrev Stays : Outcome → Type 0
@@ -94,7 +88,7 @@ module _ (lim : ℕ) (short : lim ≤ 251) (x : Lent) (h : Sound lim (x .page) (
 
   continue-sound : {o : Outcome} → Continues lim x o → Stays o
   continue-sound (refused′ e) = h
-  continue-sound (continues e) = settled lim (envOf lim x) short (h .good) (continue-ways lim x short (h .good) (sound-fit h)) (x .call .budget) .sound
+  continue-sound (continues e) = settled lim (envOf lim x) short (h .good) (continue-ways lim x short (h .good) (sound-fit h) e) (x .call .budget) .sound
 
   pub sound-within : Stays (takeLineIn lim x) × Stays (continueRunIn lim x)
   sound-within = (take-sound (every-line lim x), continue-sound (every-continue lim x))
