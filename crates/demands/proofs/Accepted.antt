@@ -1,16 +1,17 @@
 -- What a call past its first refusals has. Assumes nothing.
-use Prim.Native.Nat.{ℕ, zero, _≤_}
+use Prim.Native.Nat.{ℕ, _≤_}
 use mathlib.Core.Path.{_≡_, refl}
-use mathlib.Core.Bool.{Bool, true, false, not, _&&_}
+use mathlib.Core.Bool.{Bool, true, false, not}
 use native.Mathlib.Omega.{arith}
 use lib.ListN.{length}
 use lib.Dec.{leb}
 use borrow.Author.Tests.{leb-true, le-leb}
 use Rattle.nibl.specs.Bytes.{if_then_else_}
 use Rattle.nibl.specs.Page.{isGood, fits}
-use Rattle.nibl.specs.Calls.{Lent, inRange, firstRefusal}
+use Rattle.nibl.specs.Calls.{Lent, inRange, firstRefusal, obeyLine, takeLineIn, continueFrom, continueRunIn}
 use Rattle.page.proofs.Program.{both}
 use Rattle.demands.specs.Sound.{budgeted}
+use Rattle.demands.proofs.Ways.{lineOf}
 
 pub record Accepted (lim : ℕ) (x : Lent) : Type 0 where
   pub inRange : inRange x ≡ true
@@ -71,3 +72,12 @@ accepted-less lim x k l h e =
         least = r .least; most = r .most; memory = r .memory; input = r .input; output = r .output; inpos = r .inpos; outpos = r .outpos;
         budget = omega arith } in
     accepted-is (record { inRange = ranges-is less; good = a .good; fit = a .fit })
+
+-- it does what its line does, or what its pause says
+pub take-at : (lim : ℕ) (x : Lent) → firstRefusal lim x ≡ 0 → takeLineIn lim x ≡ obeyLine lim x (lineOf lim x)
+unfolding takeLineIn
+take-at lim x h = rw (h, takeLineIn)
+
+pub continue-at : (lim : ℕ) (x : Lent) → firstRefusal lim x ≡ 0 → continueRunIn lim x ≡ continueFrom lim x (x .session .paused)
+unfolding continueRunIn
+continue-at lim x h = rw (h, continueRunIn)

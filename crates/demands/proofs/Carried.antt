@@ -1,13 +1,13 @@
 -- What a run carries on to a call that continues it: positions in range, and no pause of its own. Assumes nothing.
 use Prim.Native.Nat.{ℕ, suc, _+_, _≤_}
-use mathlib.Core.Path.{_≡_, refl}
+use mathlib.Core.Path.{_≡_}
 use mathlib.Core.List.{List}
 use mathlib.Core.Option.{some}
 use native.Mathlib.Omega.{arith}
 use lib.ListN.{length, drop, length-drop}
 use lib.Seq.{length-sets}
 use Rattle.nibl.specs.Typing.{Gathered, gather}
-use Rattle.nibl.specs.Meaning.{World, Env, Done, done, on, skip, go, stop, withSession, withOutput, withInpos, exec}
+use Rattle.nibl.specs.Meaning.{World, Env, Done, done, on, skip, go, stop, withSession, exec}
 use Rattle.nibl.specs.Calls.{Ran, runFrom, envAt, onward}
 use Rattle.nibl.specs.declared.Session.{Session}
 use Rattle.nibl.specs.declared.Paused.the-variants.{Nowhere}

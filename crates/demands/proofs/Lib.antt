@@ -21,3 +21,4 @@ pub mod Listing
 pub mod Held
 pub mod Outside
 pub mod LastStep
+pub mod Resumed

@@ -33,7 +33,7 @@ data LastIs (l : ℕ) : List ℕ → Type 0 where
   here : LastIs l (l ∷ [])
   later : {m : ℕ} {ls : List ℕ} → LastIs l ls → LastIs l (m ∷ ls)
 
-silent : (n : ℕ) (ls : List ℕ) → (eqb n 0 || eqb n 14) ≡ true → stopAt n ls ≡ stopLine.NoLine
+pub silent : (n : ℕ) (ls : List ℕ) → (eqb n 0 || eqb n 14) ≡ true → stopAt n ls ≡ stopLine.NoLine
 silent n [] h = refl
 silent n (l ∷ []) h = rw h
 silent n (l ∷ m ∷ ls) h = silent n (m ∷ ls) h

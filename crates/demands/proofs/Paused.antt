@@ -1,22 +1,20 @@
 -- "14 exactly when the budget is spent and a statement is left to run"; "past the last line it is 0 at any budget". Assumes nothing.
 use Prim.Native.Nat.{ℕ, suc, _≤_}
 use mathlib.Core.Path.{_≡_, refl, sym, ap, _∙_}
-use mathlib.Core.Bool.{Bool, true, false, not, _&&_, false≢true}
+use mathlib.Core.Bool.{Bool, true, false, false≢true}
 use mathlib.Core.List.{List, _++_}
 use mathlib.Core.Logic.{_↔_}
 use mathlib.Core.Option.{Option, none, some}
 use native.Mathlib.Numerals.{add-one}
 use native.Mathlib.Omega.{arith}
 use lib.ListN.{length, length-append}
-use lib.Dec.{leb, eqb}
-use borrow.Author.Tests.{eqb-true, eq-eqb, leb-true, le-leb}
-use Rattle.nibl.specs.Bytes.{if_then_else_}
+use lib.Dec.{eqb}
+use borrow.Author.Tests.{eqb-true, eq-eqb}
 use Rattle.nibl.specs.Tree.{Typed}
 use Rattle.nibl.specs.Read.{typed}
 use Rattle.nibl.specs.Typing.{Gathered}
-use Rattle.nibl.specs.Page.{isGood, fits}
 use Rattle.nibl.specs.Meaning.{World, Env}
-use Rattle.nibl.specs.Calls.{Lent, Outcome, Ran, ran, textFrom, runFrom, stops, inRange, firstRefusal, begun, envOf, obeyRead, obeyLine, takeLine, takeLineIn, continueFrom, continueRun, continueRunIn, limit}
+use Rattle.nibl.specs.Calls.{Lent, Outcome, Ran, ran, textFrom, runFrom, stops, firstRefusal, begun, envOf, obeyRead, obeyLine, takeLine, takeLineIn, continueRun, continueRunIn, limit}
 use Rattle.page.proofs.Walk.{by-cases}
 use Rattle.demands.specs.Sound.{Sized, Sound, Stands, budgeted}
 use Rattle.demands.proofs.Runs.{run-none, run-suc}
@@ -27,7 +25,7 @@ use Rattle.demands.proofs.Fits.{sound-fit, fit-sound}
 use Rattle.demands.proofs.Running.{Goings, runsOut, pauses, steps, run-goes}
 use Rattle.demands.proofs.Running.{stops as halts}
 use Rattle.demands.proofs.Obeys.{Obeyed, stands, edits, runs, read-ways, continue-ways}
-use Rattle.demands.proofs.Accepted.{accepted-less}
+use Rattle.demands.proofs.Accepted.{accepted-less, take-at, continue-at}
 use Rattle.demands.proofs.Sound.{unrefused}
 
 pub past-the-last-line : (e : Env) (q : ℕ) (w : World) → textFrom (e .page) q ≡ none → (k : ℕ) → runFrom k e q w ≡ ran 0 q w
@@ -105,20 +103,12 @@ module _ (lim : ℕ) (short : lim ≤ 251) (x : Lent) (h : Sound lim (x .page) (
     by false l = read-pauses g (record { sound = z; line = e; short = l }) (typed (g .line .bytes)) refl
 
 module _ (lim : ℕ) (short : lim ≤ 251) (x : Lent) (sized : Sized (x .session)) (k : ℕ) (z : firstRefusal lim (budgeted (suc k) x) ≡ 0) where
-  take-at : (n : ℕ) → firstRefusal lim (budgeted n x) ≡ 0 → takeLineIn lim (budgeted n x) ≡ obeyLine lim (budgeted n x) (lineOf lim x)
-  unfolding takeLineIn
-  take-at n i = rw (i, takeLineIn)
-
-  continue-at : (n : ℕ) → firstRefusal lim (budgeted n x) ≡ 0 → continueRunIn lim (budgeted n x) ≡ continueFrom lim (budgeted n x) (x .session .paused)
-  unfolding continueRunIn
-  continue-at n i = rw (i, continueRunIn)
-
   pub pauses-within : Pausing k (λ n. takeLineIn lim (budgeted n x)) × Pausing k (λ n. continueRunIn lim (budgeted n x))
   pauses-within =
       let y = accepted-less lim x k (suc k) (omega arith) z in
       let h = unrefused lim (budgeted k x) sized y in (
-        rw (take-at k y, take-at (suc k) z) (line-pauses lim short (budgeted k x) h k y (lineOf lim x) refl),
-        rw (continue-at k y, continue-at (suc k) z) (obeyed-pauses lim short (budgeted k x) h k (continue-ways lim (budgeted k x) short (h .good) (sound-fit h) y)),
+        rw (take-at lim (budgeted k x) y, take-at lim (budgeted (suc k) x) z) (line-pauses lim short (budgeted k x) h k y (lineOf lim x) refl),
+        rw (continue-at lim (budgeted k x) y, continue-at lim (budgeted (suc k) x) z) (obeyed-pauses lim short (budgeted k x) h k (continue-ways lim (budgeted k x) short (h .good) (sound-fit h) y)),
       )
 
 -- a call answers 14 exactly when its steps are the budget, and with one more in the budget they would be one more

@@ -1,15 +1,14 @@
 -- "Sound stays sound": a good page with a fitting record leads to a good page with a fitting record, every call, every stop. Assumes nothing.
 use Prim.Native.Nat.{ℕ, _≤_}
 use mathlib.Core.Path.{_≡_, refl}
-use mathlib.Core.Bool.{Bool, true, false, not, false≢true}
+use mathlib.Core.Bool.{true, false≢true}
 use mathlib.Core.List.{List, _∷_}
 use native.Mathlib.Omega.{arith}
 use lib.Dec.{eqb}
 use borrow.Author.Tests.{eqb-true}
-use Rattle.nibl.specs.Bytes.{if_then_else_}
-use Rattle.nibl.specs.Page.{isAmong, isGood, fits, placesOf, onto}
+use Rattle.nibl.specs.Page.{isAmong, isGood, placesOf, onto}
 use Rattle.nibl.specs.Meaning.{World, Env}
-use Rattle.nibl.specs.Calls.{Lent, Outcome, Ran, runFrom, ended, stops, inRange, firstRefusal, pausedAt, takeLine, takeLineIn, continueRun, continueRunIn, begun, envOf, limit}
+use Rattle.nibl.specs.Calls.{Lent, Outcome, Ran, runFrom, ended, stops, firstRefusal, pausedAt, takeLine, takeLineIn, continueRun, continueRunIn, begun, envOf, limit}
 use Rattle.nibl.proofs.Words.{if-split}
 use Rattle.page.proofs.Changes.{onto-good}
 use Rattle.demands.specs.Sound.{Sized, Sound, Stands}
@@ -23,13 +22,13 @@ use Rattle.demands.proofs.Running.{stops as halts}
 use Rattle.demands.proofs.Obeys.{lineNumbers, Obeyed, stands, edits, runs, paused-fit, cleared-fit, begun-fit, read-ways, continue-ways}
 
 -- What a run leaves
-goings-fit : {page : List ℕ} {k : ℕ} {r : Ran} → Goings page k r → Fit (placesOf page) (r .world .session)
+pub goings-fit : {page : List ℕ} {k : ℕ} {r : Ran} → Goings page k r → Fit (placesOf page) (r .world .session)
 goings-fit (runsOut h f) = f
 goings-fit (pauses h r s f) = f
 goings-fit (halts h n f) = f
 goings-fit (steps p h g) = goings-fit g
 
-goings-stands : {page : List ℕ} {k : ℕ} {r : Ran} → Goings page k r → r .stop ≡ 14 → Stands page (r .at)
+pub goings-stands : {page : List ℕ} {k : ℕ} {r : Ran} → Goings page k r → r .stop ≡ 14 → Stands page (r .at)
 goings-stands (runsOut h f) e = absurd (omega arith)
 goings-stands (pauses h r s f) e = s
 goings-stands (halts h m f) e = absurd (false≢true (rw e at m))
@@ -54,7 +53,7 @@ pub record Settled (lim : ℕ) (o : Outcome) : Type 0 where
   pub number : isAmong obeyNumbers (o .answer .stop) ≡ true
 
 module _ (lim : ℕ) (e : Env) (short : lim ≤ 251) (good : isGood lim (e .page) ≡ true) where
-  run-settled : (k q : ℕ) (w : World) → Stands (e .page) q → Fit (placesOf (e .page)) (w .session) → Settled lim (ended (runFrom k e q w) (e .page))
+  pub run-settled : (k q : ℕ) (w : World) → Stands (e .page) q → Fit (placesOf (e .page)) (w .session) → Settled lim (ended (runFrom k e q w) (e .page))
   run-settled k q w s f =
       let r : Ran = runFrom k e q w in
       let g = run-goes lim e short good k q w s f in

@@ -1,15 +1,17 @@
 -- What the sentences on sound calls speak of: a good page with a fitting record, where a run may stand, the record that a place lies in,
--- the line that an answer shows, and a call with another budget.
+-- the line that an answer shows, a call with another budget, and a run in several calls.
 use Prim.Native.Nat.{ℕ, _+_, _≤_, _<_}
 use mathlib.Core.Path.{_≡_}
-use mathlib.Core.Bool.{true}
-use mathlib.Core.List.{List}
+use mathlib.Core.Bool.{true, false}
+use mathlib.Core.List.{List, [], _∷_}
 use mathlib.Core.Logic.{_⊎_}
 use mathlib.Core.Option.{some}
 use lib.ListN.{length, drop}
+use lib.Dec.{eqb}
 use Rattle.nibl.specs.Page.{lengthAt, isGood, isAmong, find, lineOf, placesOf, fitsPaused, fits}
 use Rattle.nibl.specs.Meaning.{World}
-use Rattle.nibl.specs.Calls.{Lent, Outcome, Ran, runFrom, pausedAt, ended, envOf}
+use Rattle.nibl.specs.Calls.{Lent, Outcome, Ran, runFrom, pausedAt, ended, envOf, continueRun}
+use Rattle.demands.specs.Listing.{lentNext}
 use Rattle.nibl.specs.declared.Session.{Session}
 use Rattle.nibl.specs.declared.StopLine.{StopLine}
 use Rattle.nibl.specs.declared.StopLine.the-variants as stopLine
@@ -62,3 +64,30 @@ budgeted k x =
       output = x .output;
       call = record { inpos = x .call .inpos; outpos = x .call .outpos; sense = x .call .sense; budget = k };
     }
+
+-- a call that paused, and the one that continued it, as one
+abbrev pub resumed : Outcome → Outcome → Outcome
+resumed o c =
+    record {
+      answer = record {
+        stop = c .answer .stop;
+        line = c .answer .line;
+        steps = o .answer .steps + c .answer .steps;
+        inpos = c .answer .inpos;
+        outpos = c .answer .outpos;
+      };
+      session = c .session;
+      page = c .page;
+      memory = c .memory;
+      output = c .output;
+    }
+
+-- after o, while it is paused, a continue with each budget of a list in turn, on all that was left and the rest of what x lent
+unfoldable pub continued : Lent → List ℕ → Outcome → Outcome
+continued x [] o = o
+continued x (b ∷ bs) o =
+    elim (eqb (o .answer .stop) 14) [ true ↦ continued x bs (resumed o (continueRun (budgeted b (lentNext x o)))) | false ↦ o ]
+
+abbrev pub total : List ℕ → ℕ
+total [] = 0
+total (b ∷ bs) = b + total bs
