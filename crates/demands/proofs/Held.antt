@@ -1,9 +1,8 @@
 -- "Fixed effects" of a statement: what a refusing one leaves, and that no stop clears the stacks. Assumes nothing.
-use Prim.Native.Nat.{ℕ, zero, suc, _+_, _-_, _≤_}
+use Prim.Native.Nat.{ℕ, suc, _+_, _-_, _≤_}
 use mathlib.Core.Path.{_≡_, refl, sym, ap, subst, _∙_}
-use mathlib.Core.Bool.{Bool, true, false, not, false≢true}
-use mathlib.Core.List.{List, [], _∷_, _++_, append-assoc}
-use mathlib.Core.Option.{Option, none, some}
+use mathlib.Core.Bool.{Bool, true, false, false≢true}
+use mathlib.Core.List.{List, [], _++_, append-assoc}
 use native.Mathlib.Omega.{arith}
 use lib.ListN.{length, take, drop, length-append}
 use lib.Seq.{sets, sets-eq, length-sets, take-at, take-take, drop-append-add, drop-drop, length-take-le}
@@ -12,16 +11,15 @@ use borrow.Author.Tests.{eqb-true}
 use Rattle.nibl.specs.Bytes.{if_then_else_}
 use Rattle.nibl.specs.Tree.{Stmt}
 use Rattle.nibl.specs.Stack.{popOf}
-use Rattle.nibl.specs.Typing.{Gathered, gather}
 use Rattle.nibl.specs.Page.{Stored, isAmong, mark}
-use Rattle.nibl.specs.Meaning.{World, Env, Next, on, skip, go, stop, Done, done, withVar, withGosubs, withSession, withInpos, withOutput, after, exec}
+use Rattle.nibl.specs.Meaning.{World, Env, on, skip, go, stop, Done, done, withGosubs, withSession, exec}
 use Rattle.nibl.specs.Calls.{Ran, envAt, runFrom, listFrom}
 use Rattle.nibl.specs.Calls.{onward as onwards}
 use Rattle.nibl.specs.declared.Place.{Place}
 use Rattle.nibl.specs.declared.Session.{Session}
 use Rattle.nibl.specs.declared.Top.the-variants as top
-use Rattle.demands.specs.Effects.{refusals, forVars, Gives, gave, refused, gives, Does, writes, takes, refuses, passes, skips, assigns, assignsFlags, stores, goesTo, saves, returns, loops, repeats, leaves, begins, again, finishes, inputs}
-use Rattle.demands.specs.Asks.{asks, inputVars, GivenIn, stay, give}
+use Rattle.demands.specs.Effects.{refusals, Gives, gave, refused, gives, Does, writes, takes, refuses, passes, skips, assigns, assignsFlags, stores, goesTo, saves, returns, loops, repeats, leaves, begins, again, finishes, inputs}
+use Rattle.demands.specs.Asks.{inputVars}
 use Rattle.demands.specs.Leaves.{Items, noItem, item, Lines, noLine, line, SameButVars, Refused, Returned, Grown}
 use Rattle.demands.proofs.Effects.{exec-does, list-does}
 use Rattle.demands.proofs.Runs.{endOf, crOf, every-run}

@@ -3,22 +3,21 @@ use Prim.Native.Nat.{ℕ, zero, suc, _+_, _-_, _≤_}
 use mathlib.Core.Path.{_≡_, refl, sym, ap, subst, _∙_}
 use mathlib.Core.Bool.{Bool, true, false, _||_, false≢true, true≢false}
 use mathlib.Core.List.{List, [], _∷_}
-use mathlib.Core.Option.{Option, none, some}
+use mathlib.Core.Option.{some}
 use native.Mathlib.Omega.{arith}
-use lib.ListN.{length, drop}
+use lib.ListN.{length}
 use lib.Dec.{leb, eqb}
 use borrow.Author.Tests.{eq-eqb, eqb-true, eqb-false, leb-true, leb-false, le-leb}
 use Rattle.page.proofs.Walk.{by-cases}
 use Rattle.page.proofs.Program.{both}
-use Rattle.nibl.specs.Bytes.{if_then_else_}
-use Rattle.nibl.specs.Tree.{Stmt, Member, Typed, blank, new, clear, run, delete, list, store, immediate}
-use Rattle.nibl.specs.Read.{Found, nothing, found, member, typed}
+use Rattle.nibl.specs.Tree.{Member, Typed, blank, new, clear, run, delete, list, store, immediate}
+use Rattle.nibl.specs.Read.{Found, found, member, typed}
 use Rattle.nibl.specs.Page.{lineOf, Stored, recordsOf, usedBy, hasLine, with, without}
-use Rattle.nibl.specs.Meaning.{World, Env, Next, on, skip, go, stop, Done, done, exec}
-use Rattle.nibl.specs.Calls.{Lent, Outcome, Ran, ran, stepped, textFrom, lineFrom, envAt, onward, step, runFrom, stopAt, pausedAt, ended, stops, inRange, firstRefusal, begun, envOf, edited, listFrom, immediately, needsProgram, obey, takeLine, continueFrom, continueRun, continueRunIn, limit}
+use Rattle.nibl.specs.Meaning.{World, Env, on, skip, go, stop, Done, done, exec}
+use Rattle.nibl.specs.Calls.{Lent, Outcome, Ran, stepped, textFrom, lineFrom, envAt, onward, step, runFrom, stopAt, pausedAt, ended, stops, inRange, firstRefusal, begun, envOf, edited, listFrom, immediately, needsProgram, obey, takeLine, continueFrom, continueRun, continueRunIn, limit}
 use Rattle.nibl.specs.declared.StopLine.{StopLine}
 use Rattle.nibl.specs.declared.StopLine.the-variants as stopLine
-use Rattle.nibl.specs.Typing.{Kept, Gathered, gather}
+use Rattle.nibl.specs.Typing.{Gathered}
 use Rattle.nibl.specs.Readings.{LineReading}
 use Rattle.nibl.proofs.Whole.{typed-complete}
 use Rattle.nibl.specs.declared.LineNumber.{LineNumber}
@@ -260,19 +259,23 @@ module _ (e : Env) (k q : ℕ) (u : World) (call : ℕ → Outcome) (same : (b :
 
 -- a sound call is sound with a smaller budget
 less-sound : (x : Lent) (k : ℕ) → k ≤ x .call .budget → firstRefusal limit x ≡ 0 → firstRefusal limit (budgeted k x) ≡ 0
-less-sound x k l h = accepted-is (record { inRange = by (s .inRange); good = s .good; fit = s .fit }) where
-  s : Accepted x
-  s = accepted-of x h
-  by : inRange x ≡ true → inRange (budgeted k x) ≡ true
-  by h =
-      let a = both (leb 2 (length (x .page))) _ h in
-      let b = both (leb (length (x .page)) 4096) _ (a .1) in
-      let c = both (leb (length (x .memory)) 4096) _ (b .1) in
-      let d = both (leb (length (x .input)) 65535) _ (c .1) in
-      let e = both (leb (length (x .output)) 65535) _ (d .1) in
-      let f = both (leb (x .call .inpos) (length (x .input))) _ (e .1) in
-      let g = both (leb (x .call .outpos) (length (x .output))) _ (f .1) in
-      rw (a .0, b .0, c .0, d .0, e .0, f .0, g .0) (le-leb k 65535 (omega (arith, leb-true (x .call .budget) 65535 (g .1))))
+less-sound x k l h =
+    let a = accepted-of x h in
+    let r = a .range in
+    accepted-is (record {
+      range = record {
+        some = r .some;
+        page = r .page;
+        memory = r .memory;
+        input = r .input;
+        output = r .output;
+        inpos = r .inpos;
+        outpos = r .outpos;
+        budget = omega (arith, r .budget);
+      };
+      good = a .good;
+      fit = a .fit;
+    })
 
 no-line-at : {s : StopLine} {l : LineNumber} → s ≡ stopLine.NoLine → s ≡ stopLine.At l → ⊥
 no-line-at p q = let z : _≡_ {A = ℕ} 0 1 = cc in omega arith

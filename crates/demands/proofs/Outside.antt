@@ -1,29 +1,25 @@
 -- "Fixed effects" on what lies outside: the page after its end mark, the lengths of what is lent; and "One outcome". Assumes nothing.
-use Prim.Native.Nat.{ℕ, zero, suc, _+_, _-_, _≤_}
-use mathlib.Core.Path.{_≡_, refl, sym, ap, _∙_}
-use mathlib.Core.Bool.{Bool, true, false, false≢true, true≢false}
-use mathlib.Core.List.{List, [], _∷_}
-use mathlib.Core.Option.{Option, none, some}
+use Prim.Native.Nat.{ℕ, suc, _-_}
+use mathlib.Core.Path.{_≡_, refl, ap}
+use mathlib.Core.Bool.{Bool, true, false, true≢false}
+use mathlib.Core.List.{List, []}
 use native.Mathlib.Omega.{arith}
-use lib.ListN.{length, drop}
+use lib.ListN.{length}
 use lib.Dec.{leb, eqb}
 use borrow.Author.Tests.{leb-true}
 use Rattle.nibl.specs.Bytes.{if_then_else_}
-use Rattle.nibl.specs.Tree.{Stmt, Typed, blank, new, clear, run, delete, list, store, immediate}
-use Rattle.nibl.specs.Read.{typed}
+use Rattle.nibl.specs.Tree.{Typed, blank, new, clear, run, delete, list, store, immediate}
 use Rattle.nibl.specs.Readings.{LineReading}
-use Rattle.nibl.specs.Typing.{Kept, Gathered, gather}
-use Rattle.nibl.specs.Page.{Stored, recordsOf, programBytes, usedBy, used, hasLine, with, without, onto}
-use Rattle.nibl.specs.Meaning.{World, Env, Next, on, skip, go, stop, Done, done, withSession, exec}
-use Rattle.nibl.specs.Calls.{Lent, Outcome, Ran, runFrom, pausing, outcome, ended, stops, worldOf, begun, envOf, clearStacks, edited, listFrom, immediately, needsProgram, obey, takeLine, continueFrom, continueRun, limit}
+use Rattle.nibl.specs.Typing.{Gathered}
+use Rattle.nibl.specs.Page.{Stored, recordsOf, programBytes, hasLine, with, without, onto}
+use Rattle.nibl.specs.Meaning.{World, Env, on, skip, go, stop, Done, done, withSession, exec}
+use Rattle.nibl.specs.Calls.{Lent, Outcome, runFrom, outcome, ended, stops, worldOf, begun, envOf, clearStacks, edited, listFrom, immediately, needsProgram, obey, takeLine, continueFrom, continueRun, limit}
 use Rattle.nibl.specs.declared.Paused.{Paused}
 use Rattle.nibl.specs.declared.Paused.the-variants.{Nowhere, Start, At}
 use Rattle.nibl.specs.declared.Session.{Session}
 use Rattle.nibl.specs.declared.StopLine.{StopLine}
 use Rattle.nibl.proofs.Determined.{determined}
 use Rattle.nibl.proofs.Lines.{typed-sound}
-use Rattle.nibl.proofs.Whole.{typed-complete}
-use Rattle.page.proofs.Walk.{by-cases}
 use Rattle.page.proofs.Program.{Program, none as no-record, program-length}
 use Rattle.page.proofs.Changes.{with-program, without-program}
 use Rattle.demands.specs.Effects.{Does}
@@ -31,7 +27,7 @@ use Rattle.demands.specs.Leaves.{PageHeld, isEdit}
 use Rattle.demands.proofs.Effects.{exec-does, list-does}
 use Rattle.demands.proofs.Ways.{Typing, Takes, refused, noCR, overlong, unread, reads, every-line, Continues, refused′, continues, every-continue}
 use Rattle.demands.proofs.Storing.{stored-storable}
-use Rattle.demands.proofs.Retyping.{program, line-short,  onto-length, onto-after, onto-used}
+use Rattle.demands.proofs.Retyping.{program, line-short, onto-length, onto-after, onto-used}
 use Rattle.demands.proofs.Held.{SameLengths, worldAfter, does-lengths, then-lengths, run-lengths}
 
 -- The page

@@ -1,21 +1,21 @@
 -- "Retyping replaces". Assumes nothing.
-use Prim.Native.Nat.{ℕ, zero, suc, _+_, _-_, _≤_, _<_}
-use mathlib.Core.Path.{_≡_, refl, sym, ap, subst, _∙_}
-use mathlib.Core.Bool.{Bool, true, false, not, _&&_, _||_, false≢true, true≢false}
-use mathlib.Core.List.{List, [], _∷_, _++_}
+use Prim.Native.Nat.{ℕ, suc, _+_, _-_, _≤_, _<_}
+use mathlib.Core.Path.{_≡_, refl, sym, ap, _∙_}
+use mathlib.Core.Bool.{Bool, true, false, not, _||_, false≢true, true≢false}
+use mathlib.Core.List.{List, [], _∷_}
 use mathlib.Core.Option.{some}
 use native.Mathlib.Omega.{arith}
 use lib.ListN.{length, drop, length-append, length-drop}
 use lib.Seq.{drop-append-seam}
 use lib.Dec.{ltb, leb, eqb}
-use borrow.Author.Tests.{ltb-true, ltb-false, leb-true, eqb-true, eqb-false, lt-ltb, le-ltb, le-leb, lt-leb, eq-eqb, ne-eqb}
+use borrow.Author.Tests.{ltb-true, leb-true, eqb-true, eqb-false, le-leb, lt-leb, eq-eqb, ne-eqb}
 use Rattle.nibl.specs.Bytes.{if_then_else_}
-use Rattle.nibl.specs.Tree.{Member, Typed, delete, store}
+use Rattle.nibl.specs.Tree.{Member, Typed, new, delete, store}
 use Rattle.nibl.specs.Read.{typed}
 use Rattle.nibl.specs.Readings.{LineReading}
-use Rattle.nibl.specs.Typing.{Kept, Gathered, gather}
+use Rattle.nibl.specs.Typing.{Gathered}
 use Rattle.nibl.specs.Page.{Stored, programBytes, isEnd, isGood, fits, recordsOf, size, used, usedBy, hasLine, with, without, onto}
-use Rattle.nibl.specs.Calls.{Lent, Outcome, stops, inRange, firstRefusal, worldOf, begun, envOf, clearStacks, edited, obey, obeyLine, obeyRead, takeLine, takeLineIn, limit}
+use Rattle.nibl.specs.Calls.{Lent, Outcome, stops, inRange, firstRefusal, begun, envOf, clearStacks, edited, obey, takeLine, takeLineIn, limit}
 use Rattle.nibl.specs.Meaning.{World, withSession}
 use Rattle.nibl.proofs.Whole.{typed-complete}
 use Rattle.letter.proofs.Typed.{taken}
@@ -27,9 +27,45 @@ use Rattle.demands.proofs.Ways.{Typing}
 use Rattle.demands.proofs.Places.{Laid, ends, laid, good-laid, laid-program}
 use Rattle.demands.proofs.Storing.{stored-storable}
 
--- what a call past its first refusals has
+-- What a call past its first refusals has
+pub record InRange (x : Lent) : Type 0 where
+  pub some : 2 ≤ length (x .page)
+  pub page : length (x .page) ≤ 4096
+  pub memory : length (x .memory) ≤ 4096
+  pub input : length (x .input) ≤ 65535
+  pub output : length (x .output) ≤ 65535
+  pub inpos : x .call .inpos ≤ length (x .input)
+  pub outpos : x .call .outpos ≤ length (x .output)
+  pub budget : x .call .budget ≤ 65535
+
+pub in-range-of : (x : Lent) → inRange x ≡ true → InRange x
+in-range-of x h =
+    let a = both (leb 2 (length (x .page))) _ h in
+    let b = both (leb (length (x .page)) 4096) _ (a .1) in
+    let c = both (leb (length (x .memory)) 4096) _ (b .1) in
+    let d = both (leb (length (x .input)) 65535) _ (c .1) in
+    let e = both (leb (length (x .output)) 65535) _ (d .1) in
+    let f = both (leb (x .call .inpos) (length (x .input))) _ (e .1) in
+    let g = both (leb (x .call .outpos) (length (x .output))) _ (f .1) in
+    record {
+      some = leb-true _ _ (a .0);
+      page = leb-true _ _ (b .0);
+      memory = leb-true _ _ (c .0);
+      input = leb-true _ _ (d .0);
+      output = leb-true _ _ (e .0);
+      inpos = leb-true _ _ (f .0);
+      outpos = leb-true _ _ (g .0);
+      budget = leb-true _ _ (g .1);
+    }
+
+pub in-range-is : {x : Lent} → InRange x → inRange x ≡ true
+in-range-is {x = x} r =
+    rw (le-leb 2 (length (x .page)) (r .some), le-leb (length (x .page)) 4096 (r .page), le-leb (length (x .memory)) 4096 (r .memory),
+      le-leb (length (x .input)) 65535 (r .input), le-leb (length (x .output)) 65535 (r .output), le-leb (x .call .inpos) (length (x .input)) (r .inpos),
+      le-leb (x .call .outpos) (length (x .output)) (r .outpos), le-leb (x .call .budget) 65535 (r .budget))
+
 pub record Accepted (x : Lent) : Type 0 where
-  pub inRange : inRange x ≡ true
+  pub range : InRange x
   pub good : isGood limit (x .page) ≡ true
   pub fit : fits (x .page) (x .session) ≡ true
 
@@ -38,14 +74,14 @@ unfolding firstRefusal
 accepted-of x h = by (inRange x) refl (isGood limit (x .page)) refl (fits (x .page) (x .session)) refl h where
   by : (a : Bool) → inRange x ≡ a → (b : Bool) → isGood limit (x .page) ≡ b → (c : Bool) → fits (x .page) (x .session) ≡ c
       → _≡_ {A = ℕ} (if not a then 1 else if not b then 18 else if not c then 19 else 0) 0 → Accepted x
-  by true p true q true r e = record { inRange = p; good = q; fit = r }
+  by true p true q true r e = record { range = in-range-of x p; good = q; fit = r }
   by false p b q c r e = absurd (omega arith)
   by true p false q c r e = absurd (omega arith)
   by true p true q false r e = absurd (omega arith)
 
 pub accepted-is : {x : Lent} → Accepted x → firstRefusal limit x ≡ 0
 unfolding firstRefusal
-accepted-is s = rw (s .inRange, s .good, s .fit)
+accepted-is s = rw (in-range-is (s .range), s .good, s .fit)
 
 -- what a line that was read does
 pub line-read : (x : Lent) (g : Gathered) (y : Typed) → Typing limit x g → typed (g .line .bytes) ≡ some y
@@ -228,6 +264,14 @@ module _ (x : Lent) (g : Gathered) (h : Typing limit x g) where
     -- "No room: 2, page and stacks kept"
     pub no-room : length (x .page) < usedBy (others n (recordsOf (x .page))) + (length t + 4) → takeLine x ≡ lineTaken x 2 (g .taken)
     no-room full = stores ∙ edited-full (x .page) (begun x (g .taken)) (with q (recordsOf (x .page))) (omega (arith, with-is q program .room))
+
+  -- NEW
+  pub new-empties : LineReading (g .line .bytes) new → Edits x (g .taken) (takeLine x) × (recordsOf (takeLine x .page) ≡ [])
+  unfolding obey
+  new-empties r =
+      let o : takeLine x ≡ edited (x .page) (begun x (g .taken)) [] = line-read x g new h (typed-complete r) in
+      let f : 2 ≤ length (x .page) = accepted-of x (h .sound) .range .some in
+      rw o (edit-leaves x (g .taken) none f, rw (edited-fits (x .page) (begun x (g .taken)) [] f) (onto-records {lim = limit} (x .page) none))
 
   module _ (n : ℕ) (r : LineReading (g .line .bytes) (delete n)) where
     deletes : (b : Bool) → hasLine n (recordsOf (x .page)) ≡ b
