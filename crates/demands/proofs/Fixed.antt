@@ -91,8 +91,8 @@ pub run-named : (k : ℕ) (e : Env) (q : ℕ) (w : World) → stopAt (runFrom k 
 run-named k e q w =
     every-run e (λ k q w r. stopAt (r .stop) (r .lines) ≡ stopLine.NoLine → OneOf unsaid (r .stop)) (λ k q w h n. refl) (λ q w a h n. refl) (λ k q w a h g n. refl)
     (λ k q w a m s h g i n.
-      let r = onward (exec (envAt e (endOf e a m)) (m .statement) w) (endOf e a m) (crOf e a) (runFrom k e) in
-      named-step (r .stop) (record-line (e .page) (endOf e a m)) (r .lines) n) k q w
+    let r = onward (exec (envAt e (endOf e a m)) (m .statement) w) (endOf e a m) (crOf e a) (runFrom k e) in
+    named-step (r .stop) (record-line (e .page) (endOf e a m)) (r .lines) n) k q w
 
 -- "a typed line's 7": one with no line
 abbrev Silent : Outcome → Type 0
@@ -172,7 +172,7 @@ two-and-three-take-the-line x = take-two-three (every-line limit x)
 module _ (x : Lent) where
   take-five : {o : Outcome} → Takes limit x o
       → ((g : Gathered) (y : Typed) → Typing limit x g → LineReading (g .line .bytes) y
-        → obey (x .call .budget) (envOf limit x) (begun x (g .taken)) y .answer .stop ≡ 5 → ⊥)
+      → obey (x .call .budget) (envOf limit x) (begun x (g .taken)) y .answer .stop ≡ 5 → ⊥)
       → o .answer .stop ≡ 5 → TakesLine x 5 o
   take-five (refused {n} h) f i = absurd (apart (5 ∷ []) firstNumbers refl (suc n) (rw i refl) (first-numbers limit x (suc n) h))
   take-five (noCR z h) f i = absurd (omega arith)

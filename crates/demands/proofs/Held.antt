@@ -132,7 +132,7 @@ items-grow (item {out = out} {out' = out'} {at = at} {at' = at'} bs h r) =
       forward = omega (arith, g .forward);
       long = g .long ∙ length-sets out at bs;
       before =
-        sym (take-take at (at + length bs) out' m) ∙ ap (take at) (g .before) ∙ take-take at (at + length bs) (sets out at bs) m ∙ sets-before out at bs h;
+          sym (take-take at (at + length bs) out' m) ∙ ap (take at) (g .before) ∙ take-take at (at + length bs) (sets out at bs) m ∙ sets-before out at bs h;
       behind = g .behind ∙ sets-behind out at bs at' h (g .forward);
     }
 
@@ -189,4 +189,4 @@ run-lengths k e q w =
     every-run e (λ k q w r. SameLengths w (r .world)) (λ k q w h. record { memory = refl; output = refl }) (λ q w a h. record { memory = refl; output = refl })
     (λ k q w a h g. record { memory = refl; output = refl })
     (λ k q w a m s h g i. onward-lengths w (exec (envAt e (endOf e a m)) (m .statement) w) (endOf e a m) (crOf e a) (runFrom k e)
-      (does-lengths (exec-does (envAt e (endOf e a m)) (m .statement) w)) i) k q w
+    (does-lengths (exec-does (envAt e (endOf e a m)) (m .statement) w)) i) k q w

@@ -7,14 +7,13 @@ use mathlib.Core.Option.{some}
 use native.Mathlib.Omega.{arith}
 use lib.ListN.{length}
 use lib.Dec.{leb, eqb}
-use borrow.Author.Tests.{eq-eqb, eqb-true, eqb-false, leb-true, leb-false, le-leb}
+use borrow.Author.Tests.{eq-eqb, eqb-true, eqb-false, leb-true, leb-false}
 use Rattle.page.proofs.Walk.{by-cases}
-use Rattle.page.proofs.Program.{both}
 use Rattle.nibl.specs.Tree.{Member, Typed, blank, new, clear, run, delete, list, store, immediate}
 use Rattle.nibl.specs.Read.{Found, found, member, typed}
 use Rattle.nibl.specs.Page.{lineOf, Stored, recordsOf, usedBy, hasLine, with, without}
 use Rattle.nibl.specs.Meaning.{World, Env, on, skip, go, stop, Done, done, exec}
-use Rattle.nibl.specs.Calls.{Lent, Outcome, Ran, stepped, textFrom, lineFrom, envAt, onward, step, runFrom, stopAt, pausedAt, ended, stops, inRange, firstRefusal, begun, envOf, edited, listFrom, immediately, needsProgram, obey, takeLine, continueFrom, continueRun, continueRunIn, limit}
+use Rattle.nibl.specs.Calls.{Lent, Outcome, Ran, stepped, textFrom, lineFrom, envAt, onward, step, runFrom, stopAt, pausedAt, ended, stops, firstRefusal, begun, envOf, edited, listFrom, immediately, needsProgram, obey, takeLine, continueFrom, continueRun, continueRunIn, limit}
 use Rattle.nibl.specs.declared.StopLine.{StopLine}
 use Rattle.nibl.specs.declared.StopLine.the-variants as stopLine
 use Rattle.nibl.specs.Typing.{Gathered}
@@ -28,7 +27,7 @@ use Rattle.demands.specs.Leaves.{unpaused, Items, noItem, Lines, noLine,
 use Rattle.demands.specs.Sound.{Sized, budgeted}
 use Rattle.demands.proofs.Held.{refusing-statement, refusing-list}
 use Rattle.demands.proofs.Runs.{run-zero, run-suc, oneStep, endOf, crOf, every-run}
-use Rattle.demands.proofs.Retyping.{Accepted, accepted-of, accepted-is, edited-fits, edited-full, line-read}
+use Rattle.demands.proofs.Retyping.{accepted-of, accepted-is, edited-fits, edited-full, line-read}
 use Rattle.demands.proofs.Ways.{Typing, Takes, refused, noCR, overlong, unread, reads, every-line, Continues, refused′, continues, every-continue}
 use Rattle.demands.proofs.Budget.{steps-within}
 use Rattle.demands.proofs.Refusing.{needs-asks}
@@ -235,11 +234,11 @@ named-said : (n : ℕ) (ls : List ℕ) (l : LineNumber) → stopAt n ls ≡ stop
 named-said n ls l h f i =
     by-cases (eqb n 5) (λ e. f (eqb-true n 5 e))
     (λ e. let k = unnamed n ls (by (eqb n 0) (eqb n 5) (eqb n 14) e i) in let z : _≡_ {A = ℕ} 0 1 = cc in absurd (omega arith)) where
-  by : (a b c : Bool) → b ≡ false → (a || (b || (c || false))) ≡ true → (a || c) ≡ true
-  by true b c e i = refl
-  by false true c e i = absurd (true≢false e)
-  by false false true e i = refl
-  by false false false e i = i
+      by : (a b c : Bool) → b ≡ false → (a || (b || (c || false))) ≡ true → (a || c) ≡ true
+      by true b c e i = refl
+      by false true c e i = absurd (true≢false e)
+      by false false true e i = refl
+      by false false false e i = i
 
 -- a call that runs from q on, at any budget up to its own
 module _ (e : Env) (k q : ℕ) (u : World) (call : ℕ → Outcome) (same : (b : ℕ) → b ≤ k → call b ≡ ended (runFrom b e q u) (e .page)) where
@@ -247,8 +246,10 @@ module _ (e : Env) (k q : ℕ) (u : World) (call : ℕ → Outcome) (same : (b :
   less-by-one l h f = rw o (by (rw o at h) (λ z. f (rw o z))) where
     r : Ran
     r = runFrom k e q u
+
     o : call k ≡ ended (runFrom k e q u) (e .page)
     o = same k (omega arith)
+
     by : stopAt (runFrom k e q u .stop) (runFrom k e q u .lines) ≡ stopLine.At l → (runFrom k e q u .stop ≡ 5 → ⊥)
         → OneLess e (call (length (runFrom k e q u .lines) - 1)) (ended (runFrom k e q u) (e .page))
     by h f =
@@ -314,6 +315,7 @@ module _ (x : Lent) where
   continue-less e (continues h) l n m = rw e (by (x .session .paused) refl (rw e at n) (λ z. m (rw e z))) where
     k : ℕ
     k = x .call .budget
+
     by : (p : Paused) → x .session .paused ≡ p → continueRun x .answer .line ≡ stopLine.At l → (continueRun x .answer .stop ≡ 5 → ⊥) → Less continueRun (continueRun x)
     by Nowhere f n m = absurd (no-line-at (ap (λ o. o .answer .line) (continue-again Nowhere f h (x .call .budget) (omega arith))) n)
     by Start f n m = less-by-one env (x .call .budget) 0 (begun x 0) (λ b. continueRun (budgeted b x)) (λ b i. continue-again Start f h b i) l n m
@@ -353,8 +355,10 @@ pub refusing-line : (x : Lent) → Sized (x .session) → (g : Gathered) (y : Ty
 refusing-line x sized g y h r n ended′ paused = by (kind (envOf limit x) (begun x (g .taken)) y) where
   o : takeLine x ≡ obey (x .call .budget) (envOf limit x) (begun x (g .taken)) y
   o = line-read x g y h (typed-complete r)
+
   m : OneOf unsaid (takeLine x .answer .stop) → ⊥
   m i = of-unsaid (takeLine x .answer .stop) i ended′ (λ e. exactly-5 x g sized (h .sound) (h .line) (h .short) .0 e y r) paused
+
   by : Kind (envOf limit x) (begun x (g .taken)) y → RefusedLine x g (takeLine x)
   by (runs q u f) =
       let i = o ∙ f (x .call .budget) in

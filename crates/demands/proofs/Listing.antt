@@ -22,7 +22,7 @@ use Rattle.nibl.specs.Typing.{kept, Gathered, gather}
 use Rattle.nibl.specs.Values.{digits}
 use Rattle.nibl.specs.Page.{Stored, programBytes, hasReading, isStorable, recordsOf, usedBy, used, fits, placesOf, isAmong, mark, with, onto}
 use Rattle.nibl.specs.Meaning.{World, withSession, withOutput, on, done, put}
-use Rattle.nibl.specs.Calls.{Lent, Outcome, inRange, stops, firstRefusal, begun, envOf, listed, listFrom, immediately, edited, obey, takeLine, limit}
+use Rattle.nibl.specs.Calls.{Lent, Outcome, stops, firstRefusal, begun, envOf, listed, listFrom, immediately, edited, obey, takeLine, limit}
 use Rattle.nibl.specs.declared.Place.{Place}
 use Rattle.nibl.specs.declared.ForEntry.{ForEntry}
 use Rattle.nibl.specs.declared.Session.{Session}
@@ -268,10 +268,10 @@ module _ (m : Lent) (ds rs : List Stored) (r : Stored) (p : Program limit 0 (ds 
   line-stored : takeLine y ≡ stops 0 (withSession (begun y (g .taken)) (stackless (y .session))) (onto (m .page) more)
   unfolding obey
   line-stored = listed-read r storable (λ ms l.
-    line-read y g (store (r .line) (r .text) ms) typing (typed-complete l)
-    ∙ ap (λ (l : List Stored). edited (y .page) (begun y (g .taken)) l) (ap (with r) records ∙ last-with r ds rs p)
-    ∙ edited-fits (y .page) (begun y (g .taken)) more (omega (arith, more-room, long))
-    ∙ ap (λ (q : List ℕ). stops 0 (withSession (begun y (g .taken)) (stackless (y .session))) q)
+      line-read y g (store (r .line) (r .text) ms) typing (typed-complete l)
+      ∙ ap (λ (l : List Stored). edited (y .page) (begun y (g .taken)) l) (ap (with r) records ∙ last-with r ds rs p)
+      ∙ edited-fits (y .page) (begun y (g .taken)) more (omega (arith, more-room, long))
+      ∙ ap (λ (q : List ℕ). stops 0 (withSession (begun y (g .taken)) (stackless (y .session))) q)
       (ap (λ (q : List ℕ). onto q more) (t .page) ∙ onto-onto (m .page) ds more (used-front ds (r ∷ []))))
 
   inside : y .call .inpos + g .taken ≤ length (y .input)
@@ -401,4 +401,4 @@ list-gathered rest =
 pub list-read : LineReading (bytes "LIST") (list 0)
 list-read =
     aList (words.letters {cs = 83 ∷ 84 ∷ []} {s = []}
-      (record { some = refl; each = plain.each refl (plain.each refl (plain.each refl (plain.each refl plain.none))); longest = refl }) refl) plain.none
+    (record { some = refl; each = plain.each refl (plain.each refl (plain.each refl (plain.each refl plain.none))); longest = refl }) refl) plain.none

@@ -67,6 +67,7 @@ module _ (us : List ℕ) (b : Bool) where
   put-refuses bs w k f = by (leb (w .outpos + length bs) (length (w .output))) where
     u : World
     u = withOutput w (sets (w .output) (w .outpos) bs) (w .outpos + length bs)
+
     by : (c : Bool) → R (w .session .vars) (went (if c then done on u else done (stop 17) w) k)
     by true = f u refl
     by false = refuse 17 w refl
@@ -148,6 +149,7 @@ module _ (us : List ℕ) (b : Bool) where
     gathered-refuses w (some g) k f = by (g .line .long) where
       u : World
       u = withInpos w (w .inpos + g .taken)
+
       by : (c : Bool) → R (w .session .vars) (elim c [ true ↦ done (stop 6) u | false ↦ k u (g .line .bytes) ])
       by true = refuses six stay
       by false = f u (g .line .bytes) refl
@@ -157,7 +159,7 @@ module _ (us : List ℕ) (b : Bool) where
     unfolding asked
     asked-refuses e w k f =
         put-refuses (bytes "?") w _ (λ u h. again w u _ h (gathered-refuses u (gather (e .lim) (drop (u .inpos) (e .input))) k
-          (λ v bs g. again u w _ (sym h) (f v bs (g ∙ h)))))
+        (λ v bs g. again u w _ (sym h) (f v bs (g ∙ h)))))
 
 -- INPUT's variables
 given-first : {u : ℕ} {us : List ℕ} {b : Bool} {vars : List ℕ} {d : Done} (x : ℕ) → Refusing us b (set vars u x) d → Refusing (u ∷ us) b vars d

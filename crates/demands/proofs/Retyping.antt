@@ -60,9 +60,16 @@ in-range-of x h =
 
 pub in-range-is : {x : Lent} → InRange x → inRange x ≡ true
 in-range-is {x = x} r =
-    rw (le-leb 2 (length (x .page)) (r .some), le-leb (length (x .page)) 4096 (r .page), le-leb (length (x .memory)) 4096 (r .memory),
-      le-leb (length (x .input)) 65535 (r .input), le-leb (length (x .output)) 65535 (r .output), le-leb (x .call .inpos) (length (x .input)) (r .inpos),
-      le-leb (x .call .outpos) (length (x .output)) (r .outpos), le-leb (x .call .budget) 65535 (r .budget))
+    rw (
+      le-leb 2 (length (x .page)) (r .some),
+      le-leb (length (x .page)) 4096 (r .page),
+      le-leb (length (x .memory)) 4096 (r .memory),
+      le-leb (length (x .input)) 65535 (r .input),
+      le-leb (length (x .output)) 65535 (r .output),
+      le-leb (x .call .inpos) (length (x .input)) (r .inpos),
+      le-leb (x .call .outpos) (length (x .output)) (r .outpos),
+      le-leb (x .call .budget) 65535 (r .budget),
+    )
 
 pub record Accepted (x : Lent) : Type 0 where
   pub range : InRange x
@@ -258,7 +265,7 @@ module _ (x : Lent) (g : Gathered) (h : Typing limit x g) where
         rw stores (
           edit-leaves x (g .taken) p f,
           rw (edited-fits (x .page) (begun x (g .taken)) (with q (recordsOf (x .page))) f)
-          (record { one = rw (onto-records (x .page) p) (w .one); rest = rw (onto-records (x .page) p) (w .rest) }),
+              (record { one = rw (onto-records (x .page) p) (w .one); rest = rw (onto-records (x .page) p) (w .rest) }),
         )
 
     -- "No room: 2, page and stacks kept"
@@ -291,7 +298,7 @@ module _ (x : Lent) (g : Gathered) (h : Typing limit x g) where
           rw (deletes true e) (
             edit-leaves x (g .taken) p f,
             rw (edited-fits (x .page) (begun x (g .taken)) rs f)
-            (record { gone = rw (onto-records (x .page) p) (without-none n program); rest = rw (onto-records (x .page) p) o }),
+                (record { gone = rw (onto-records (x .page) p) (without-none n program); rest = rw (onto-records (x .page) p) o }),
           )
 
     -- "deleting an absent line keeps page and stacks"

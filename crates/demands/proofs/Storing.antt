@@ -39,8 +39,10 @@ one-digit-more zero n c h = omega arith
 one-digit-more (suc k) n c h = by (ltb (n * 10 + c) 10) where
   x : ℕ
   x = 48 + (n * 10 + c) % 10
+
   q : (n * 10 + c) / 10 ≡ n
   q = omega arith
+
   by : (b : Bool) → length {A = ℕ} (elim b [ true ↦ (48 + (n * 10 + c)) ∷ [] | false ↦ digitsN k ((n * 10 + c) / 10) (x ∷ []) ]) ≤ suc (length (digitsN (suc k) n []))
   by true = omega arith
   by false =
