@@ -174,6 +174,32 @@ does-lengths (again v f h g) = record { memory = refl; output = refl }
 does-lengths (finishes v f h g) = record { memory = refl; output = refl }
 does-lengths (inputs g) = gives-lengths g
 
+-- and where a run is paused
+gives-paused : {w : World} {d : Done} → Gives w d → worldAfter d .session .paused ≡ w .session .paused
+gives-paused gave = refl
+gives-paused (refused h) = refl
+gives-paused (gives v x g) = gives-paused g
+
+pub does-paused : {e : Env} {vs : List ℕ} {w : World} {d : Done} → Does e vs w d → worldAfter d .session .paused ≡ w .session .paused
+does-paused (writes bs h d) = does-paused d
+does-paused (takes g h d) = does-paused d
+does-paused (refuses h) = refl
+does-paused passes = refl
+does-paused skips = refl
+does-paused (assigns v x) = refl
+does-paused (assignsFlags x) = refl
+does-paused (stores m h) = refl
+does-paused (goesTo n h) = refl
+does-paused (saves n h g) = refl
+does-paused (returns p h) = refl
+does-paused (loops h) = refl
+does-paused (repeats p h) = refl
+does-paused (leaves p h) = refl
+does-paused (begins v x y z l h) = refl
+does-paused (again v f h g) = refl
+does-paused (finishes v f h g) = refl
+does-paused (inputs g) = gives-paused g
+
 pub then-lengths : {w u v : World} → SameLengths w u → SameLengths u v → SameLengths w v
 then-lengths a b = record { memory = b .memory ∙ a .memory; output = b .output ∙ a .output }
 

@@ -19,3 +19,4 @@ pub mod Listing
 pub mod Held
 pub mod Outside
 pub mod LastStep
+pub mod Steps
