@@ -1,40 +1,25 @@
 -- A run of one or more steps is the run with one step less, which pauses, and one statement more. Assumes nothing.
-use Prim.Native.Nat.{ℕ, zero, suc, _+_, _-_, _≤_}
-use mathlib.Core.Path.{_≡_, refl, sym, ap, subst, _∙_}
-use mathlib.Core.Bool.{Bool, true, false, _||_, false≢true, true≢false}
-use mathlib.Core.List.{List, [], _∷_}
+use Prim.Native.Nat.{ℕ, zero, suc, _-_, _≤_}
+use mathlib.Core.Path.{_≡_, refl, sym, ap, _∙_}
+use mathlib.Core.List.{List}
 use mathlib.Core.Option.{some}
 use native.Mathlib.Omega.{arith}
 use lib.ListN.{length}
-use lib.Dec.{leb, eqb}
-use borrow.Author.Tests.{eq-eqb, eqb-true, eqb-false, leb-true, leb-false}
+use lib.Dec.{eqb}
+use borrow.Author.Tests.{eqb-true, eqb-false}
 use Rattle.page.proofs.Walk.{by-cases}
-use Rattle.nibl.specs.Tree.{Member, Typed, blank, new, clear, run, delete, list, store, immediate}
-use Rattle.nibl.specs.Read.{Found, found, member, typed}
-use Rattle.nibl.specs.Page.{lineOf, Stored, recordsOf, usedBy, hasLine, with, without}
+use Rattle.nibl.specs.Tree.{Member}
+use Rattle.nibl.specs.Read.{Found, found, member}
+use Rattle.nibl.specs.Page.{lineOf}
 use Rattle.nibl.specs.Meaning.{World, Env, Next, on, skip, go, stop, Done, done, exec}
-use Rattle.nibl.specs.Calls.{Lent, Outcome, Ran, ran, stepped, textFrom, lineFrom, envAt, onward, step, runFrom, stopAt, pausedAt, ended, stops, firstRefusal, begun, envOf, edited, listFrom, immediately, needsProgram, obey, takeLine, continueFrom, continueRun, continueRunIn, limit}
-use Rattle.nibl.specs.declared.StopLine.{StopLine}
-use Rattle.nibl.specs.declared.StopLine.the-variants as stopLine
-use Rattle.nibl.specs.Typing.{Gathered}
-use Rattle.nibl.specs.Readings.{LineReading}
-use Rattle.nibl.proofs.Whole.{typed-complete}
+use Rattle.nibl.specs.Calls.{Ran, ran, stepped, textFrom, lineFrom, envAt, onward, step, runFrom, pausedAt, stops}
 use Rattle.nibl.specs.declared.Session.{Session}
-use Rattle.nibl.specs.declared.Paused.{Paused}
-use Rattle.nibl.specs.declared.Paused.the-variants.{Nowhere, Start, At}
-use Rattle.demands.specs.Asks.{inputVars, GivenIn, stay}
-use Rattle.demands.specs.Leaves.{unpaused, Items, noItem, Lines, noLine, Refused}
+use Rattle.nibl.specs.declared.Paused.the-variants.{Nowhere}
+use Rattle.demands.specs.Leaves.{unpaused}
 use Rattle.demands.specs.Steps.{resumes}
-use Rattle.demands.proofs.Held.{worldAfter, does-paused}
-use Rattle.demands.proofs.Effects.{exec-does}
 use Rattle.demands.proofs.Runs.{run-zero, run-suc, oneStep, endOf, crOf, every-run}
-use Rattle.demands.proofs.Retyping.{accepted-of, accepted-is, edited-fits, edited-full, line-read}
-use Rattle.demands.proofs.Ways.{Typing, Takes, refused, noCR, overlong, unread, reads, every-line, Continues, refused′, continues, every-continue}
-use Rattle.demands.proofs.Budget.{steps-within}
-use Rattle.demands.proofs.Refusing.{needs-asks}
 use Rattle.demands.proofs.Numbers.{OneOf}
-use Rattle.demands.proofs.Fixed.{unsaid, run-named}
-use Rattle.demands.proofs.Five.{continuing-never-answers-5, exactly-5, five-takes-only-the-line}
+use Rattle.demands.proofs.Fixed.{unsaid}
 
 -- r is the run from q on that pauses one step before its end, and then one member
 pub record LastStep (e : Env) (q : ℕ) (w : World) (r : Ran) : Type 0 where
@@ -113,11 +98,11 @@ module _ (e : Env) (q : ℕ) (w : World) (a : ℕ) (m : Member) (s : List ℕ) (
       let t : (k : ℕ) → onward d (endOf e a m) (crOf e a) (runFrom k e) ≡ runFrom k e q' u = λ k. ap (λ (c : Done). onward c (endOf e a m) (crOf e a) (runFrom k e)) f ∙ j k in
       rw (t k)
       (by-cases (eqb (length (runFrom k e q' u .lines)) 0)
-        (λ n.
-          let z = eqb-true (length (runFrom k e q' u .lines)) 0 n in
-          let o = no-step k e q' u z in
-          last-here (runFrom k e q' u) c z (rw (o .world) f) (λ v. absurd (v (o .stop))))
-        (λ n. last-later k q' u t (i q' u (omega (arith, eqb-false (length (runFrom k e q' u .lines)) 0 n)))))
+      (λ n.
+      let z = eqb-true (length (runFrom k e q' u .lines)) 0 n in
+      let o = no-step k e q' u z in
+      last-here (runFrom k e q' u) c z (rw (o .world) f) (λ v. absurd (v (o .stop))))
+      (λ n. last-later k q' u t (i q' u (omega (arith, eqb-false (length (runFrom k e q' u .lines)) 0 n)))))
 
   last-of : (k : ℕ) → ((q : ℕ) (w : World) → 1 ≤ length (runFrom k e q w .lines) → LastStep e q w (runFrom k e q w)) → (c : Done) → d ≡ c → LastStep e q w (oneStep e a m w (runFrom k e))
   last-of k i (done on u) f = goes-on k i on u f (suc (endOf e a m)) (λ k. refl)
@@ -129,20 +114,6 @@ pub last-step : (k : ℕ) (e : Env) (q : ℕ) (w : World) → 1 ≤ length (runF
 last-step k e q w =
     every-run e (λ k q w r. 1 ≤ length (r .lines) → LastStep e q w r) (λ k q w h n. absurd (omega arith)) (λ q w a h n. absurd (omega arith)) (λ k q w a h g n. absurd (omega arith))
     (λ k q w a m s h g i n. last-of e q w a m s h g k i (exec (envAt e (endOf e a m)) (m .statement) w) refl) k q w
-
--- No statement sets a pause
-onward-paused : (w : World) (d : Done) (p cr : ℕ) (k : ℕ → World → Ran) → worldAfter d .session .paused ≡ w .session .paused
-    → ((q : ℕ) (u : World) → k q u .world .session .paused ≡ u .session .paused) → onward d p cr k .world .session .paused ≡ w .session .paused
-onward-paused w (done on u) p cr k h f = f (suc p) u ∙ h
-onward-paused w (done skip u) p cr k h f = f (suc cr) u ∙ h
-onward-paused w (done (go q) u) p cr k h f = f q u ∙ h
-onward-paused w (done (stop n) u) p cr k h f = h
-
-pub run-paused : (k : ℕ) (e : Env) (q : ℕ) (w : World) → runFrom k e q w .world .session .paused ≡ w .session .paused
-run-paused k e q w =
-    every-run e (λ k q w r. r .world .session .paused ≡ w .session .paused) (λ k q w h. refl) (λ q w a h. refl) (λ k q w a h g. refl)
-    (λ k q w a m s h g i. onward-paused w (exec (envAt e (endOf e a m)) (m .statement) w) (endOf e a m) (crOf e a) (runFrom k e)
-      (does-paused (exec-does (envAt e (endOf e a m)) (m .statement) w)) i) k q w
 
 pub resumes-at : (q : ℕ) → resumes (pausedAt q) ≡ q
 resumes-at zero = refl

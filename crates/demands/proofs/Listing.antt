@@ -22,11 +22,10 @@ use Rattle.nibl.specs.Typing.{kept, Gathered, gather}
 use Rattle.nibl.specs.Values.{digits}
 use Rattle.nibl.specs.Page.{Stored, programBytes, hasReading, isStorable, recordsOf, usedBy, used, fits, placesOf, isAmong, mark, with, onto}
 use Rattle.nibl.specs.Meaning.{World, withSession, withOutput, on, done, put}
-use Rattle.nibl.specs.Calls.{Lent, Outcome, stops, firstRefusal, begun, envOf, listed, listFrom, immediately, edited, obey, takeLine, limit}
+use Rattle.nibl.specs.Calls.{Lent, stops, firstRefusal, begun, envOf, listed, listFrom, immediately, edited, obey, takeLine, limit}
 use Rattle.nibl.specs.declared.Place.{Place}
 use Rattle.nibl.specs.declared.ForEntry.{ForEntry}
 use Rattle.nibl.specs.declared.Session.{Session}
-use Rattle.nibl.specs.declared.StopLine.the-variants as stopLine
 use Rattle.nibl.proofs.Ends.{line-text}
 use Rattle.nibl.proofs.Lines.{reading-sound}
 use Rattle.nibl.proofs.Whole.{typed-complete}
@@ -36,8 +35,8 @@ use Rattle.value.proofs.Digits.{value-digits, digits-are, digits-some}
 use Rattle.value.proofs.Writing.{sets-append}
 use Rattle.page.proofs.Program.{both, Bytes, Storable, Program, none, each, program-length, good-bytes}
 use Rattle.page.proofs.Changes.{lower, onto-good, onto-records}
-use Rattle.demands.specs.Leaves.{unpaused, stackless}
-use Rattle.demands.specs.Listing.{listing, listingRoom, written, lentNext, afterLines, answers, Stops0, lastLF}
+use Rattle.demands.specs.Leaves.{stackless}
+use Rattle.demands.specs.Listing.{listing, listingRoom, written, Lists, lentNext, afterLines, answers, Stops0, lastLF, RoundTrip}
 use Rattle.demands.specs.Listing as listings
 use Rattle.demands.proofs.Ways.{Typing}
 use Rattle.demands.proofs.Retyping.{Accepted, accepted-of, accepted-is, program, program-room, line-read, edited-fits, onto-length, onto-after, onto-used}
@@ -69,15 +68,6 @@ list-whole (r ∷ rs) w h =
     let a = length-append (listed r) (listing rs) in
     rw (le-leb 0 (r .line) (omega arith), listFrom) (rw (put-fits (listed r) w (omega arith))
     (list-whole rs (wrote w (listed r)) (omega (arith, length-sets (w .output) (w .outpos) (listed r))) ∙ ap (done on) (wrote-more w (listed r) (listing rs))))
-
--- LIST's outcome: the listing written whole, the line taken, the pause ended, nothing else changed
-pub record Lists (x : Lent) (g : Gathered) (o : Outcome) : Type 0 where
-  pub answer : o .answer ≡ record { stop = 0; line = stopLine.NoLine; steps = 0; inpos = x .call .inpos + g .taken; outpos = x .call .outpos + listingRoom (recordsOf (x .page)) }
-  pub session : o .session ≡ unpaused (x .session)
-  pub page : o .page ≡ x .page
-  pub memory : o .memory ≡ x .memory
-  pub output : o .output ≡ sets (x .output) (x .call .outpos) (listing (recordsOf (x .page)))
-  pub wrote : written x o ≡ listing (recordsOf (x .page))
 
 module _ (x : Lent) (g : Gathered) (h : Typing limit x g) (r : LineReading (g .line .bytes) (list 0))
     (room : x .call .outpos + listingRoom (recordsOf (x .page)) ≤ length (x .output)) where
@@ -334,18 +324,6 @@ all-typed : (m : Lent) (rs : List Stored) → Program limit 0 rs → usedBy rs �
 all-typed m [] p h y t = none-typed y t
 all-typed m (r ∷ rs) p h y t =
     step-typed y (one-answered m [] rs r p h [] start y t (length rs)) (more-typed m (r ∷ []) rs p h (lentNext y (takeLine y)) (one-typed m [] rs r p h [] start y t))
-
--- The round trip: x was listed, y is lent with what LIST wrote and an empty page, z is what its lines leave
-pub record RoundTrip (x y z : Lent) : Type 0 where
-  -- "the pages equal byte for byte up to TOP"
-  pub top : used (z .page) ≡ used (x .page)
-  pub same : take (used (x .page)) (z .page) ≡ take (used (x .page)) (x .page)
-  -- and what lay behind it holds
-  pub after : drop (used (x .page)) (z .page) ≡ drop (used (x .page)) (y .page)
-  pub memory : z .memory ≡ y .memory
-  pub output : z .output ≡ y .output
-  -- all lines were typed
-  pub left : drop (z .call .inpos) (z .input) ≡ lastLF (recordsOf (x .page))
 
 module _ (x : Lent) (bytes′ : Bytes (x .page)) (g : Gathered) (h : Typing limit x g) (r : LineReading (g .line .bytes) (list 0))
     (room : x .call .outpos + listingRoom (recordsOf (x .page)) ≤ length (x .output))

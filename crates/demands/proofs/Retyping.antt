@@ -15,14 +15,14 @@ use Rattle.nibl.specs.Read.{typed}
 use Rattle.nibl.specs.Readings.{LineReading}
 use Rattle.nibl.specs.Typing.{Gathered}
 use Rattle.nibl.specs.Page.{Stored, programBytes, isEnd, isGood, fits, recordsOf, size, used, usedBy, hasLine, with, without, onto}
-use Rattle.nibl.specs.Calls.{Lent, Outcome, stops, inRange, firstRefusal, begun, envOf, clearStacks, edited, obey, takeLine, takeLineIn, limit}
+use Rattle.nibl.specs.Calls.{Lent, stops, inRange, firstRefusal, begun, envOf, clearStacks, edited, obey, takeLine, takeLineIn, limit}
 use Rattle.nibl.specs.Meaning.{World, withSession}
 use Rattle.nibl.proofs.Whole.{typed-complete}
 use Rattle.letter.proofs.Typed.{taken}
 use Rattle.page.proofs.Walk.{by-cases}
 use Rattle.page.proofs.Program.{both, Program, none, each, program-length}
 use Rattle.page.proofs.Changes.{with-program, without-program, onto-good, onto-records}
-use Rattle.demands.specs.Leaves.{ofLine, others, answered, stackless, lineTaken}
+use Rattle.demands.specs.Leaves.{ofLine, others, Rising, alone, rises, lineTaken, Edits, Replaces, Deletes}
 use Rattle.demands.proofs.Ways.{Typing}
 use Rattle.demands.proofs.Places.{Laid, ends, laid, good-laid, laid-program}
 use Rattle.demands.proofs.Storing.{stored-storable}
@@ -184,16 +184,6 @@ laid-room {at = at} {page = page} (ends e) = omega (arith, end-long (drop at pag
 laid-room (laid e l s n t p) = omega (arith, laid-room p)
 
 -- What an edit leaves
-pub record Edits (x : Lent) (taken : ℕ) (o : Outcome) : Type 0 where
-  pub answer : o .answer ≡ answered x 0 taken
-  pub session : o .session ≡ stackless (x .session)
-  pub memory : o .memory ≡ x .memory
-  pub output : o .output ≡ x .output
-  pub good : isGood limit (o .page) ≡ true
-  pub rising : Program limit 0 (recordsOf (o .page))
-  pub long : length (o .page) ≡ length (x .page)
-  pub after : drop (used (o .page)) (o .page) ≡ drop (used (o .page)) (x .page)
-
 pub edited-fits : (page : List ℕ) (w : World) (rs : List Stored) → usedBy rs ≤ length page → edited page w rs ≡ stops 0 (withSession w (clearStacks (w .session))) (onto page rs)
 unfolding edited
 edited-fits page w rs h = rw (program-length rs, le-leb (usedBy rs) (length page) h)
@@ -212,6 +202,10 @@ pub onto-used : {rs : List Stored} (page : List ℕ) → Program limit 0 rs → 
 unfolding used
 onto-used page p = ap usedBy (onto-records page p)
 
+program-rises : {lim low : ℕ} {rs : List Stored} → Program lim low rs → Rising low rs
+program-rises none = alone
+program-rises (each l s p) = rises l (program-rises p)
+
 edit-leaves : (x : Lent) (taken : ℕ) {rs : List Stored} → Program limit 0 rs → usedBy rs ≤ length (x .page) → Edits x taken (edited (x .page) (begun x taken) rs)
 edit-leaves x taken {rs = rs} p h =
     rw (edited-fits (x .page) (begun x taken) rs h)
@@ -221,19 +215,10 @@ edit-leaves x taken {rs = rs} p h =
       memory = refl;
       output = refl;
       good = onto-good (x .page) p;
-      rising = rw (onto-records (x .page) p) p;
+      rising = rw (onto-records (x .page) p) (program-rises p);
       long = onto-length (x .page) rs h;
       after = rw (onto-used (x .page) p) (onto-after (x .page) rs);
     })
-
--- "a typed `n text` that is stored leaves exactly one record of number n, with that text"
-pub record Replaces (x : Lent) (n : ℕ) (t : List ℕ) (o : Outcome) : Type 0 where
-  pub one : ofLine n (recordsOf (o .page)) ≡ record { line = n; text = t } ∷ []
-  pub rest : others n (recordsOf (o .page)) ≡ others n (recordsOf (x .page))
-
-pub record Deletes (x : Lent) (n : ℕ) (o : Outcome) : Type 0 where
-  pub gone : ofLine n (recordsOf (o .page)) ≡ []
-  pub rest : recordsOf (o .page) ≡ others n (recordsOf (x .page))
 
 module _ (x : Lent) (g : Gathered) (h : Typing limit x g) where
   on-page : Laid limit (x .page) 0 0 (recordsOf (x .page))

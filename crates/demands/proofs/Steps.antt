@@ -1,9 +1,9 @@
 -- "No stop clears the stacks", and what a refusing statement leaves, of the calls: what a call of one or more steps leaves is what its last
 -- statement made of what the same call with one step less left. Assumes nothing.
-use Prim.Native.Nat.{ℕ, zero, suc, _+_, _-_, _≤_}
-use mathlib.Core.Path.{_≡_, refl, sym, ap, subst, _∙_}
-use mathlib.Core.Bool.{Bool, true, false, _||_, false≢true, true≢false}
-use mathlib.Core.List.{List, [], _∷_}
+use Prim.Native.Nat.{ℕ, suc, _-_, _≤_}
+use mathlib.Core.Path.{_≡_, refl, ap, _∙_}
+use mathlib.Core.Bool.{Bool, true, false, false≢true}
+use mathlib.Core.List.{List, []}
 use mathlib.Core.Option.{some}
 use native.Mathlib.Omega.{arith}
 use lib.ListN.{length}
@@ -11,23 +11,21 @@ use lib.Dec.{leb, eqb}
 use borrow.Author.Tests.{eq-eqb, eqb-true, eqb-false, leb-true, leb-false}
 use Rattle.page.proofs.Walk.{by-cases}
 use Rattle.nibl.specs.Bytes.{if_then_else_}
-use Rattle.nibl.specs.Tree.{Member, Typed, blank, new, clear, run, delete, list, store, immediate}
+use Rattle.nibl.specs.Tree.{Typed, blank, new, clear, run, delete, list, store, immediate}
 use Rattle.nibl.specs.Read.{typed}
 use Rattle.nibl.specs.Page.{Stored, recordsOf, usedBy, hasLine, with, without}
 use Rattle.nibl.specs.Meaning.{World, Env, Next, on, skip, go, stop, Done, done, withSession, exec}
-use Rattle.nibl.specs.Calls.{Lent, Outcome, Ran, envAt, runFrom, withPaused, pausedAt, pausing, ended, stops, firstRefusal, begun, envOf, edited, listFrom, immediately, needsProgram, obey, takeLine, continueFrom, continueRun, continueRunIn, limit}
-use Rattle.nibl.specs.declared.StopLine.{StopLine}
+use Rattle.nibl.specs.Calls.{Lent, Outcome, envAt, runFrom, withPaused, pausedAt, ended, stops, firstRefusal, begun, envOf, edited, listFrom, immediately, needsProgram, obey, takeLine, continueFrom, continueRun, continueRunIn, limit}
 use Rattle.nibl.specs.declared.StopLine.the-variants as stopLine
 use Rattle.nibl.specs.Typing.{Gathered}
 use Rattle.nibl.specs.Readings.{LineReading}
-use Rattle.nibl.specs.declared.Session.{Session}
 use Rattle.nibl.specs.declared.Paused.{Paused}
 use Rattle.nibl.specs.declared.Paused.the-variants.{Nowhere, Start, At}
 use Rattle.nibl.proofs.Whole.{typed-complete}
 use Rattle.demands.specs.Asks.{inputVars, GivenIn, stay}
 use Rattle.demands.specs.Leaves.{unpaused, noItem, noLine, Refused}
 use Rattle.demands.specs.Sound.{Sized, budgeted}
-use Rattle.demands.specs.Steps.{resumes, worldLeft, OneMore, RefusedLine}
+use Rattle.demands.specs.Steps.{worldLeft, OneMore, RefusedLine}
 use Rattle.demands.proofs.Effects.{exec-does, list-does}
 use Rattle.demands.proofs.Runs.{endOf}
 use Rattle.demands.proofs.Budget.{steps-within}
@@ -37,8 +35,8 @@ use Rattle.demands.proofs.Retyping.{accepted-of, accepted-is, edited-fi
 use Rattle.demands.proofs.Refusing.{needs-asks}
 use Rattle.demands.proofs.Fixed.{unsaid, run-named}
 use Rattle.demands.proofs.Five.{continuing-never-answers-5, exactly-5, five-takes-only-the-line}
-use Rattle.demands.proofs.Held.{worldAfter, does-paused, refusing-statement, refusing-list}
-use Rattle.demands.proofs.LastStep.{LastStep, last-step, run-paused, resumes-at, unpaused-same}
+use Rattle.demands.proofs.Held.{worldAfter, does-steady, run-steady, refusing-statement, refusing-list}
+use Rattle.demands.proofs.LastStep.{LastStep, last-step, resumes-at, unpaused-same}
 
 of-unsaid : (n : ℕ) → OneOf unsaid n → (n ≡ 0 → ⊥) → (n ≡ 5 → ⊥) → (n ≡ 14 → ⊥) → ⊥
 of-unsaid n i a b c =
@@ -65,8 +63,8 @@ run-more k e q w h five t =
     let r = runFrom k e q w in
     let c : eqb (r′ .stop) 14 ≡ true = eq-eqb (r′ .stop) 14 (t .pauses) in
     let same : withSession (r′ .world) (unpaused (r′ .world .session)) ≡ r′ .world =
-      λ i. withSession (r′ .world) (unpaused-same (r′ .world .session) (run-paused (t .before) e q w ∙ h) i) in
-    let p = set-or-not (eqb (r .stop) 14) (r .world) (pausedAt (r .at)) (run-paused k e q w ∙ h) in
+    λ i. withSession (r′ .world) (unpaused-same (r′ .world .session) (run-steady (t .before) e q w .paused ∙ h) i) in
+    let p = set-or-not (eqb (r .stop) 14) (r .world) (pausedAt (r .at)) (run-steady k e q w .paused ∙ h) in
     record {
       paused = t .pauses;
       start = t .start;
@@ -92,6 +90,7 @@ more-by-one : (e : Env) (k q : ℕ) (u : World) (call : ℕ → Outcome) → ((b
 more-by-one e k q u call same h n five = rw o (by (rw o at n) (λ z. five (rw o z))) where
   o : call k ≡ ended (runFrom k e q u) (e .page)
   o = same k (omega arith)
+
   by : 1 ≤ length (runFrom k e q u .lines) → (runFrom k e q u .stop ≡ 5 → ⊥) → OneMore e (call (length (runFrom k e q u .lines) - 1)) (ended (runFrom k e q u) (e .page))
   by n five =
       let t = last-step k e q u n in
@@ -139,12 +138,12 @@ kind e w (delete n) =
     by-cases (hasLine n (recordsOf (e .page)))
     (λ h. edit-kind e w (delete n) (without n (recordsOf (e .page))) (λ k. rw (h, obey)))
     (λ h. settles (λ k. rw (h, obey)) (λ k. rw (h, obey)))
-kind e w (list n) = immediate-kind e w (list n) (listFrom n (recordsOf (e .page)) w) (λ k. refl) (does-paused (list-does e [] n (recordsOf (e .page)) w)) (λ m u h z. refusing-list e n (recordsOf (e .page)) w u m h z)
+kind e w (list n) = immediate-kind e w (list n) (listFrom n (recordsOf (e .page)) w) (λ k. refl) (does-steady (list-does e [] n (recordsOf (e .page)) w) .paused) (λ m u h z. refusing-list e n (recordsOf (e .page)) w u m h z)
 kind e w (store n t ms) = edit-kind e w (store n t ms) (with (record { line = n; text = t }) (recordsOf (e .page))) (λ k. refl)
 kind e w (immediate q) =
     by-cases (needsProgram q)
     (λ h. refuses 3 w (λ k. rw (h, obey)) (nothing-done e w))
-    (λ h. immediate-kind e w (immediate q) (exec e q w) (λ k. rw (h, obey)) (does-paused (exec-does e q w)) (λ m u f z. rw (needs-asks q h .1) at (refusing-statement e q w u m f z)))
+    (λ h. immediate-kind e w (immediate q) (exec e q w) (λ k. rw (h, obey)) (does-steady (exec-does e q w) .paused) (λ m u f z. rw (needs-asks q h .1) at (refusing-statement e q w u m f z)))
 
 -- a sound call is sound with a smaller budget
 less-sound : (x : Lent) (k : ℕ) → k ≤ x .call .budget → firstRefusal limit x ≡ 0 → firstRefusal limit (budgeted k x) ≡ 0
