@@ -36,6 +36,7 @@ use Rattle.nibl.proofs.Lines.{AMember, atEnd, atColon, member-same}
 use Rattle.page.proofs.Program.{both}
 use Rattle.demands.specs.Effects.{forVars, Gives, gave, refused, gives, Does, writes, takes, refuses, passes, skips, assigns, assignsFlags, stores, goesTo, saves, returns, loops, repeats, leaves, begins, again, finishes, inputs}
 use Rattle.demands.specs.Sound.{Sized, Sound, Stands}
+use Rattle.demands.proofs.Held.{worldAfter}
 use Rattle.demands.proofs.Places.{find-stands}
 
 -- what is on top is there
@@ -175,9 +176,6 @@ module _ (f : ForEntry → Bool) (s : ForStack) (h : Entries f s) where
   top-entry x e = held-shown f h x noEntry topf.Empty topf.Entry e (λ i. let z : _≡_ {A = ℕ} 0 1 = cc in omega arith) (λ y i. cc)
 
 -- What a statement leaves
-abbrev pub worldOf : Done → World
-worldOf (done n w) = w
-
 module _ {g d : Place → Bool} {f : ForEntry → Bool} {ps : List ℕ} {s : Session} (h : FitBy g d f ps s) where
   pub fit-vars : (x : List ℕ) → FitBy g d f ps (withVars s x)
   fit-vars x = record { gosubs = h .gosubs; dos = h .dos; fors = h .fors; flags = h .flags; paused = h .paused }
@@ -186,14 +184,14 @@ module _ (g d : Place → Bool) (f : ForEntry → Bool) (ps : List ℕ) where
   abbrev pub Fits : World → Type 0
   Fits w = FitBy g d f ps (w .session)
 
-  gives-fits : {w : World} {r : Done} → Gives w r → Fits w → Fits (worldOf r)
+  gives-fits : {w : World} {r : Done} → Gives w r → Fits w → Fits (worldAfter r)
   gives-fits gave h = h
   gives-fits (refused n) h = h
   gives-fits (gives v x k) h = gives-fits k (fit-vars h _)
 
   module _ (e : Env) (vs : List ℕ) (saved : g (place (e .here)) ≡ true) (looped : d (place (e .here)) ≡ true)
       (begun : (v l s : ℕ) → isAmong vs v ≡ true → f (record { var = v; limit = l; step = s; place = place (e .here) }) ≡ true) where
-    pub does-fits : {w : World} {r : Done} → Does e vs w r → Fits w → Fits (worldOf r)
+    pub does-fits : {w : World} {r : Done} → Does e vs w r → Fits w → Fits (worldAfter r)
     does-fits (writes bs l k) h = does-fits k h
     does-fits (takes y l k) h = does-fits k h
     does-fits (refuses n) h = h
@@ -313,9 +311,9 @@ abbrev pub loopsOf : World → PlaceStack × ForStack
 loopsOf w = (w .session .dos, w .session .fors)
 
 pub record Keeps (w : World) (d : Done) : Type 0 where
-  pub same : loopsOf (worldOf d) ≡ loopsOf w
+  pub same : loopsOf (worldAfter d) ≡ loopsOf w
 
-pub kept : {w : World} {d : Done} → loopsOf (worldOf d) ≡ loopsOf w → Keeps w d
+pub kept : {w : World} {d : Done} → loopsOf (worldAfter d) ≡ loopsOf w → Keeps w d
 kept e = record { same = e }
 
 module _ {A : Type 0} where

@@ -1,33 +1,30 @@
 -- "Fixed effects" of the calls: what 1, 18, 19, a typed line's 7, and 2, 3 and 5 leave. Assumes nothing.
-use Prim.Native.Nat.{ℕ, zero, suc, _+_}
+use Prim.Native.Nat.{ℕ, suc}
 use mathlib.Core.Path.{_≡_, refl, sym, ap, subst, _∙_}
-use mathlib.Core.Bool.{Bool, true, false, _||_, _&&_, not, false≢true, true≢false}
+use mathlib.Core.Bool.{Bool, true, false, _||_, false≢true, true≢false}
 use mathlib.Core.Logic.{_⊎_, inl, inr}
 use mathlib.Core.List.{List, [], _∷_}
 use mathlib.Core.Option.{Option, none, some}
 use native.Mathlib.Omega.{arith}
-use lib.ListN.{length, drop}
+use lib.ListN.{length}
 use lib.Dec.{leb, eqb}
 use borrow.Author.Tests.{eqb-true}
 use Rattle.nibl.specs.Bytes.{if_then_else_}
-use Rattle.nibl.specs.Tree.{Stmt, Typed, blank, new, clear, run, delete, list, store, immediate}
+use Rattle.nibl.specs.Tree.{Typed, blank, new, clear, run, delete, list, store, immediate}
 use Rattle.nibl.specs.Read.{typed}
 use Rattle.nibl.specs.Readings.{LineReading}
-use Rattle.nibl.specs.Typing.{Kept, Gathered, gather}
+use Rattle.nibl.specs.Typing.{Gathered}
 use Rattle.nibl.specs.Page.{lineOf as record-line}
 use Rattle.nibl.specs.Page.{Stored, isAmong, recordsOf, hasLine, without, with, programBytes, onto}
-use Rattle.nibl.specs.Meaning.{World, Env, Next, on, skip, go, stop, Done, done, withSession, exec}
-use Rattle.nibl.specs.Calls.{Lent, Outcome, Ran, ran, stepped, stopAt, onward, envAt, runFrom, ended, stops, firstRefusal, worldOf, begun, envOf, clearStacks, edited, listFrom, immediately, needsProgram, obey, obeyRead, obeyLine, takeLine, takeLineIn, continueFrom, continueRun, continueRunIn, limit}
-use Rattle.nibl.specs.declared.StopLine.{StopLine}
+use Rattle.nibl.specs.Meaning.{World, Env, stop, Done, withSession, exec}
+use Rattle.nibl.specs.Calls.{Lent, Outcome, stopAt, onward, envAt, runFrom, ended, stops, firstRefusal, begun, envOf, clearStacks, edited, immediately, needsProgram, obey, obeyRead, takeLine, takeLineIn, continueFrom, continueRun, limit}
 use Rattle.nibl.specs.declared.StopLine.the-variants as stopLine
 use Rattle.nibl.proofs.Lines.{typed-sound}
 use Rattle.demands.specs.Leaves.{unchanged, lineTaken}
-use Rattle.demands.specs.Asks.{asks, inputVars}
-use Rattle.demands.proofs.Runs.{oneStep, endOf, crOf, every-run}
-use Rattle.demands.proofs.Effects.{widen, list-does}
+use Rattle.demands.proofs.Runs.{endOf, crOf, every-run}
 use Rattle.demands.proofs.Ways.{lineOf, Typing, Takes, refused, noCR, overlong, unread, reads, every-line, Continues, refused′, continues, every-continue}
 use Rattle.demands.proofs.Numbers.{OneOf, runNumbers, Obeys, full, unfit, ends, obey-obeys, firstNumbers, first-numbers, paused-numbers}
-use Rattle.demands.proofs.Refusing.{quiet, refusalsOf, Refusing, goes, skips, jumps, refuses, exec-refuses, list-refuses, needs-asks}
+use Rattle.demands.proofs.Refusing.{quiet, Refusing, goes, skips, jumps, refuses, exec-refuses, list-refuses, needs-asks}
 use Rattle.demands.proofs.Refusing as refusing
 
 -- no number is in both of two lists that have none in common
@@ -94,8 +91,8 @@ pub run-named : (k : ℕ) (e : Env) (q : ℕ) (w : World) → stopAt (runFrom k 
 run-named k e q w =
     every-run e (λ k q w r. stopAt (r .stop) (r .lines) ≡ stopLine.NoLine → OneOf unsaid (r .stop)) (λ k q w h n. refl) (λ q w a h n. refl) (λ k q w a h g n. refl)
     (λ k q w a m s h g i n.
-      let r = onward (exec (envAt e (endOf e a m)) (m .statement) w) (endOf e a m) (crOf e a) (runFrom k e) in
-      named-step (r .stop) (record-line (e .page) (endOf e a m)) (r .lines) n) k q w
+    let r = onward (exec (envAt e (endOf e a m)) (m .statement) w) (endOf e a m) (crOf e a) (runFrom k e) in
+    named-step (r .stop) (record-line (e .page) (endOf e a m)) (r .lines) n) k q w
 
 -- "a typed line's 7": one with no line
 abbrev Silent : Outcome → Type 0
@@ -175,7 +172,7 @@ two-and-three-take-the-line x = take-two-three (every-line limit x)
 module _ (x : Lent) where
   take-five : {o : Outcome} → Takes limit x o
       → ((g : Gathered) (y : Typed) → Typing limit x g → LineReading (g .line .bytes) y
-        → obey (x .call .budget) (envOf limit x) (begun x (g .taken)) y .answer .stop ≡ 5 → ⊥)
+      → obey (x .call .budget) (envOf limit x) (begun x (g .taken)) y .answer .stop ≡ 5 → ⊥)
       → o .answer .stop ≡ 5 → TakesLine x 5 o
   take-five (refused {n} h) f i = absurd (apart (5 ∷ []) firstNumbers refl (suc n) (rw i refl) (first-numbers limit x (suc n) h))
   take-five (noCR z h) f i = absurd (omega arith)

@@ -1,9 +1,8 @@
 -- "Fixed effects" of a statement: what a refusing one leaves, and that no stop clears the stacks. Assumes nothing.
-use Prim.Native.Nat.{ℕ, zero, suc, _+_, _-_, _≤_}
+use Prim.Native.Nat.{ℕ, suc, _+_, _-_, _≤_}
 use mathlib.Core.Path.{_≡_, refl, sym, ap, subst, _∙_}
-use mathlib.Core.Bool.{Bool, true, false, not, false≢true}
-use mathlib.Core.List.{List, [], _∷_, _++_, append-assoc}
-use mathlib.Core.Option.{Option, none, some}
+use mathlib.Core.Bool.{Bool, true, false, false≢true}
+use mathlib.Core.List.{List, [], _++_, append-assoc}
 use native.Mathlib.Omega.{arith}
 use lib.ListN.{length, take, drop, length-append}
 use lib.Seq.{sets, sets-eq, length-sets, take-at, take-take, drop-append-add, drop-drop, length-take-le}
@@ -12,16 +11,15 @@ use borrow.Author.Tests.{eqb-true}
 use Rattle.nibl.specs.Bytes.{if_then_else_}
 use Rattle.nibl.specs.Tree.{Stmt}
 use Rattle.nibl.specs.Stack.{popOf}
-use Rattle.nibl.specs.Typing.{Gathered, gather}
 use Rattle.nibl.specs.Page.{Stored, isAmong, mark}
-use Rattle.nibl.specs.Meaning.{World, Env, Next, on, skip, go, stop, Done, done, withVar, withGosubs, withSession, withInpos, withOutput, after, exec}
+use Rattle.nibl.specs.Meaning.{World, Env, on, skip, go, stop, Done, done, withGosubs, withSession, exec}
 use Rattle.nibl.specs.Calls.{Ran, envAt, runFrom, listFrom}
 use Rattle.nibl.specs.Calls.{onward as onwards}
 use Rattle.nibl.specs.declared.Place.{Place}
 use Rattle.nibl.specs.declared.Session.{Session}
 use Rattle.nibl.specs.declared.Top.the-variants as top
-use Rattle.demands.specs.Effects.{refusals, forVars, Gives, gave, refused, gives, Does, writes, takes, refuses, passes, skips, assigns, assignsFlags, stores, goesTo, saves, returns, loops, repeats, leaves, begins, again, finishes, inputs}
-use Rattle.demands.specs.Asks.{asks, inputVars, GivenIn, stay, give}
+use Rattle.demands.specs.Effects.{refusals, Gives, gave, refused, gives, Does, writes, takes, refuses, passes, skips, assigns, assignsFlags, stores, goesTo, saves, returns, loops, repeats, leaves, begins, again, finishes, inputs}
+use Rattle.demands.specs.Asks.{inputVars}
 use Rattle.demands.specs.Leaves.{Items, noItem, item, Lines, noLine, line, SameButVars, Refused, Returned, Grown}
 use Rattle.demands.proofs.Effects.{exec-does, list-does}
 use Rattle.demands.proofs.Runs.{endOf, crOf, every-run}
@@ -134,7 +132,7 @@ items-grow (item {out = out} {out' = out'} {at = at} {at' = at'} bs h r) =
       forward = omega (arith, g .forward);
       long = g .long ∙ length-sets out at bs;
       before =
-        sym (take-take at (at + length bs) out' m) ∙ ap (take at) (g .before) ∙ take-take at (at + length bs) (sets out at bs) m ∙ sets-before out at bs h;
+          sym (take-take at (at + length bs) out' m) ∙ ap (take at) (g .before) ∙ take-take at (at + length bs) (sets out at bs) m ∙ sets-before out at bs h;
       behind = g .behind ∙ sets-behind out at bs at' h (g .forward);
     }
 
@@ -143,52 +141,69 @@ pub lines-forward : {lim : ℕ} {input : List ℕ} {at at' : ℕ} → Lines lim 
 lines-forward noLine = omega arith
 lines-forward (line g h r) = omega (arith, lines-forward r)
 
--- what no step changes: the lengths of memory and output
+-- What no step changes: the lengths of memory and output, and where a run is paused
 pub record SameLengths (w u : World) : Type 0 where
   pub memory : length (u .memory) ≡ length (w .memory)
   pub output : length (u .output) ≡ length (w .output)
 
+pub record Steady (w u : World) : Type 0 where
+  pub lengths : SameLengths w u
+  pub paused : u .session .paused ≡ w .session .paused
+
 abbrev pub worldAfter : Done → World
 worldAfter (done n w) = w
 
-gives-lengths : {w : World} {d : Done} → Gives w d → SameLengths w (worldAfter d)
-gives-lengths gave = record { memory = refl; output = refl }
-gives-lengths (refused h) = record { memory = refl; output = refl }
-gives-lengths (gives v x g) = let l = gives-lengths g in record { memory = l .memory; output = l .output }
-
-pub does-lengths : {e : Env} {vs : List ℕ} {w : World} {d : Done} → Does e vs w d → SameLengths w (worldAfter d)
-does-lengths (writes {w = w} bs h d) = let l = does-lengths d in record { memory = l .memory; output = l .output ∙ length-sets (w .output) (w .outpos) bs }
-does-lengths (takes g h d) = let l = does-lengths d in record { memory = l .memory; output = l .output }
-does-lengths (refuses h) = record { memory = refl; output = refl }
-does-lengths passes = record { memory = refl; output = refl }
-does-lengths skips = record { memory = refl; output = refl }
-does-lengths (assigns v x) = record { memory = refl; output = refl }
-does-lengths (assignsFlags x) = record { memory = refl; output = refl }
-does-lengths (stores m h) = record { memory = h; output = refl }
-does-lengths (goesTo n h) = record { memory = refl; output = refl }
-does-lengths (saves n h g) = record { memory = refl; output = refl }
-does-lengths (returns p h) = record { memory = refl; output = refl }
-does-lengths (loops h) = record { memory = refl; output = refl }
-does-lengths (repeats p h) = record { memory = refl; output = refl }
-does-lengths (leaves p h) = record { memory = refl; output = refl }
-does-lengths (begins v x y z l h) = record { memory = refl; output = refl }
-does-lengths (again v f h g) = record { memory = refl; output = refl }
-does-lengths (finishes v f h g) = record { memory = refl; output = refl }
-does-lengths (inputs g) = gives-lengths g
+pub same-lengths : {w : World} → SameLengths w w
+same-lengths = record { memory = refl; output = refl }
 
 pub then-lengths : {w u v : World} → SameLengths w u → SameLengths u v → SameLengths w v
 then-lengths a b = record { memory = b .memory ∙ a .memory; output = b .output ∙ a .output }
 
-onward-lengths : (w : World) (d : Done) (p cr : ℕ) (k : ℕ → World → Ran) → SameLengths w (worldAfter d) → ((q : ℕ) (u : World) → SameLengths u (k q u .world))
-    → SameLengths w (onwards d p cr k .world)
-onward-lengths w (done on u) p cr k l f = then-lengths l (f (suc p) u)
-onward-lengths w (done skip u) p cr k l f = then-lengths l (f (suc cr) u)
-onward-lengths w (done (go q) u) p cr k l f = then-lengths l (f q u)
-onward-lengths w (done (stop n) u) p cr k l f = l
+steady : {w : World} → Steady w w
+steady = record { lengths = same-lengths; paused = refl }
 
-pub run-lengths : (k : ℕ) (e : Env) (q : ℕ) (w : World) → SameLengths w (runFrom k e q w .world)
-run-lengths k e q w =
-    every-run e (λ k q w r. SameLengths w (r .world)) (λ k q w h. record { memory = refl; output = refl }) (λ q w a h. record { memory = refl; output = refl })
-    (λ k q w a h g. record { memory = refl; output = refl })
-    (λ k q w a m s h g i. onward-lengths w (exec (envAt e (endOf e a m)) (m .statement) w) (endOf e a m) (crOf e a) (runFrom k e)
-      (does-lengths (exec-does (envAt e (endOf e a m)) (m .statement) w)) i) k q w
+-- where only the rest of the record changed
+recorded : {w : World} (s : Session) → s .paused ≡ w .session .paused → Steady w (withSession w s)
+recorded s h = record { lengths = record { memory = refl; output = refl }; paused = h }
+
+then-steady : {w u v : World} → Steady w u → Steady u v → Steady w v
+then-steady a b = record { lengths = then-lengths (a .lengths) (b .lengths); paused = b .paused ∙ a .paused }
+
+gives-steady : {w : World} {d : Done} → Gives w d → Steady w (worldAfter d)
+gives-steady gave = steady
+gives-steady (refused h) = steady
+gives-steady (gives v x g) = then-steady (recorded _ refl) (gives-steady g)
+
+pub does-steady : {e : Env} {vs : List ℕ} {w : World} {d : Done} → Does e vs w d → Steady w (worldAfter d)
+does-steady (writes {w = w} bs h d) =
+    then-steady (record { lengths = record { memory = refl; output = length-sets (w .output) (w .outpos) bs }; paused = refl }) (does-steady d)
+does-steady (takes g h d) = then-steady (record { lengths = record { memory = refl; output = refl }; paused = refl }) (does-steady d)
+does-steady (refuses h) = steady
+does-steady passes = steady
+does-steady skips = steady
+does-steady (assigns v x) = recorded _ refl
+does-steady (assignsFlags x) = recorded _ refl
+does-steady (stores m h) = record { lengths = record { memory = h; output = refl }; paused = refl }
+does-steady (goesTo n h) = steady
+does-steady (saves n h g) = recorded _ refl
+does-steady (returns p h) = recorded _ refl
+does-steady (loops h) = recorded _ refl
+does-steady (repeats p h) = steady
+does-steady (leaves p h) = recorded _ refl
+does-steady (begins v x y z l h) = recorded _ refl
+does-steady (again v f h g) = recorded _ refl
+does-steady (finishes v f h g) = recorded _ refl
+does-steady (inputs g) = gives-steady g
+
+onward-steady : (w : World) (d : Done) (p cr : ℕ) (k : ℕ → World → Ran) → Steady w (worldAfter d) → ((q : ℕ) (u : World) → Steady u (k q u .world))
+    → Steady w (onwards d p cr k .world)
+onward-steady w (done on u) p cr k l f = then-steady l (f (suc p) u)
+onward-steady w (done skip u) p cr k l f = then-steady l (f (suc cr) u)
+onward-steady w (done (go q) u) p cr k l f = then-steady l (f q u)
+onward-steady w (done (stop n) u) p cr k l f = l
+
+pub run-steady : (k : ℕ) (e : Env) (q : ℕ) (w : World) → Steady w (runFrom k e q w .world)
+run-steady k e q w =
+    every-run e (λ k q w r. Steady w (r .world)) (λ k q w h. steady) (λ q w a h. steady) (λ k q w a h g. steady)
+    (λ k q w a m s h g i. onward-steady w (exec (envAt e (endOf e a m)) (m .statement) w) (endOf e a m) (crOf e a) (runFrom k e)
+    (does-steady (exec-does (envAt e (endOf e a m)) (m .statement) w)) i) k q w

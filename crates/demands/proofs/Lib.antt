@@ -22,3 +22,4 @@ pub mod Held
 pub mod Outside
 pub mod LastStep
 pub mod Resumed
+pub mod Steps

@@ -6,6 +6,7 @@ use mathlib.Core.Bool.{true, false, _||_, false≢true}
 use mathlib.Core.List.{List, [], _∷_}
 use mathlib.Core.Logic.{inl, inr}
 use native.Mathlib.Omega.{arith}
+use lib.ListN.{length}
 use lib.Dec.{eqb}
 use borrow.Author.Tests.{eqb-true, eqb-false}
 use Rattle.nibl.specs.Page.{isAmong, isGood, placesOf, lineOf}
@@ -57,6 +58,12 @@ goings-stopped (pauses h r s f) e = absurd (false≢true (sym e))
 goings-stopped (halts h m f) e = record { place = h; last = here }
 goings-stopped (steps p h g) e = let s = goings-stopped g e in record { place = s .place; last = later (s .last) }
 
+some-step : {page : List ℕ} {k : ℕ} {r : Ran} → Goings page k r → (r .stop ≡ 0 → ⊥) → (r .stop ≡ 14 → ⊥) → 1 ≤ length (r .lines)
+some-step (runsOut h f) m n = absurd (m refl)
+some-step (pauses h r s f) m n = absurd (n refl)
+some-step (halts h k f) m n = omega arith
+some-step (steps p h g) m n = omega arith
+
 module _ (lim : ℕ) (e : Env) (short : lim ≤ 251) (good : isGood lim (e .page) ≡ true) where
   goings-show : {k : ℕ} (r : Ran) → Goings (e .page) k r → Shows (e .page) r (stopAt (r .stop) (r .lines))
   goings-show r g =
@@ -95,12 +102,13 @@ the-last-steps-line lim e short k q w h s m n = by (run-shows lim e short k q w 
   by (noLine (inl i)) f = absurd (m i)
   by (noLine (inr i)) f = absurd (n i)
   by (aLine i j p d) f =
-      let t = last-step k e q w stopped in
-      record { step = t; line = rw (← t .place) f; lies = rw (← t .place) d }
+      let t = last-step k e q w (some-step (run-goes lim e short (h .good) k q w s (sound-fit h)) i j) in
+      let at = t .place stopped in
+      record { step = t; line = rw (← at) f; lies = rw (← at) d }
 
 -- Of the calls
 module _ (lim : ℕ) (short : lim ≤ 251) (x : Lent) (sound : Sound lim (x .page) (x .session)) where
-  obeyed-answer : {o : ℕ → Outcome} → Obeyed lim (envOf lim x) (worldOf x) o → Answered lim x (o (x .call .budget))
+  obeyed-answer : {v : World} {o : ℕ → Outcome} → Obeyed lim (envOf lim x) v o → Answered lim x (o (x .call .budget))
   obeyed-answer (stands h f) = byLine refl refl (λ e. false≢true (rw e at h))
   obeyed-answer (edits p n f) = byLine refl refl (λ e. omega arith)
   obeyed-answer (runs q w s f i j) =

@@ -1,33 +1,31 @@
 -- "Listing round trip": what LIST writes, typed into an empty page, gives the same program. Assumes nothing.
-use Prim.Native.Nat.{ℕ, zero, suc, _+_, _-_, _≤_, _<_}
+use Prim.Native.Nat.{ℕ, suc, _+_, _-_, _≤_}
 use mathlib.Core.Path.{_≡_, refl, sym, ap, subst, _∙_}
-use mathlib.Core.Bool.{Bool, true, false, not, _&&_, _||_, false≢true}
+use mathlib.Core.Bool.{true, false, not, _&&_, _||_, false≢true}
 use mathlib.Core.List.{List, [], _∷_, _++_, append-assoc, append-nil}
 use mathlib.Core.Option.{Option, none, some}
 use native.Mathlib.Nat.{add-zero}
 use native.Mathlib.Omega.{arith}
-use lib.ListN.{length, getD, take, drop, length-append, length-drop}
+use lib.ListN.{length, take, drop, length-append, length-drop}
 use lib.Seq.{sets, sets-eq, length-sets, take-at, drop-at, drop-drop, drop-append-add, length-take-le}
 use lib.Dec.{ltb, leb, eqb}
-use borrow.Author.Tests.{leb-true, le-leb, lt-ltb, le-ltb, ne-eqb, not-true}
-use Rattle.nibl.specs.Bytes.{if_then_else_, bytes, isDigit, all, All, starts, decimalValue}
+use borrow.Author.Tests.{leb-true, le-leb, le-ltb, ne-eqb, not-true}
+use Rattle.nibl.specs.Bytes.{bytes, isDigit, all, All, starts, decimalValue}
 use Rattle.nibl.specs.Bytes as plain
-use Rattle.nibl.specs.Words.{Token, decimal, Run, Word, keywords}
+use Rattle.nibl.specs.Words.{decimal, Run, Word, keywords}
 use Rattle.nibl.specs.Words as words
 use Rattle.nibl.specs.Grammar.{aStore, aList}
 use Rattle.nibl.specs.Tree.{Member, list, store}
 use Rattle.nibl.specs.Read.{reading, typed}
 use Rattle.nibl.specs.Readings.{LineReading}
-use Rattle.nibl.specs.Typing.{Kept, kept, Gathered, gather}
+use Rattle.nibl.specs.Typing.{kept, Gathered, gather}
 use Rattle.nibl.specs.Values.{digits}
-use Rattle.nibl.specs.Page.{Stored, programBytes, hasReading, isStorable, isGood, recordsOf, size, usedBy, used, fits, fitsWith, placesOf, isAmong, mark, with, onto}
-use Rattle.nibl.specs.Meaning.{World, withSession, withOutput, on, Done, done, went, put}
-use Rattle.nibl.specs.Calls.{Lent, Outcome, inRange, stops, firstRefusal, worldOf, begun, envOf, listed, listFrom, immediately, edited, obey, takeLine, limit}
+use Rattle.nibl.specs.Page.{Stored, programBytes, hasReading, isStorable, recordsOf, usedBy, used, fits, placesOf, isAmong, mark, with, onto}
+use Rattle.nibl.specs.Meaning.{World, withSession, withOutput, on, done, put}
+use Rattle.nibl.specs.Calls.{Lent, stops, firstRefusal, begun, envOf, listed, listFrom, immediately, edited, obey, takeLine, limit}
 use Rattle.nibl.specs.declared.Place.{Place}
 use Rattle.nibl.specs.declared.ForEntry.{ForEntry}
 use Rattle.nibl.specs.declared.Session.{Session}
-use Rattle.nibl.specs.declared.StopLine.the-variants as stopLine
-use Rattle.nibl.specs.declared.Answer.{Answer}
 use Rattle.nibl.proofs.Ends.{line-text}
 use Rattle.nibl.proofs.Lines.{reading-sound}
 use Rattle.nibl.proofs.Whole.{typed-complete}
@@ -37,8 +35,8 @@ use Rattle.value.proofs.Digits.{value-digits, digits-are, digits-some}
 use Rattle.value.proofs.Writing.{sets-append}
 use Rattle.page.proofs.Program.{both, Bytes, Storable, Program, none, each, program-length, good-bytes}
 use Rattle.page.proofs.Changes.{lower, onto-good, onto-records}
-use Rattle.demands.specs.Leaves.{unpaused, stackless}
-use Rattle.demands.specs.Listing.{listing, listingRoom, written, lentNext, afterLines, answers, Stops0, lastLF}
+use Rattle.demands.specs.Leaves.{stackless}
+use Rattle.demands.specs.Listing.{listing, listingRoom, written, Lists, lentNext, afterLines, answers, Stops0, lastLF, RoundTrip}
 use Rattle.demands.specs.Listing as listings
 use Rattle.demands.proofs.Ways.{Typing}
 use Rattle.demands.proofs.Accepted.{Accepted, accepted-of, accepted-is}
@@ -71,15 +69,6 @@ list-whole (r ∷ rs) w h =
     let a = length-append (listed r) (listing rs) in
     rw (le-leb 0 (r .line) (omega arith), listFrom) (rw (put-fits (listed r) w (omega arith))
     (list-whole rs (wrote w (listed r)) (omega (arith, length-sets (w .output) (w .outpos) (listed r))) ∙ ap (done on) (wrote-more w (listed r) (listing rs))))
-
--- LIST's outcome: the listing written whole, the line taken, the pause ended, nothing else changed
-pub record Lists (x : Lent) (g : Gathered) (o : Outcome) : Type 0 where
-  pub answer : o .answer ≡ record { stop = 0; line = stopLine.NoLine; steps = 0; inpos = x .call .inpos + g .taken; outpos = x .call .outpos + listingRoom (recordsOf (x .page)) }
-  pub session : o .session ≡ unpaused (x .session)
-  pub page : o .page ≡ x .page
-  pub memory : o .memory ≡ x .memory
-  pub output : o .output ≡ sets (x .output) (x .call .outpos) (listing (recordsOf (x .page)))
-  pub wrote : written x o ≡ listing (recordsOf (x .page))
 
 module _ (x : Lent) (g : Gathered) (h : Typing limit x g) (r : LineReading (g .line .bytes) (list 0))
     (room : x .call .outpos + listingRoom (recordsOf (x .page)) ≤ length (x .output)) where
@@ -239,28 +228,6 @@ stackless-fits : (page : List ℕ) (s : Session) → ltb (s .flags) 8 ≡ true �
 unfolding fits
 stackless-fits page s h = rw h
 
-module _ (y : Lent) (p : List ℕ) (long : length p ≡ length (y .page)) (i : ℕ) (inside : i ≤ length (y .input)) (s : Session) where
-  abbrev moved : Lent
-  moved =
-      record {
-        session = s;
-        page = p;
-        memory = y .memory;
-        input = y .input;
-        output = y .output;
-        call = record { inpos = i; outpos = y .call .outpos; sense = y .call .sense; budget = y .call .budget };
-      }
-
-  moved-in-range : inRange y ≡ true → inRange moved ≡ true
-  moved-in-range h =
-      let a = both (leb 2 (length (y .page))) _ h in
-      let b = both (leb (length (y .page)) 4096) _ (a .1) in
-      let c = both (leb (length (y .memory)) 4096) _ (b .1) in
-      let d = both (leb (length (y .input)) 65535) _ (c .1) in
-      let e = both (leb (length (y .output)) 65535) _ (d .1) in
-      let f = both (leb (y .call .inpos) (length (y .input))) _ (e .1) in
-      rw (long, a .0, b .0, c .0, d .0, e .0, le-leb i (length (y .input)) inside) (f .1)
-
 module _ (m : Lent) (ds rs : List Stored) (r : Stored) (p : Program limit 0 (ds ++ r ∷ rs)) (room : usedBy (ds ++ r ∷ rs) ≤ length (m .page))
     (lead : List ℕ) (b : Before lead) (y : Lent) (t : Stage m ds (r ∷ rs) lead y) where
   storable : Storable limit r
@@ -292,10 +259,10 @@ module _ (m : Lent) (ds rs : List Stored) (r : Stored) (p : Program limit 0 (ds 
   line-stored : takeLine y ≡ stops 0 (withSession (begun y (g .taken)) (stackless (y .session))) (onto (m .page) more)
   unfolding obey
   line-stored = listed-read r storable (λ ms l.
-    line-read y g (store (r .line) (r .text) ms) typing (typed-complete l)
-    ∙ ap (λ (l : List Stored). edited (y .page) (begun y (g .taken)) l) (ap (with r) records ∙ last-with r ds rs p)
-    ∙ edited-fits (y .page) (begun y (g .taken)) more (omega (arith, more-room, long))
-    ∙ ap (λ (q : List ℕ). stops 0 (withSession (begun y (g .taken)) (stackless (y .session))) q)
+      line-read y g (store (r .line) (r .text) ms) typing (typed-complete l)
+      ∙ ap (λ (l : List Stored). edited (y .page) (begun y (g .taken)) l) (ap (with r) records ∙ last-with r ds rs p)
+      ∙ edited-fits (y .page) (begun y (g .taken)) more (omega (arith, more-room, long))
+      ∙ ap (λ (q : List ℕ). stops 0 (withSession (begun y (g .taken)) (stackless (y .session))) q)
       (ap (λ (q : List ℕ). onto q more) (t .page) ∙ onto-onto (m .page) ds more (used-front ds (r ∷ []))))
 
   inside : y .call .inpos + g .taken ≤ length (y .input)
@@ -303,10 +270,20 @@ module _ (m : Lent) (ds rs : List Stored) (r : Stored) (p : Program limit 0 (ds 
 
   one-typed : Stage m more rs (10 ∷ []) (lentNext y (takeLine y))
   one-typed =
+      let r′ = t .sound .range in
       rw line-stored
       (record {
         sound = record {
-          inRange = moved-in-range y (onto (m .page) more) (onto-length (m .page) more more-room ∙ sym long) (y .call .inpos + g .taken) inside (stackless (y .session)) (t .sound .inRange);
+          range = record {
+            some = omega (arith, onto-length (m .page) more more-room, long, r′ .some);
+            page = omega (arith, onto-length (m .page) more more-room, long, r′ .page);
+            memory = r′ .memory;
+            input = r′ .input;
+            output = r′ .output;
+            inpos = inside;
+            outpos = r′ .outpos;
+            budget = r′ .budget;
+          };
           good = onto-good (m .page) more-program;
           fit = stackless-fits (onto (m .page) more) (y .session) (fits-flags (y .page) (y .session) (t .sound .fit));
         };
@@ -348,18 +325,6 @@ all-typed : (m : Lent) (rs : List Stored) → Program limit 0 rs → usedBy rs �
 all-typed m [] p h y t = none-typed y t
 all-typed m (r ∷ rs) p h y t =
     step-typed y (one-answered m [] rs r p h [] start y t (length rs)) (more-typed m (r ∷ []) rs p h (lentNext y (takeLine y)) (one-typed m [] rs r p h [] start y t))
-
--- The round trip: x was listed, y is lent with what LIST wrote and an empty page, z is what its lines leave
-pub record RoundTrip (x y z : Lent) : Type 0 where
-  -- "the pages equal byte for byte up to TOP"
-  pub top : used (z .page) ≡ used (x .page)
-  pub same : take (used (x .page)) (z .page) ≡ take (used (x .page)) (x .page)
-  -- and what lay behind it holds
-  pub after : drop (used (x .page)) (z .page) ≡ drop (used (x .page)) (y .page)
-  pub memory : z .memory ≡ y .memory
-  pub output : z .output ≡ y .output
-  -- all lines were typed
-  pub left : drop (z .call .inpos) (z .input) ≡ lastLF (recordsOf (x .page))
 
 module _ (x : Lent) (bytes′ : Bytes (x .page)) (g : Gathered) (h : Typing limit x g) (r : LineReading (g .line .bytes) (list 0))
     (room : x .call .outpos + listingRoom (recordsOf (x .page)) ≤ length (x .output))
@@ -415,4 +380,4 @@ list-gathered rest =
 pub list-read : LineReading (bytes "LIST") (list 0)
 list-read =
     aList (words.letters {cs = 83 ∷ 84 ∷ []} {s = []}
-      (record { some = refl; each = plain.each refl (plain.each refl (plain.each refl (plain.each refl plain.none))); longest = refl }) refl) plain.none
+    (record { some = refl; each = plain.each refl (plain.each refl (plain.each refl (plain.each refl plain.none))); longest = refl }) refl) plain.none

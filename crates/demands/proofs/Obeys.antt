@@ -12,7 +12,7 @@ use Rattle.nibl.specs.Read.{typed}
 use Rattle.nibl.specs.Typing.{Gathered}
 use Rattle.nibl.specs.Page.{Stored, isAmong, isGood, fitsPaused, placesOf, recordsOf, hasLine, without, with, programBytes, onto}
 use Rattle.nibl.specs.Meaning.{World, Env, Done, done, on, skip, go, stop, withSession, exec}
-use Rattle.nibl.specs.Calls.{Lent, Outcome, runFrom, ended, stops, edited, listFrom, immediately, needsProgram, clearStacks, cleared, withPaused, obey, continueFrom, firstRefusal, worldOf, begun, envOf}
+use Rattle.nibl.specs.Calls.{Lent, Outcome, runFrom, ended, stops, edited, listFrom, immediately, needsProgram, clearStacks, cleared, withPaused, obey, continueFrom, firstRefusal, begun, envOf}
 use Rattle.nibl.specs.declared.Session.{Session}
 use Rattle.nibl.specs.declared.Paused.{Paused}
 use Rattle.nibl.specs.declared.Paused.the-variants.{Nowhere, Start, At}
@@ -28,9 +28,8 @@ use Rattle.demands.proofs.Ways.{Typing}
 use Rattle.demands.proofs.Storing.{stored-storable}
 use Rattle.demands.proofs.Places.{good-laid, laid-program}
 use Rattle.demands.proofs.Fits.{Fit, fit-vars, held-none, Goes, toPlace}
-use Rattle.demands.proofs.Fits.{worldOf as worldAfter}
-use Rattle.demands.proofs.Accepted.{accepted-of, ranges-of}
-use Rattle.demands.proofs.Held.{SameLengths, does-lengths}
+use Rattle.demands.proofs.Accepted.{accepted-of}
+use Rattle.demands.proofs.Held.{worldAfter, Steady, same-lengths, does-steady}
 use Rattle.demands.proofs.Carried.{Placed, gathered-inside, other-record, does-placed}
 use Rattle.demands.proofs.Running.{Left, statement-left, list-left}
 
@@ -38,7 +37,7 @@ use Rattle.demands.proofs.Running.{Left, statement-left, list-left}
 abbrev pub lineNumbers : List ℕ
 lineNumbers = 2 ∷ 3 ∷ stopNumbers
 
--- v is the world before the line
+-- v is the world that the line begins in
 pub data Obeyed (lim : ℕ) (e : Env) (v : World) : (ℕ → Outcome) → Type 0 where
   -- a stop with no run
   stands : {n : ℕ} {w : World} → isAmong lineNumbers n ≡ true → Fit (placesOf (e .page)) (w .session) → Obeyed lim e v (λ k. stops n w (e .page))
@@ -46,7 +45,7 @@ pub data Obeyed (lim : ℕ) (e : Env) (v : World) : (ℕ → Outcome) → Type 0
   edits : {w : World} {rs : List Stored} → Program lim 0 rs → w .session .paused ≡ Nowhere → Fit (placesOf (e .page)) (w .session)
       → Obeyed lim e v (λ k. stops 0 (withSession w (clearStacks (w .session))) (onto (e .page) rs))
   -- a run within the budget
-  runs : (q : ℕ) (w : World) → Stands (e .page) q → Fit (placesOf (e .page)) (w .session) → Placed (e .input) w → SameLengths v w
+  runs : (q : ℕ) (w : World) → Stands (e .page) q → Fit (placesOf (e .page)) (w .session) → Placed (e .input) w → Steady v w
       → Obeyed lim e v (λ k. ended (runFrom k e q w) (e .page))
 
 module _ {ps : List ℕ} {s : Session} (f : Fit ps s) where
@@ -63,9 +62,9 @@ module _ (lim : ℕ) (e : Env) (v : World) where
   edit-ways w rs n f p =
       if-split (λ (o : Outcome). Obeyed lim e v (λ k. o)) (leb (length (programBytes rs)) (length (e .page))) (λ h. edits p n f) (λ h. stands refl f)
 
-  left-ways : (d : Done) → Left (e .page) d → Placed (e .input) (worldAfter d) → SameLengths v (worldAfter d) → Obeyed lim e v (λ k. immediately k e d)
+  left-ways : (d : Done) → Left (e .page) d → Placed (e .input) (worldAfter d) → Steady v (worldAfter d) → Obeyed lim e v (λ k. immediately k e d)
   left-ways d l i j = by d (l .fit) (l .goes) (l .stops) i j where
-    by : (d : Done) → Fit (placesOf (e .page)) (worldAfter d .session) → Goes (e .page) d → StopsWith d → Placed (e .input) (worldAfter d) → SameLengths v (worldAfter d)
+    by : (d : Done) → Fit (placesOf (e .page)) (worldAfter d .session) → Goes (e .page) d → StopsWith d → Placed (e .input) (worldAfter d) → Steady v (worldAfter d)
         → Obeyed lim e v (λ k. immediately k e d)
     by (done on w) f g s i j = stands refl f
     by (done skip w) f g s i j = stands refl f
@@ -85,52 +84,52 @@ module _ (lim : ℕ) (x : Lent) (short : lim ≤ 251) (good : isGood lim (x .pag
   cleared-all : (n : ℕ) → Fit (placesOf (x .page)) (cleared (begun x n .session))
   cleared-all n = fit-vars (cleared-fit (begun-fit n) (placesOf (x .page)) refl) _
 
-  carried : {w : World} (n : ℕ) → SameLengths (begun x n) w → SameLengths (worldOf x) w
-  carried n l = record { memory = l .memory; output = l .output }
+  carried : {w : World} (n : ℕ) → Steady (begun x n) w → Steady (begun x 0) w
+  carried n l = record { lengths = record { memory = l .lengths .memory; output = l .lengths .output }; paused = l .paused }
 
   begun-placed : (n : ℕ) → firstRefusal lim x ≡ 0 → x .call .inpos + n ≤ length (x .input) → Placed (x .input) (begun x n)
-  begun-placed n z h = record { inside = h; room = ranges-of x (accepted-of lim x z .inRange) .outpos; unpaused = refl }
+  begun-placed n z h = record { inside = h; room = accepted-of lim x z .range .outpos }
 
   -- a line that was read, if what it stores may be stored
   abbrev Storing : Typed → Type 0
   Storing t = (l : ℕ) (s : List ℕ) (ms : List Member) → t ≡ store l s ms → Program lim 0 (with (record { line = l; text = s }) (recordsOf (x .page)))
 
-  obey-ways : (n : ℕ) (t : Typed) → Storing t → Placed (x .input) (begun x n) → Obeyed lim env (worldOf x) (λ k. obey k env (begun x n) t)
+  obey-ways : (n : ℕ) (t : Typed) → Storing t → Placed (x .input) (begun x n) → Obeyed lim env (begun x 0) (λ k. obey k env (begun x n) t)
   unfolding obey
   obey-ways n blank p i = stands refl (begun-fit n)
-  obey-ways n new p i = edit-ways lim env (worldOf x) (begun x n) [] refl (begun-fit n) no-record
+  obey-ways n new p i = edit-ways lim env (begun x 0) (begun x n) [] refl (begun-fit n) no-record
   obey-ways n clear p i = stands refl (cleared-all n)
-  obey-ways n run p i = runs 0 _ refl (cleared-all n) (other-record (x .input) (cleared (begun x n .session)) refl i) (record { memory = refl; output = refl })
+  obey-ways n run p i = runs 0 _ refl (cleared-all n) (other-record (x .input) (cleared (begun x n .session)) i) (carried n (record { lengths = record { memory = refl; output = refl }; paused = refl }))
   obey-ways n (delete l) p i = by (hasLine l (recordsOf (x .page))) where
-    by : (b : Bool) → Obeyed lim env (worldOf x) (λ k. elim b [ true ↦ edited (x .page) (begun x n) (without l (recordsOf (x .page))) | false ↦ stops 0 (begun x n) (x .page) ])
-    by true = edit-ways lim env (worldOf x) (begun x n) (without l (recordsOf (x .page))) refl (begun-fit n) (without-program l program)
+    by : (b : Bool) → Obeyed lim env (begun x 0) (λ k. elim b [ true ↦ edited (x .page) (begun x n) (without l (recordsOf (x .page))) | false ↦ stops 0 (begun x n) (x .page) ])
+    by true = edit-ways lim env (begun x 0) (begun x n) (without l (recordsOf (x .page))) refl (begun-fit n) (without-program l program)
     by false = stands refl (begun-fit n)
   obey-ways n (list l) p i =
-      left-ways lim env (worldOf x) (listFrom l (recordsOf (x .page)) (begun x n)) (list-left lim env short good l (recordsOf (x .page)) (begun x n) refl (begun-fit n))
-      (does-placed (x .input) refl (list-does env [] l (recordsOf (x .page)) (begun x n)) i) (carried n (does-lengths (list-does env [] l (recordsOf (x .page)) (begun x n))))
-  obey-ways n (store l s ms) p i = edit-ways lim env (worldOf x) (begun x n) _ refl (begun-fit n) (p l s ms refl)
+      left-ways lim env (begun x 0) (listFrom l (recordsOf (x .page)) (begun x n)) (list-left lim env short good l (recordsOf (x .page)) (begun x n) refl (begun-fit n))
+      (does-placed (x .input) refl (list-does env [] l (recordsOf (x .page)) (begun x n)) i) (carried n (does-steady (list-does env [] l (recordsOf (x .page)) (begun x n))))
+  obey-ways n (store l s ms) p i = edit-ways lim env (begun x 0) (begun x n) _ refl (begun-fit n) (p l s ms refl)
   obey-ways n (immediate q) p i = by (needsProgram q) refl where
-    by : (b : Bool) → needsProgram q ≡ b → Obeyed lim env (worldOf x) (λ k. elim b [ true ↦ stops 3 (begun x n) (x .page) | false ↦ immediately k env (exec env q (begun x n)) ])
+    by : (b : Bool) → needsProgram q ≡ b → Obeyed lim env (begun x 0) (λ k. elim b [ true ↦ stops 3 (begun x n) (x .page) | false ↦ immediately k env (exec env q (begun x n)) ])
     by true h = stands refl (begun-fit n)
-    by false h = left-ways lim env (worldOf x) (exec env q (begun x n)) (statement-left lim env short good q (begun x n) refl h (begun-fit n))
-        (does-placed (x .input) refl (exec-does env q (begun x n)) i) (carried n (does-lengths (exec-does env q (begun x n))))
+    by false h = left-ways lim env (begun x 0) (exec env q (begun x n)) (statement-left lim env short good q (begun x n) refl h (begun-fit n))
+        (does-placed (x .input) refl (exec-does env q (begun x n)) i) (carried n (does-steady (exec-does env q (begun x n))))
 
-  pub read-ways : (g : Gathered) (t : Typed) → Typing lim x g → typed (g .line .bytes) ≡ some t → Obeyed lim env (worldOf x) (λ k. obey k env (begun x (g .taken)) t)
+  pub read-ways : (g : Gathered) (t : Typed) → Typing lim x g → typed (g .line .bytes) ≡ some t → Obeyed lim env (begun x 0) (λ k. obey k env (begun x (g .taken)) t)
   read-ways g t y r =
       obey-ways (g .taken) t by
-      (begun-placed (g .taken) (y .sound) (gathered-inside lim (x .input) (x .call .inpos) g (ranges-of x (accepted-of lim x (y .sound) .inRange) .inpos) (y .line)))
+      (begun-placed (g .taken) (y .sound) (gathered-inside lim (x .input) (x .call .inpos) g (accepted-of lim x (y .sound) .range .inpos) (y .line)))
     where
     by : Storing t
     by l s ms e =
         let h : length (g .line .bytes) ≤ lim = taken lim (drop (x .call .inpos) (x .input)) g (y .line) .fine .fits in
         with-program (record { line = l; text = s }) (stored-storable lim short (typed-sound (g .line .bytes) (store l s ms) (r ∙ ap some e)) h) (omega arith) program
 
-  pub continue-ways : firstRefusal lim x ≡ 0 → Obeyed lim env (worldOf x) (λ k. continueFrom lim (budgeted k x) (x .session .paused))
+  pub continue-ways : firstRefusal lim x ≡ 0 → Obeyed lim env (begun x 0) (λ k. continueFrom lim (budgeted k x) (x .session .paused))
   continue-ways z = by (x .session .paused) (fit .paused) where
     r : x .call .inpos + 0 ≤ length (x .input)
-    r = omega (arith, ranges-of x (accepted-of lim x z .inRange) .inpos)
+    r = omega (arith, accepted-of lim x z .range .inpos)
 
-    by : (p : Paused) → fitsPaused (placesOf (x .page)) p ≡ true → Obeyed lim env (worldOf x) (λ k. continueFrom lim (budgeted k x) p)
+    by : (p : Paused) → fitsPaused (placesOf (x .page)) p ≡ true → Obeyed lim env (begun x 0) (λ k. continueFrom lim (budgeted k x) p)
     by Nowhere h = stands refl (begun-fit 0)
-    by Start h = runs 0 (begun x 0) refl (begun-fit 0) (begun-placed 0 z r) (record { memory = refl; output = refl })
-    by (At p) h = runs (suc (p .0)) (begun x 0) h (begun-fit 0) (begun-placed 0 z r) (record { memory = refl; output = refl })
+    by Start h = runs 0 (begun x 0) refl (begun-fit 0) (begun-placed 0 z r) (record { lengths = same-lengths; paused = refl })
+    by (At p) h = runs (suc (p .0)) (begun x 0) h (begun-fit 0) (begun-placed 0 z r) (record { lengths = same-lengths; paused = refl })

@@ -1,38 +1,34 @@
 -- "Fixed effects" on what lies outside: the page after its end mark, the lengths of what is lent; and "One outcome". Assumes nothing.
-use Prim.Native.Nat.{ℕ, zero, suc, _+_, _-_, _≤_}
-use mathlib.Core.Path.{_≡_, refl, sym, ap, _∙_}
-use mathlib.Core.Bool.{Bool, true, false, false≢true, true≢false}
-use mathlib.Core.List.{List, [], _∷_}
-use mathlib.Core.Option.{Option, none, some}
+use Prim.Native.Nat.{ℕ, suc, _-_}
+use mathlib.Core.Path.{_≡_, refl, ap}
+use mathlib.Core.Bool.{Bool, true, false, true≢false}
+use mathlib.Core.List.{List, []}
 use native.Mathlib.Omega.{arith}
-use lib.ListN.{length, drop}
+use lib.ListN.{length}
 use lib.Dec.{leb, eqb}
 use borrow.Author.Tests.{leb-true}
 use Rattle.nibl.specs.Bytes.{if_then_else_}
-use Rattle.nibl.specs.Tree.{Stmt, Typed, blank, new, clear, run, delete, list, store, immediate}
-use Rattle.nibl.specs.Read.{typed}
+use Rattle.nibl.specs.Tree.{Typed, blank, new, clear, run, delete, list, store, immediate}
 use Rattle.nibl.specs.Readings.{LineReading}
-use Rattle.nibl.specs.Typing.{Kept, Gathered, gather}
-use Rattle.nibl.specs.Page.{Stored, recordsOf, programBytes, usedBy, used, hasLine, with, without, onto}
-use Rattle.nibl.specs.Meaning.{World, Env, Next, on, skip, go, stop, Done, done, withSession, exec}
-use Rattle.nibl.specs.Calls.{Lent, Outcome, Ran, runFrom, pausing, outcome, ended, stops, worldOf, begun, envOf, clearStacks, edited, listFrom, immediately, needsProgram, obey, takeLine, continueFrom, continueRun, limit}
+use Rattle.nibl.specs.Typing.{Gathered}
+use Rattle.nibl.specs.Page.{Stored, recordsOf, programBytes, hasLine, with, without, onto}
+use Rattle.nibl.specs.Meaning.{World, Env, on, skip, go, stop, Done, done, withSession, exec}
+use Rattle.nibl.specs.Calls.{Lent, Outcome, runFrom, outcome, ended, stops, worldOf, begun, envOf, clearStacks, edited, listFrom, immediately, needsProgram, obey, takeLine, continueFrom, continueRun, limit}
 use Rattle.nibl.specs.declared.Paused.{Paused}
 use Rattle.nibl.specs.declared.Paused.the-variants.{Nowhere, Start, At}
 use Rattle.nibl.specs.declared.Session.{Session}
 use Rattle.nibl.specs.declared.StopLine.{StopLine}
 use Rattle.nibl.proofs.Determined.{determined}
 use Rattle.nibl.proofs.Lines.{typed-sound}
-use Rattle.nibl.proofs.Whole.{typed-complete}
-use Rattle.page.proofs.Walk.{by-cases}
 use Rattle.page.proofs.Program.{Program, none as no-record, program-length}
 use Rattle.page.proofs.Changes.{with-program, without-program}
 use Rattle.demands.specs.Effects.{Does}
-use Rattle.demands.specs.Leaves.{PageHeld, isEdit}
+use Rattle.demands.specs.Leaves.{PageHeld, LengthsHeld, Agrees, isEdit}
 use Rattle.demands.proofs.Effects.{exec-does, list-does}
 use Rattle.demands.proofs.Ways.{Typing, Takes, refused, noCR, overlong, unread, reads, every-line, Continues, refused′, continues, every-continue}
 use Rattle.demands.proofs.Storing.{stored-storable}
-use Rattle.demands.proofs.Retyping.{program, line-short,  onto-length, onto-after, onto-used}
-use Rattle.demands.proofs.Held.{SameLengths, worldAfter, does-lengths, then-lengths, run-lengths}
+use Rattle.demands.proofs.Retyping.{program, line-short, onto-length, onto-after, onto-used}
+use Rattle.demands.proofs.Held.{SameLengths, same-lengths, worldAfter, does-steady, then-lengths, run-steady}
 
 -- The page
 kept-page : (page : List ℕ) → PageHeld page page
@@ -137,10 +133,6 @@ module _ (x : Lent) where
   page-held = take-holds (every-line limit x)
 
 -- Memory and output keep their lengths
-pub record LengthsHeld (x : Lent) (o : Outcome) : Type 0 where
-  pub memory : length (o .memory) ≡ length (x .memory)
-  pub output : length (o .output) ≡ length (x .output)
-
 module _ (x : Lent) where
   abbrev L : Outcome → Type 0
   L o = LengthsHeld x o
@@ -155,10 +147,10 @@ module _ (x : Lent) where
   run-held : (k : ℕ) (e : Env) (q : ℕ) (w : World) (page : List ℕ) → SameLengths (worldOf x) w → L (ended (runFrom k e q w) page)
   run-held k e q w page s =
       let r = runFrom k e q w in
-      as-lent (then-lengths (then-lengths s (run-lengths k e q w)) (pausing-same (eqb (r .stop) 14) (r .world) _)) _ _ _ page
+      as-lent (then-lengths (then-lengths s (run-steady k e q w .lengths)) (pausing-same (eqb (r .stop) 14) (r .world) _)) _ _ _ page
 
   immediate-held : {vs : List ℕ} {w : World} (k : ℕ) (e : Env) {d : Done} → SameLengths (worldOf x) w → Does e vs w d → L (immediately k e d)
-  immediate-held k e {d = d} s h = by d (then-lengths s (does-lengths h)) where
+  immediate-held k e {d = d} s h = by d (then-lengths s (does-steady h .lengths)) where
     by : (d : Done) → SameLengths (worldOf x) (worldAfter d) → L (immediately k e d)
     by (done on u) t = as-lent t _ _ _ _
     by (done skip u) t = as-lent t _ _ _ _
@@ -192,18 +184,15 @@ module _ (x : Lent) where
   begun-held : (n : ℕ) → SameLengths (worldOf x) (begun x n)
   begun-held n = record { memory = refl; output = refl }
 
-  none-held : SameLengths (worldOf x) (worldOf x)
-  none-held = record { memory = refl; output = refl }
-
   take-held : {o : Outcome} → Takes limit x o → L o
-  take-held (refused h) = as-lent none-held _ _ _ _
-  take-held (noCR z h) = as-lent none-held _ _ _ _
+  take-held (refused h) = as-lent same-lengths _ _ _ _
+  take-held (noCR z h) = as-lent same-lengths _ _ _ _
   take-held (overlong g z h l) = as-lent (begun-held (g .taken)) _ _ _ _
   take-held (unread g h r) = as-lent (begun-held (g .taken)) _ _ _ _
   take-held (reads g y h r) = obey-held (x .call .budget) (envOf limit x) (begun x (g .taken)) y (begun-held (g .taken))
 
   continue-held : {o : Outcome} → Continues limit x o → L o
-  continue-held (refused′ h) = as-lent none-held _ _ _ _
+  continue-held (refused′ h) = as-lent same-lengths _ _ _ _
   continue-held (continues h) = by (x .session .paused) where
     by : (p : Paused) → L (continueFrom limit x p)
     by Nowhere = as-lent (begun-held 0) _ _ _ _
@@ -214,14 +203,7 @@ module _ (x : Lent) where
   unfolding takeLine continueRun
   lengths-held = (take-held (every-line limit x), continue-held (every-continue limit x))
 
--- "One outcome": what meets the promise for the same inputs is the same, all of it
-pub record Agrees (a b : Outcome) : Type 0 where
-  pub answer : a .answer ≡ b .answer
-  pub session : a .session ≡ b .session
-  pub page : a .page ≡ b .page
-  pub memory : a .memory ≡ b .memory
-  pub output : a .output ≡ b .output
-
+-- "One outcome": what meets the promise for the same inputs is the same
 agrees : {a b : Outcome} → a ≡ b → Agrees a b
 agrees e = record { answer = ap (λ o. o .answer) e; session = ap (λ o. o .session) e; page = ap (λ o. o .page) e; memory = ap (λ o. o .memory) e; output = ap (λ o. o .output) e }
 

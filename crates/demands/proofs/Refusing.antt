@@ -1,10 +1,9 @@
 -- What a refusing statement leaves of the variables, and what it may be refused with. Assumes nothing.
-use Prim.Native.Nat.{ℕ, zero, suc, _+_}
-use mathlib.Core.Path.{_≡_, refl, sym, _∙_, ap}
+use Prim.Native.Nat.{ℕ, suc, _+_}
+use mathlib.Core.Path.{_≡_, refl, sym, _∙_}
 use mathlib.Core.Bool.{Bool, true, false, not, true≢false}
-use mathlib.Core.List.{List, [], _∷_, _++_}
+use mathlib.Core.List.{List, [], _∷_}
 use mathlib.Core.Option.{Option, none, some}
-use native.Mathlib.Omega.{arith}
 use lib.ListN.{length, drop, set}
 use lib.Seq.{sets}
 use lib.Dec.{leb, eqb}
@@ -12,20 +11,19 @@ use Rattle.nibl.specs.Bytes.{if_then_else_, bytes}
 use Rattle.nibl.specs.Tree.{Expr, Item, text, stored, value}
 use Rattle.nibl.specs.Tree.{Stmt, letVar, letStat, letByte, letCopy, letText, goto, gosub, until, return, loop, remark, end, print, ifThen, for, next, input, inputText}
 use Rattle.nibl.specs.Read.{replied}
-use Rattle.nibl.specs.Values.{Result, is, no, Value, printed}
-use Rattle.nibl.specs.Stack.{pushOf, popOf, pushFor, popFor}
-use Rattle.nibl.specs.Typing.{Kept, Gathered, gather}
+use Rattle.nibl.specs.Values.{Result, is, no, printed}
+use Rattle.nibl.specs.Stack.{pushOf, pushFor}
+use Rattle.nibl.specs.Typing.{Gathered, gather}
 use Rattle.nibl.specs.Page.{Stored, isAmong, mark, find}
-use Rattle.nibl.specs.Meaning.{World, Env, Next, on, skip, go, stop, Done, done, withVar, withSession, withInpos, withOutput, bind, given, went, stringAt, storeAt, eval, put, putItem, putItems, putEnd, keepIn, lineThere, place, after, gosubTo, returnBy, doHere, untilBy, forHere, goesOn, nextBy, gathered, asked, assign, assignReply, exec}
+use Rattle.nibl.specs.Meaning.{World, Env, on, skip, go, stop, Done, done, withVar, withSession, withInpos, withOutput, bind, given, went, stringAt, eval, put, putItem, putItems, putEnd, keepIn, lineThere, place, gosubTo, returnBy, doHere, untilBy, forHere, goesOn, nextBy, gathered, asked, assign, assignReply, exec}
 use Rattle.nibl.specs.Calls.{needsProgram, listed, listFrom}
-use Rattle.nibl.specs.declared.ForEntry.{ForEntry}
 use Rattle.nibl.specs.declared.Top.{Top}
 use Rattle.nibl.specs.declared.Top.the-variants as top
 use Rattle.nibl.specs.declared.TopFor.{TopFor}
 use Rattle.nibl.specs.declared.TopFor.the-variants as topf
 use Rattle.demands.specs.Effects.{refusals}
 use Rattle.demands.specs.Asks.{asks, inputVars, GivenIn, stay, give}
-use Rattle.demands.proofs.Effects.{valueRefusals, widen, Known, given′, refused′, bind-known, string-known, store-known, line-known, eval-known, went-went, given-went}
+use Rattle.demands.proofs.Effects.{valueRefusals, widen, Known, refused′, bind-known, string-known, store-known, line-known, eval-known, went-went, given-went}
 
 -- 6 and 7 are INPUT's
 abbrev pub quiet : List ℕ
@@ -69,6 +67,7 @@ module _ (us : List ℕ) (b : Bool) where
   put-refuses bs w k f = by (leb (w .outpos + length bs) (length (w .output))) where
     u : World
     u = withOutput w (sets (w .output) (w .outpos) bs) (w .outpos + length bs)
+
     by : (c : Bool) → R (w .session .vars) (went (if c then done on u else done (stop 17) w) k)
     by true = f u refl
     by false = refuse 17 w refl
@@ -150,6 +149,7 @@ module _ (us : List ℕ) (b : Bool) where
     gathered-refuses w (some g) k f = by (g .line .long) where
       u : World
       u = withInpos w (w .inpos + g .taken)
+
       by : (c : Bool) → R (w .session .vars) (elim c [ true ↦ done (stop 6) u | false ↦ k u (g .line .bytes) ])
       by true = refuses six stay
       by false = f u (g .line .bytes) refl
@@ -159,7 +159,7 @@ module _ (us : List ℕ) (b : Bool) where
     unfolding asked
     asked-refuses e w k f =
         put-refuses (bytes "?") w _ (λ u h. again w u _ h (gathered-refuses u (gather (e .lim) (drop (u .inpos) (e .input))) k
-          (λ v bs g. again u w _ (sym h) (f v bs (g ∙ h)))))
+        (λ v bs g. again u w _ (sym h) (f v bs (g ∙ h)))))
 
 -- INPUT's variables
 given-first : {u : ℕ} {us : List ℕ} {b : Bool} {vars : List ℕ} {d : Done} (x : ℕ) → Refusing us b (set vars u x) d → Refusing (u ∷ us) b vars d

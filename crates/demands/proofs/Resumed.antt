@@ -14,23 +14,21 @@ use Rattle.nibl.specs.Read.{typed}
 use Rattle.nibl.specs.Typing.{Gathered}
 use Rattle.nibl.specs.Page.{isGood, placesOf}
 use Rattle.nibl.specs.Meaning.{World, Env, withSession}
-use Rattle.nibl.specs.Calls.{Lent, Outcome, Ran, runFrom, stopAt, ended, stops, outcome, pausing, firstRefusal, worldOf, begun, envOf, withPaused, pausedAt, obeyRead, obeyLine, takeLine, takeLineIn, continueFrom, continueRun, continueRunIn, limit}
-use Rattle.nibl.specs.declared.Session.{Session}
-use Rattle.nibl.specs.declared.Paused.{Paused}
-use Rattle.nibl.specs.declared.Paused.the-variants.{Nowhere}
+use Rattle.nibl.specs.Calls.{Lent, Outcome, Ran, runFrom, stopAt, ended, stops, outcome, pausing, firstRefusal, begun, envOf, withPaused, pausedAt, obeyRead, obeyLine, takeLine, takeLineIn, continueFrom, continueRun, continueRunIn, limit}
 use Rattle.page.proofs.Walk.{by-cases}
 use Rattle.demands.specs.Listing.{lentNext}
 use Rattle.demands.specs.Sound.{Sized, Sound, Stands, budgeted, resumed, continued, total}
 use Rattle.demands.proofs.Budget.{joined, split-run}
 use Rattle.demands.proofs.Ways.{lineOf, Typing}
-use Rattle.demands.proofs.Held.{SameLengths, run-lengths, then-lengths}
-use Rattle.demands.proofs.Accepted.{accepted-of, accepted-is, accepted-less, Ranges, ranges-of, ranges-is, take-at, continue-at}
+use Rattle.demands.proofs.Held.{Steady, run-steady, then-lengths}
+use Rattle.demands.proofs.Accepted.{accepted-of, accepted-is, accepted-less, InRange, take-at, continue-at}
 use Rattle.demands.proofs.Fits.{Fit, sound-fit}
 use Rattle.demands.proofs.Running.{Goings, runsOut, pauses, steps, run-goes}
 use Rattle.demands.proofs.Running.{stops as halts}
 use Rattle.demands.proofs.Carried.{Placed, run-placed}
 use Rattle.demands.proofs.Obeys.{Obeyed, stands, edits, runs, read-ways, continue-ways}
 use Rattle.demands.proofs.Sound.{unrefused, run-settled, goings-fit, goings-stands}
+use Rattle.demands.proofs.LastStep.{unpaused-same}
 use Rattle.demands.proofs.Line.{silent}
 
 -- the line of a run that went on is that of what it went on with
@@ -50,12 +48,8 @@ from-pause : (lim : ℕ) (y : Lent) (q : ℕ) → continueFrom lim y (pausedAt q
 from-pause lim y zero = refl
 from-pause lim y (suc p) = refl
 
--- and in the world that it left
-unpausing : (s : Session) (p : Paused) → s .paused ≡ Nowhere → withPaused (withPaused s p) Nowhere ≡ s
-unpausing s p e = λ i. record { vars = s .vars; flags = s .flags; gosubs = s .gosubs; dos = s .dos; fors = s .fors; paused = sym e i }
-
 module _ (lim : ℕ) (short : lim ≤ 251) (x : Lent) (good : isGood lim (x .page) ≡ true) (q : ℕ) (w : World) (s : Stands (x .page) q)
-    (f : Fit (placesOf (x .page)) (w .session)) (p : Placed (x .input) w) (l : SameLengths (worldOf x) w) where
+    (f : Fit (placesOf (x .page)) (w .session)) (p : Placed (x .input) w) (l : Steady (begun x 0) w) where
   abbrev r : ℕ → Ran
   r a = runFrom a (envOf lim x) q w
 
@@ -75,21 +69,21 @@ module _ (lim : ℕ) (short : lim ≤ 251) (x : Lent) (good : isGood lim (x .pag
 
     accepted : firstRefusal lim (y a b) ≡ 0
     accepted =
-        let c = ranges-of (budgeted (a + b) x) (accepted-of lim (budgeted (a + b) x) z .inRange) in
-        let n = then-lengths l (run-lengths a (envOf lim x) q w) in
+        let c = accepted-of lim (budgeted (a + b) x) z .range in
+        let n = then-lengths (l .lengths) (run-steady a (envOf lim x) q w .lengths) in
         let d = run-settled lim (envOf lim x) short good a q w s f .sound in
-        let h : Ranges (y a b) =
+        let h : InRange (y a b) =
           rw paused
           (record {
-            least = c .least; most = c .most; memory = omega (arith, n .memory); input = c .input; output = omega (arith, n .output); inpos = left .inside;
+            some = c .some; page = c .page; memory = omega (arith, n .memory); input = c .input; output = omega (arith, n .output); inpos = left .inside;
             outpos = left .room; budget = omega (arith, c .budget) }) in
-        accepted-is (record { inRange = ranges-is h; good = d .good; fit = d .fitting })
+        accepted-is (record { range = h; good = d .good; fit = d .fitting })
 
     world-back : begun (y a b) 0 ≡ r a .world
     world-back =
         rw paused
         (λ i. record {
-          session = unpausing (r a .world .session) (pausedAt (r a .at)) (left .unpaused) i; memory = r a .world .memory; output = r a .world .output;
+          session = unpaused-same (r a .world .session) (run-steady a (envOf lim x) q w .paused ∙ l .paused) i; memory = r a .world .memory; output = r a .world .output;
           outpos = r a .world .outpos; inpos = add-zero (r a .world .inpos) i })
 
     goes-on : continueRunIn lim (y a b) ≡ ended (runFrom b (envOf lim x) (r a .at) (r a .world)) (x .page)
@@ -120,7 +114,7 @@ module _ (lim : ℕ) (short : lim ≤ 251) (x : Lent) (h : Sound lim (x .page) (
   unpaused : (u : Outcome) → (u .answer .stop ≡ 14 → ⊥) → Resumes lim x b u u
   unpaused u n = record { after = λ e. absurd (n e); over = λ e. refl }
 
-  obeyed-resumes : {o : ℕ → Outcome} → Obeyed lim (envOf lim x) (worldOf x) o → Resumes lim x b (o a) (o (a + b))
+  obeyed-resumes : {o : ℕ → Outcome} → Obeyed lim (envOf lim x) (begun x 0) o → Resumes lim x b (o a) (o (a + b))
   obeyed-resumes (stands {n = n} {w = w} i f) = unpaused (stops n w (x .page)) (λ e. false≢true (rw e at i))
   obeyed-resumes (edits p n f) = unpaused _ (λ e. omega arith)
   obeyed-resumes (runs q w s f p l) = record { after = after-pause lim short x (h .good) q w s f p l a b z; over = by } where

@@ -1,28 +1,28 @@
 -- "Retyping replaces". Assumes nothing.
-use Prim.Native.Nat.{ℕ, zero, suc, _+_, _-_, _≤_, _<_}
-use mathlib.Core.Path.{_≡_, refl, sym, ap, subst, _∙_}
-use mathlib.Core.Bool.{Bool, true, false, not, _&&_, _||_, false≢true, true≢false}
-use mathlib.Core.List.{List, [], _∷_, _++_}
+use Prim.Native.Nat.{ℕ, suc, _+_, _-_, _≤_, _<_}
+use mathlib.Core.Path.{_≡_, refl, sym, ap, _∙_}
+use mathlib.Core.Bool.{Bool, true, false, _||_, false≢true, true≢false}
+use mathlib.Core.List.{List, [], _∷_}
 use mathlib.Core.Option.{some}
 use native.Mathlib.Omega.{arith}
 use lib.ListN.{length, drop, length-append, length-drop}
 use lib.Seq.{drop-append-seam}
-use lib.Dec.{ltb, leb, eqb}
-use borrow.Author.Tests.{ltb-true, ltb-false, leb-true, eqb-true, eqb-false, lt-ltb, le-ltb, le-leb, lt-leb, eq-eqb, ne-eqb}
+use lib.Dec.{ltb, eqb}
+use borrow.Author.Tests.{ltb-true, eqb-true, eqb-false, le-leb, lt-leb, eq-eqb, ne-eqb}
 use Rattle.nibl.specs.Bytes.{if_then_else_}
-use Rattle.nibl.specs.Tree.{Member, Typed, delete, store}
+use Rattle.nibl.specs.Tree.{Member, Typed, new, delete, store}
 use Rattle.nibl.specs.Read.{typed}
 use Rattle.nibl.specs.Readings.{LineReading}
-use Rattle.nibl.specs.Typing.{Kept, Gathered, gather}
-use Rattle.nibl.specs.Page.{Stored, programBytes, isEnd, isGood, fits, recordsOf, size, used, usedBy, hasLine, with, without, onto}
-use Rattle.nibl.specs.Calls.{Lent, Outcome, stops, inRange, firstRefusal, worldOf, begun, envOf, clearStacks, edited, obey, obeyLine, obeyRead, takeLine, takeLineIn, limit}
+use Rattle.nibl.specs.Typing.{Gathered}
+use Rattle.nibl.specs.Page.{Stored, programBytes, isEnd, fits, recordsOf, size, used, usedBy, hasLine, with, without, onto}
+use Rattle.nibl.specs.Calls.{Lent, stops, begun, envOf, clearStacks, edited, obey, takeLine, takeLineIn, limit}
 use Rattle.nibl.specs.Meaning.{World, withSession}
 use Rattle.nibl.proofs.Whole.{typed-complete}
 use Rattle.letter.proofs.Typed.{taken}
 use Rattle.page.proofs.Walk.{by-cases}
 use Rattle.page.proofs.Program.{both, Program, none, each, program-length}
 use Rattle.page.proofs.Changes.{with-program, without-program, onto-good, onto-records}
-use Rattle.demands.specs.Leaves.{ofLine, others, answered, stackless, lineTaken}
+use Rattle.demands.specs.Leaves.{ofLine, others, Rising, alone, rises, lineTaken, Edits, Replaces, Deletes}
 use Rattle.demands.proofs.Ways.{Typing}
 use Rattle.demands.proofs.Places.{Laid, ends, laid, good-laid, laid-program}
 use Rattle.demands.proofs.Storing.{stored-storable}
@@ -122,16 +122,6 @@ laid-room {at = at} {page = page} (ends e) = omega (arith, end-long (drop at pag
 laid-room (laid e l s n t p) = omega (arith, laid-room p)
 
 -- What an edit leaves
-pub record Edits (x : Lent) (taken : ℕ) (o : Outcome) : Type 0 where
-  pub answer : o .answer ≡ answered x 0 taken
-  pub session : o .session ≡ stackless (x .session)
-  pub memory : o .memory ≡ x .memory
-  pub output : o .output ≡ x .output
-  pub good : isGood limit (o .page) ≡ true
-  pub rising : Program limit 0 (recordsOf (o .page))
-  pub long : length (o .page) ≡ length (x .page)
-  pub after : drop (used (o .page)) (o .page) ≡ drop (used (o .page)) (x .page)
-
 pub edited-fits : (page : List ℕ) (w : World) (rs : List Stored) → usedBy rs ≤ length page → edited page w rs ≡ stops 0 (withSession w (clearStacks (w .session))) (onto page rs)
 unfolding edited
 edited-fits page w rs h = rw (program-length rs, le-leb (usedBy rs) (length page) h)
@@ -150,6 +140,10 @@ pub onto-used : {rs : List Stored} (page : List ℕ) → Program limit 0 rs → 
 unfolding used
 onto-used page p = ap usedBy (onto-records page p)
 
+program-rises : {lim low : ℕ} {rs : List Stored} → Program lim low rs → Rising low rs
+program-rises none = alone
+program-rises (each l s p) = rises l (program-rises p)
+
 edit-leaves : (x : Lent) (taken : ℕ) {rs : List Stored} → Program limit 0 rs → usedBy rs ≤ length (x .page) → Edits x taken (edited (x .page) (begun x taken) rs)
 edit-leaves x taken {rs = rs} p h =
     rw (edited-fits (x .page) (begun x taken) rs h)
@@ -159,19 +153,10 @@ edit-leaves x taken {rs = rs} p h =
       memory = refl;
       output = refl;
       good = onto-good (x .page) p;
-      rising = rw (onto-records (x .page) p) p;
+      rising = rw (onto-records (x .page) p) (program-rises p);
       long = onto-length (x .page) rs h;
       after = rw (onto-used (x .page) p) (onto-after (x .page) rs);
     })
-
--- "a typed `n text` that is stored leaves exactly one record of number n, with that text"
-pub record Replaces (x : Lent) (n : ℕ) (t : List ℕ) (o : Outcome) : Type 0 where
-  pub one : ofLine n (recordsOf (o .page)) ≡ record { line = n; text = t } ∷ []
-  pub rest : others n (recordsOf (o .page)) ≡ others n (recordsOf (x .page))
-
-pub record Deletes (x : Lent) (n : ℕ) (o : Outcome) : Type 0 where
-  pub gone : ofLine n (recordsOf (o .page)) ≡ []
-  pub rest : recordsOf (o .page) ≡ others n (recordsOf (x .page))
 
 module _ (x : Lent) (g : Gathered) (h : Typing limit x g) where
   on-page : Laid limit (x .page) 0 0 (recordsOf (x .page))
@@ -203,12 +188,20 @@ module _ (x : Lent) (g : Gathered) (h : Typing limit x g) where
         rw stores (
           edit-leaves x (g .taken) p f,
           rw (edited-fits (x .page) (begun x (g .taken)) (with q (recordsOf (x .page))) f)
-          (record { one = rw (onto-records (x .page) p) (w .one); rest = rw (onto-records (x .page) p) (w .rest) }),
+              (record { one = rw (onto-records (x .page) p) (w .one); rest = rw (onto-records (x .page) p) (w .rest) }),
         )
 
     -- "No room: 2, page and stacks kept"
     pub no-room : length (x .page) < usedBy (others n (recordsOf (x .page))) + (length t + 4) → takeLine x ≡ lineTaken x 2 (g .taken)
     no-room full = stores ∙ edited-full (x .page) (begun x (g .taken)) (with q (recordsOf (x .page))) (omega (arith, with-is q program .room))
+
+  -- NEW
+  pub new-empties : LineReading (g .line .bytes) new → Edits x (g .taken) (takeLine x) × (recordsOf (takeLine x .page) ≡ [])
+  unfolding obey
+  new-empties r =
+      let o : takeLine x ≡ edited (x .page) (begun x (g .taken)) [] = line-read x g new h (typed-complete r) in
+      let f : 2 ≤ length (x .page) = accepted-of limit x (h .sound) .range .some in
+      rw o (edit-leaves x (g .taken) none f, rw (edited-fits (x .page) (begun x (g .taken)) [] f) (onto-records {lim = limit} (x .page) none))
 
   module _ (n : ℕ) (r : LineReading (g .line .bytes) (delete n)) where
     deletes : (b : Bool) → hasLine n (recordsOf (x .page)) ≡ b
@@ -228,7 +221,7 @@ module _ (x : Lent) (g : Gathered) (h : Typing limit x g) where
           rw (deletes true e) (
             edit-leaves x (g .taken) p f,
             rw (edited-fits (x .page) (begun x (g .taken)) rs f)
-            (record { gone = rw (onto-records (x .page) p) (without-none n program); rest = rw (onto-records (x .page) p) o }),
+                (record { gone = rw (onto-records (x .page) p) (without-none n program); rest = rw (onto-records (x .page) p) o }),
           )
 
     -- "deleting an absent line keeps page and stacks"

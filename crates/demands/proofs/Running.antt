@@ -20,12 +20,13 @@ use Rattle.demands.specs.Sound.{Stands}
 use Rattle.demands.proofs.Effects.{exec-does, list-does}
 use Rattle.demands.proofs.Runs.{endOf, crOf, every-run}
 use Rattle.demands.proofs.Budget.{StopsWith, goes, stopped, stopNumbers, does-stops}
+use Rattle.demands.proofs.Held.{worldAfter}
 use Rattle.demands.proofs.Places.{Follows, nothing as ended, text, Ready, stands-follows}
-use Rattle.demands.proofs.Fits.{Fit, Held, Goes, toPlace, worldOf, does-fits, does-goes, found-lettered, Keeps, kept, went-keeps, put-keeps, exec-keeps, savedIn, placeIn, entryIn}
+use Rattle.demands.proofs.Fits.{Fit, Held, Goes, toPlace, does-fits, does-goes, found-lettered, Keeps, kept, went-keeps, put-keeps, exec-keeps, savedIn, placeIn, entryIn}
 
 -- a statement left a fitting record, and goes on to where a run may stand or stops with one of its numbers
 pub record Left (page : List ℕ) (d : Done) : Type 0 where
-  pub fit : Fit (placesOf page) (worldOf d .session)
+  pub fit : Fit (placesOf page) (worldAfter d .session)
   pub goes : Goes page d
   pub stops : StopsWith d
 
@@ -98,7 +99,7 @@ module _ (lim : ℕ) (e : Env) (short : lim ≤ 251) (good : isGood lim (e .page
   step-goes : (k p cr : ℕ) (d : Done) (f : ℕ → World → Ran) → isAmong (placesOf (e .page)) p ≡ true → isAmong (placesOf (e .page)) cr ≡ true → Left (e .page) d → Sure k f
       → Goings (e .page) (suc k) (stepped (lineOf (e .page) p) (onward d p cr f))
   step-goes k p cr d f h c l s = by d (l .fit) (l .goes) (l .stops) where
-    by : (d : Done) → Fit (placesOf (e .page)) (worldOf d .session) → Goes (e .page) d → StopsWith d → Goings (e .page) (suc k) (stepped (lineOf (e .page) p) (onward d p cr f))
+    by : (d : Done) → Fit (placesOf (e .page)) (worldAfter d .session) → Goes (e .page) d → StopsWith d → Goings (e .page) (suc k) (stepped (lineOf (e .page) p) (onward d p cr f))
     by (done on w) i g n = steps p h (s (suc p) w h i)
     by (done skip w) i g n = steps p h (s (suc cr) w c i)
     by (done (go q) w) i (toPlace t) n = steps p h (s q w t i)

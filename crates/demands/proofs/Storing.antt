@@ -1,24 +1,22 @@
 -- A typed line that is read as one to store gives a record that a page may hold. Assumes nothing.
 use Prim.Native.Nat.{ℕ, zero, suc, _+_, _-_, _*_, _/_, _%_, _≤_, _<_}
-use mathlib.Core.Path.{_≡_, refl, ap, _∙_}
-use mathlib.Core.Bool.{Bool, true, false, not, _&&_, false≢true}
-use mathlib.Core.List.{List, [], _∷_, _++_}
+use mathlib.Core.Path.{_≡_, ap}
+use mathlib.Core.Bool.{Bool, true, false, false≢true}
+use mathlib.Core.List.{List, [], _∷_}
 use native.Mathlib.Omega.{arith}
 use lib.ListN.{length, length-append}
 use lib.Dec.{ltb, leb}
-use borrow.Author.Tests.{lt-ltb, ltb-true, ltb-false, le-leb, leb-true}
-use Rattle.nibl.specs.Bytes.{isDigit, All, none, each, starts, decimalValue}
-use Rattle.nibl.specs.Words.{Token, decimal, Run, Word, spaced}
+use borrow.Author.Tests.{lt-ltb, le-leb, leb-true}
+use Rattle.nibl.specs.Bytes.{isDigit, All, none, each, decimalValue}
+use Rattle.nibl.specs.Words.{decimal, Run, Word, spaced}
 use Rattle.nibl.specs.Words as words
 use Rattle.nibl.specs.Grammar.{aStore}
 use Rattle.nibl.specs.Tree.{Member, store}
-use Rattle.nibl.specs.Read.{reading}
 use Rattle.nibl.specs.Readings.{LineReading}
 use Rattle.nibl.specs.Values.{digitsN, digits}
-use Rattle.nibl.specs.Page.{Stored, hasReading, isStorable}
+use Rattle.nibl.specs.Page.{isStorable}
 use Rattle.nibl.proofs.Ends.{members-first}
 use Rattle.nibl.proofs.Whole.{reading-complete}
-use Rattle.page.proofs.Walk.{by-cases}
 use Rattle.page.proofs.Program.{both, Storable}
 use Rattle.page.proofs.Changes.{storable}
 use Rattle.value.proofs.Digits.{digits-before}
@@ -41,8 +39,10 @@ one-digit-more zero n c h = omega arith
 one-digit-more (suc k) n c h = by (ltb (n * 10 + c) 10) where
   x : ℕ
   x = 48 + (n * 10 + c) % 10
+
   q : (n * 10 + c) / 10 ≡ n
   q = omega arith
+
   by : (b : Bool) → length {A = ℕ} (elim b [ true ↦ (48 + (n * 10 + c)) ∷ [] | false ↦ digitsN k ((n * 10 + c) / 10) (x ∷ []) ]) ≤ suc (length (digitsN (suc k) n []))
   by true = omega arith
   by false =

@@ -1,5 +1,5 @@
 -- What a call leaves, written out: the demands' sentences name these.
-use Prim.Native.Nat.{ℕ, _+_, _≤_}
+use Prim.Native.Nat.{ℕ, suc, _+_, _≤_}
 use mathlib.Core.Path.{_≡_}
 use mathlib.Core.Bool.{Bool, true, false}
 use mathlib.Core.List.{List, [], _∷_}
@@ -11,9 +11,9 @@ use Rattle.nibl.specs.Bytes.{if_then_else_}
 use Rattle.nibl.specs.Typing.{Gathered, gather}
 use Rattle.nibl.specs.Stack.{popOf}
 use Rattle.nibl.specs.Tree.{Typed, blank, new, clear, run, delete, list, store, immediate}
-use Rattle.nibl.specs.Page.{Stored, mark, used}
+use Rattle.nibl.specs.Page.{Stored, isGood, recordsOf, mark, used}
 use Rattle.nibl.specs.Meaning.{World, Env, withGosubs}
-use Rattle.nibl.specs.Calls.{Lent, Outcome}
+use Rattle.nibl.specs.Calls.{Lent, Outcome, limit}
 use Rattle.nibl.specs.declared.Paused.the-variants.{Nowhere}
 use Rattle.nibl.specs.declared.Session.{Session}
 use Rattle.nibl.specs.declared.Place.{Place}
@@ -30,6 +30,11 @@ ofLine n (r ∷ rs) = if eqb (r .line) n then r ∷ ofLine n rs else ofLine n rs
 abbrev pub others : ℕ → List Stored → List Stored
 others n [] = []
 others n (r ∷ rs) = if eqb (r .line) n then others n rs else r ∷ others n rs
+
+-- "in strictly rising line number", from low on
+pub data Rising : ℕ → List Stored → Type 0 where
+  alone : {low : ℕ} → Rising low []
+  rises : {low : ℕ} {r : Stored} {rs : List Stored} → low ≤ r .line → Rising (suc (r .line)) rs → Rising low (r ∷ rs)
 
 -- a stop with no line and no steps, after so many bytes of the input; the output position as it came
 abbrev pub answered : Lent → ℕ → ℕ → Answer
@@ -65,6 +70,27 @@ unchanged x n =
 -- the line is taken, the pause ended, and nothing else changed
 abbrev pub lineTaken : Lent → ℕ → ℕ → Outcome
 lineTaken x n taken = record { answer = answered x n taken; session = unpaused (x .session); page = x .page; memory = x .memory; output = x .output }
+
+-- What an edit leaves: stop 0, no line, 0 steps; "stacks cleared, variables and flags kept"; a good page whose records rise, of the same
+-- length, and what lies after its end mark as it was
+pub record Edits (x : Lent) (taken : ℕ) (o : Outcome) : Type 0 where
+  pub answer : o .answer ≡ answered x 0 taken
+  pub session : o .session ≡ stackless (x .session)
+  pub memory : o .memory ≡ x .memory
+  pub output : o .output ≡ x .output
+  pub good : isGood limit (o .page) ≡ true
+  pub rising : Rising 0 (recordsOf (o .page))
+  pub long : length (o .page) ≡ length (x .page)
+  pub after : drop (used (o .page)) (o .page) ≡ drop (used (o .page)) (x .page)
+
+-- "exactly one record of number n, with that text; all other records as they were"
+pub record Replaces (x : Lent) (n : ℕ) (t : List ℕ) (o : Outcome) : Type 0 where
+  pub one : ofLine n (recordsOf (o .page)) ≡ record { line = n; text = t } ∷ []
+  pub rest : others n (recordsOf (o .page)) ≡ others n (recordsOf (x .page))
+
+pub record Deletes (x : Lent) (n : ℕ) (o : Outcome) : Type 0 where
+  pub gone : ofLine n (recordsOf (o .page)) ≡ []
+  pub rest : recordsOf (o .page) ≡ others n (recordsOf (x .page))
 
 -- Whole items from a position of the output on, one after the other: the output then, and the position
 pub data Items : List ℕ → ℕ → List ℕ → ℕ → Type 0 where
@@ -110,6 +136,19 @@ pub record Grown (out : List ℕ) (at : ℕ) (out' : List ℕ) (at' : ℕ) : Typ
 pub record PageHeld (page page' : List ℕ) : Type 0 where
   pub long : length page' ≡ length page
   pub after : drop (used page') page' ≡ drop (used page') page
+
+-- memory and output keep their lengths
+pub record LengthsHeld (x : Lent) (o : Outcome) : Type 0 where
+  pub memory : length (o .memory) ≡ length (x .memory)
+  pub output : length (o .output) ≡ length (x .output)
+
+-- two outcomes are the same, all of them
+pub record Agrees (a b : Outcome) : Type 0 where
+  pub answer : a .answer ≡ b .answer
+  pub session : a .session ≡ b .session
+  pub page : a .page ≡ b .page
+  pub memory : a .memory ≡ b .memory
+  pub output : a .output ≡ b .output
 
 -- whether a typed line edits the program
 abbrev pub isEdit : Typed → Bool

@@ -3,3 +3,4 @@ pub mod Asks
 pub mod Leaves
 pub mod Listing
 pub mod Sound
+pub mod Steps
