@@ -81,7 +81,7 @@ accepted-less lim x k l h e =
     let a = accepted-of lim (budgeted l x) e in
     let r = a .range in
     let less : InRange (budgeted k x) =
-      record { some = r .some; page = r .page; memory = r .memory; input = r .input; output = r .output; inpos = r .inpos; outpos = r .outpos; budget = omega arith } in
+    record { some = r .some; page = r .page; memory = r .memory; input = r .input; output = r .output; inpos = r .inpos; outpos = r .outpos; budget = omega arith } in
     accepted-is (record { range = less; good = a .good; fit = a .fit })
 
 -- it does what its line does, or what its pause says

@@ -66,4 +66,4 @@ module _ (input : List ℕ) where
   run-placed e i k q w =
       every-run e (λ k q w r. Placed input w → Placed input (r .world)) (λ k q w h p. p) (λ q w a h p. p) (λ k q w a h g p. p)
       (λ k q w a m s h g f p. onward-placed (exec (envAt e (endOf e a m)) (m .statement) w) (endOf e a m) (crOf e a) (runFrom k e)
-        (does-placed i (exec-does (envAt e (endOf e a m)) (m .statement) w) p) f) k q w
+      (does-placed i (exec-does (envAt e (endOf e a m)) (m .statement) w) p) f) k q w

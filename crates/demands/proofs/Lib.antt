@@ -23,3 +23,4 @@ pub mod Outside
 pub mod LastStep
 pub mod Resumed
 pub mod Steps
+pub mod Within

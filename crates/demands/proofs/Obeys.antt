@@ -119,10 +119,10 @@ module _ (lim : ℕ) (x : Lent) (short : lim ≤ 251) (good : isGood lim (x .pag
       obey-ways (g .taken) t by
       (begun-placed (g .taken) (y .sound) (gathered-inside lim (x .input) (x .call .inpos) g (accepted-of lim x (y .sound) .range .inpos) (y .line)))
     where
-    by : Storing t
-    by l s ms e =
-        let h : length (g .line .bytes) ≤ lim = taken lim (drop (x .call .inpos) (x .input)) g (y .line) .fine .fits in
-        with-program (record { line = l; text = s }) (stored-storable lim short (typed-sound (g .line .bytes) (store l s ms) (r ∙ ap some e)) h) (omega arith) program
+      by : Storing t
+      by l s ms e =
+          let h : length (g .line .bytes) ≤ lim = taken lim (drop (x .call .inpos) (x .input)) g (y .line) .fine .fits in
+          with-program (record { line = l; text = s }) (stored-storable lim short (typed-sound (g .line .bytes) (store l s ms) (r ∙ ap some e)) h) (omega arith) program
 
   pub continue-ways : firstRefusal lim x ≡ 0 → Obeyed lim env (begun x 0) (λ k. continueFrom lim (budgeted k x) (x .session .paused))
   continue-ways z = by (x .session .paused) (fit .paused) where

@@ -73,18 +73,29 @@ module _ (lim : ℕ) (short : lim ≤ 251) (x : Lent) (good : isGood lim (x .pag
         let n = then-lengths (l .lengths) (run-steady a (envOf lim x) q w .lengths) in
         let d = run-settled lim (envOf lim x) short good a q w s f .sound in
         let h : InRange (y a b) =
-          rw paused
-          (record {
-            some = c .some; page = c .page; memory = omega (arith, n .memory); input = c .input; output = omega (arith, n .output); inpos = left .inside;
-            outpos = left .room; budget = omega (arith, c .budget) }) in
+        rw paused
+        (record {
+          some = c .some;
+          page = c .page;
+          memory = omega (arith, n .memory);
+          input = c .input;
+          output = omega (arith, n .output);
+          inpos = left .inside;
+          outpos = left .room;
+          budget = omega (arith, c .budget);
+        }) in
         accepted-is (record { range = h; good = d .good; fit = d .fitting })
 
     world-back : begun (y a b) 0 ≡ r a .world
     world-back =
         rw paused
         (λ i. record {
-          session = unpaused-same (r a .world .session) (run-steady a (envOf lim x) q w .paused ∙ l .paused) i; memory = r a .world .memory; output = r a .world .output;
-          outpos = r a .world .outpos; inpos = add-zero (r a .world .inpos) i })
+          session = unpaused-same (r a .world .session) (run-steady a (envOf lim x) q w .paused ∙ l .paused) i;
+          memory = r a .world .memory;
+          output = r a .world .output;
+          outpos = r a .world .outpos;
+          inpos = add-zero (r a .world .inpos) i;
+        })
 
     goes-on : continueRunIn lim (y a b) ≡ ended (runFrom b (envOf lim x) (r a .at) (r a .world)) (x .page)
     goes-on =
@@ -100,7 +111,7 @@ module _ (lim : ℕ) (short : lim ≤ 251) (x : Lent) (good : isGood lim (x .pag
         let g = run-goes lim env short good a q w s f in
         let h = run-goes lim env short good b (r a .at) (r a .world) (goings-stands g e) (goings-fit g) in
         let whole : r (a + b) ≡ record { stop = t .stop; lines = r a .lines ++ t .lines; at = t .at; world = t .world } =
-          split-run a b env q w ∙ rw (eq-eqb (r a .stop) 14 e, joined) in
+        split-run a b env q w ∙ rw (eq-eqb (r a .stop) 14 e, joined) in
         ap (λ (k : Ran). ended k (x .page)) whole
         ∙ (λ i. outcome (t .stop) (goings-line h (r a .lines) i) (length-append (r a .lines) (t .lines) i) (pausing (t .stop) (t .at) (t .world)) (x .page))
         ∙ ap (resumed (o a)) (sym goes-on)
@@ -121,7 +132,7 @@ module _ (lim : ℕ) (short : lim ≤ 251) (x : Lent) (h : Sound lim (x .page) (
     by : (runFrom a (envOf lim x) q w .stop ≡ 14 → ⊥) → ended (runFrom (a + b) (envOf lim x) q w) (x .page) ≡ ended (runFrom a (envOf lim x) q w) (x .page)
     by n =
         let same : runFrom (a + b) (envOf lim x) q w ≡ runFrom a (envOf lim x) q w =
-          split-run a b (envOf lim x) q w ∙ rw (ne-eqb (runFrom a (envOf lim x) q w .stop) 14 n, joined) in
+        split-run a b (envOf lim x) q w ∙ rw (ne-eqb (runFrom a (envOf lim x) q w .stop) 14 n, joined) in
         ap (λ (k : Ran). ended k (x .page)) same
 
   read-resumes : (g : Gathered) → Typing lim x g → (t : Option Typed) → typed (g .line .bytes) ≡ t
@@ -134,6 +145,7 @@ module _ (lim : ℕ) (short : lim ≤ 251) (x : Lent) (h : Sound lim (x .page) (
   line-resumes i (some g) e = by (g .line .long) refl where
     at : Bool → ℕ → Outcome
     at c n = elim c [ true ↦ stops 5 (begun x (g .taken)) (x .page) | false ↦ obeyRead n (envOf lim x) (begun x (g .taken)) (typed (g .line .bytes)) ]
+
     by : (c : Bool) → g .line .long ≡ c → Resumes lim x b (at c a) (at c (a + b))
     by true l = unpaused _ (λ e. omega arith)
     by false l = read-resumes g (record { sound = i; line = e; short = l }) (typed (g .line .bytes)) refl
@@ -145,9 +157,10 @@ module _ (lim : ℕ) (short : lim ≤ 251) (x : Lent) (sized : Sized (x .session
       let y = accepted-less lim x a (a + b) (omega arith) z in
       let h = unrefused lim c sized z in
       let t = line-resumes lim short c h a b z z (lineOf lim x) refl in
-      let k = obeyed-resumes lim short c h a b z (continue-ways lim c short (h .good) (sound-fit h) z) in
-      (rw (take-at lim (budgeted a x) y, take-at lim c z) (record { after = t .after; over = t .over }),
-      rw (continue-at lim (budgeted a x) y, continue-at lim c z) (record { after = k .after; over = k .over }))
+      let k = obeyed-resumes lim short c h a b z (continue-ways lim c short (h .good) (sound-fit h) z) in (
+        rw (take-at lim (budgeted a x) y, take-at lim c z) (record { after = t .after; over = t .over }),
+        rw (continue-at lim (budgeted a x) y, continue-at lim c z) (record { after = k .after; over = k .over }),
+      )
 
 -- any number of pauses
 module _ (x : Lent) (F : ℕ → Outcome) (two : (a b : ℕ) → firstRefusal limit (budgeted (a + b) x) ≡ 0 → Resumes limit x b (F a) (F (a + b))) where
@@ -166,6 +179,7 @@ pub run-and-continue-is-one-run : (x : Lent) (a : ℕ) (bs : List ℕ) → Sized
     → (takeLine (budgeted (a + total bs) x) ≡ continued x bs (takeLine (budgeted a x)))
     × (continueRun (budgeted (a + total bs) x) ≡ continued x bs (continueRun (budgeted a x)))
 unfolding takeLine continueRun
-run-and-continue-is-one-run x a bs s z =
-    (many x (λ n. takeLineIn limit (budgeted n x)) (λ a b y. resumes-within limit (omega arith) x s a b y .0) a bs z,
-    many x (λ n. continueRunIn limit (budgeted n x)) (λ a b y. resumes-within limit (omega arith) x s a b y .1) a bs z)
+run-and-continue-is-one-run x a bs s z = (
+  many x (λ n. takeLineIn limit (budgeted n x)) (λ a b y. resumes-within limit (omega arith) x s a b y .0) a bs z,
+  many x (λ n. continueRunIn limit (budgeted n x)) (λ a b y. resumes-within limit (omega arith) x s a b y .1) a bs z,
+)
