@@ -23,8 +23,9 @@ use Rattle.demands.proofs.Runs.{run-none, run-zero, run-suc, oneStep, e
 abbrev pub joined : Ran → (ℕ → World → Ran) → Ran
 joined r k =
     elim (eqb (r .stop) 14) [
-    | true ↦ let s = k (r .at) (r .world) in record { stop = s .stop; lines = r .lines ++ s .lines; at = s .at; world = s .world }
-    | false ↦ r ]
+      | true ↦ let s = k (r .at) (r .world) in record { stop = s .stop; lines = r .lines ++ s .lines; at = s .at; world = s .world }
+      | false ↦ r
+    ]
 
 -- no statement stops with 14, nor with any number but these
 abbrev pub stopNumbers : List ℕ
@@ -126,4 +127,4 @@ split-run (suc a) b e q w = by (λ q w. split-run a b e q w) (textFrom (e .page)
 pub steps-within : (k : ℕ) (e : Env) (q : ℕ) (w : World) → length (runFrom k e q w .lines) ≤ k
 steps-within k e q w = every-run e (λ k q w r. length (r .lines) ≤ k) (λ k q w h. omega arith) (λ q w a h. omega arith) (λ k q w a h g. omega arith)
     (λ k q w a m s h g i.
-      suc-le-suc (onward-law (λ r. length (r .lines) ≤ k) (exec (envAt e (endOf e a m)) (m .statement) w) (endOf e a m) (crOf e a) (runFrom k e) i (λ n u. omega arith))) k q w
+    suc-le-suc (onward-law (λ r. length (r .lines) ≤ k) (exec (envAt e (endOf e a m)) (m .statement) w) (endOf e a m) (crOf e a) (runFrom k e) i (λ n u. omega arith))) k q w

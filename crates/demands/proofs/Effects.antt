@@ -115,6 +115,7 @@ module _ (e : Env) (vs : List ℕ) where
   put-does bs w k f = go (leb (w .outpos + length bs) (length (w .output))) refl where
     u : World
     u = withOutput w (sets (w .output) (w .outpos) bs) (w .outpos + length bs)
+
     go : (b : Bool) → leb (w .outpos + length bs) (length (w .output)) ≡ b → Does e vs w (went (if b then done on u else done (stop 17) w) k)
     go true h = writes bs (leb-true _ _ h) (f u)
     go false h = refuses refl
@@ -124,6 +125,7 @@ module _ (e : Env) (vs : List ℕ) where
   put-last bs w = go (leb (w .outpos + length bs) (length (w .output))) refl where
     u : World
     u = withOutput w (sets (w .output) (w .outpos) bs) (w .outpos + length bs)
+
     go : (b : Bool) → leb (w .outpos + length bs) (length (w .output)) ≡ b → Does e vs w (if b then done on u else done (stop 17) w)
     go true h = writes bs (leb-true _ _ h) passes
     go false h = refuses refl
@@ -229,6 +231,7 @@ module _ (e : Env) (vs : List ℕ) where
   gathered-does w (some g) k h f = takes g h (by (g .line .long)) where
     u : World
     u = withInpos w (w .inpos + g .taken)
+
     by : (b : Bool) → Does e vs u (elim b [ true ↦ done (stop 6) u | false ↦ k u (g .line .bytes) ])
     by true = refuses refl
     by false = f u (g .line .bytes)

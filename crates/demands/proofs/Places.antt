@@ -23,7 +23,8 @@ use Rattle.nibl.proofs.Lines.{reading-sound}
 use Rattle.nibl.proofs.Ends.{members-text, Followed, first, later, After, after, reading-after, Begins, alone, before, reading-begins}
 use Rattle.letter.proofs.Typed.{all-text, all-not-cr}
 use Rattle.page.specs.Walk.{stopsAt}
-use Rattle.page.proofs.Walk.{by-cases, or-right, recordAt, records-some, records-none}
+use Rattle.page.specs.Walk.{recordAt}
+use Rattle.page.proofs.Walk.{by-cases, or-right, records-some, records-none}
 use Rattle.page.proofs.Program.{both, Storable, Program, none as no-record, each as a-record, record-known, good-step}
 use Rattle.page.proofs.Changes.{storable}
 use Rattle.demands.specs.Sound.{Stands, LiesIn}

@@ -48,8 +48,7 @@ module _ (e : Env) (P : ℕ → ℕ → World → Ran → Type 0)
     (pauses : (q : ℕ) (w : World) (a : ℕ) → textFrom (e .page) q ≡ some a → P 0 q w (ran 14 q w))
     (unread : (k q : ℕ) (w : World) (a : ℕ) → textFrom (e .page) q ≡ some a → member (lineFrom (e .page) a) ≡ nothing → P (suc k) q w (ran 5 a w))
     (steps : (k q : ℕ) (w : World) (a : ℕ) (m : Member) (s : List ℕ) → textFrom (e .page) q ≡ some a → member (lineFrom (e .page) a) ≡ found m s
-        → ((q : ℕ) (w : World) → P k q w (runFrom k e q w)) → P (suc k) q w (oneStep e a m w (runFrom k e))) where
-
+    → ((q : ℕ) (w : World) → P k q w (runFrom k e q w)) → P (suc k) q w (oneStep e a m w (runFrom k e))) where
   one-step : (k q : ℕ) (w : World) (a : ℕ) → textFrom (e .page) q ≡ some a → ((q : ℕ) (w : World) → P k q w (runFrom k e q w)) → (f : Found Member)
       → member (lineFrom (e .page) a) ≡ f → P (suc k) q w (step e a w f (runFrom k e))
   one-step k q w a h i nothing g = unread k q w a h g

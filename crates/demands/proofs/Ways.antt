@@ -34,8 +34,10 @@ module _ (lim : ℕ) (x : Lent) where
   by-reading g h (some t) r = reads g t h r
 
   by-length : (g : Gathered) → firstRefusal lim x ≡ 0 → lineOf lim x ≡ some g → (b : Bool) → g .line .long ≡ b
-      → Takes lim x (elim b [ true ↦ stops 5 (begun x (g .taken)) (x .page)
-        | false ↦ obeyRead (x .call .budget) (envOf lim x) (begun x (g .taken)) (typed (g .line .bytes)) ])
+      → Takes lim x (elim b [
+        | true ↦ stops 5 (begun x (g .taken)) (x .page)
+        | false ↦ obeyRead (x .call .budget) (envOf lim x) (begun x (g .taken)) (typed (g .line .bytes))
+      ])
   by-length g z l true h = overlong g z l h
   by-length g z l false h = by-reading g (record { sound = z; line = l; short = h }) (typed (g .line .bytes)) refl
 

@@ -75,7 +75,7 @@ pub data Does (e : Env) (vs : List ℕ) : World → Done → Type 0 where
   begins : {w : World} (v first limit step : ℕ) → isAmong vs v ≡ true
       → pushFor (w .session .fors) (record { var = v; limit = limit; step = step; place = place (e .here) }) .ok ≡ true
       → Does e vs w (done on (withSession w (withVar (withFors (w .session)
-          (pushFor (w .session .fors) (record { var = v; limit = limit; step = step; place = place (e .here) }) .stack)) v first)))
+      (pushFor (w .session .fors) (record { var = v; limit = limit; step = step; place = place (e .here) }) .stack)) v first)))
   again : {w : World} (v : ℕ) (f : ForEntry) → popFor (w .session .fors) .top ≡ topf.Entry f
       → goesOn (f .step) (add16 (getD (w .session .vars) v 0) (f .step)) (f .limit) ≡ true
       → Does e vs w (done (go (suc (f .place .0))) (withSession w (withVar (w .session) v (add16 (getD (w .session .vars) v 0) (f .step)))))
