@@ -4,6 +4,7 @@ pub mod Budget
 pub mod Ways
 pub mod Numbers
 pub mod Accepted
+pub mod Forced
 pub mod Places
 pub mod Fits
 pub mod Running
