@@ -306,14 +306,14 @@ member-lettered (atColon p k) = statement-lettered p
 pub found-lettered : (s t : List ℕ) (m : Member) → member s ≡ found m t → Lettered (forVars (m .statement))
 found-lettered s t m e = member-lettered (ok-found (rw e at (it (member-same s))))
 
--- An immediate statement leaves the stacks of DO and FOR alone
-abbrev pub loopsOf : World → PlaceStack × ForStack
-loopsOf w = (w .session .dos, w .session .fors)
+-- An immediate statement leaves the stacks of DO and FOR and the input alone
+abbrev pub aloneOf : World → (PlaceStack × ForStack) × ℕ
+aloneOf w = ((w .session .dos, w .session .fors), w .inpos)
 
 pub record Keeps (w : World) (d : Done) : Type 0 where
-  pub same : loopsOf (worldAfter d) ≡ loopsOf w
+  pub same : aloneOf (worldAfter d) ≡ aloneOf w
 
-pub kept : {w : World} {d : Done} → loopsOf (worldAfter d) ≡ loopsOf w → Keeps w d
+pub kept : {w : World} {d : Done} → aloneOf (worldAfter d) ≡ aloneOf w → Keeps w d
 kept e = record { same = e }
 
 module _ {A : Type 0} where

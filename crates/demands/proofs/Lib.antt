@@ -16,6 +16,7 @@ pub mod Line
 pub mod Paused
 pub mod Storing
 pub mod Retyping
+pub mod Settling
 pub mod Refusing
 pub mod Fixed
 pub mod Listing

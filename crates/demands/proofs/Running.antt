@@ -37,6 +37,15 @@ any-held {A = A} {d = d} {l = l} h = record { deep = h .deep; room = h .room; li
   every (suc d) [] = refl
   every (suc d) (x ∷ l) = every d l
 
+-- LIST leaves the stacks of DO and FOR and the input alone too
+pub list-keeps : (n : ℕ) (rs : List Stored) (w : World) → Keeps w (listFrom n rs w)
+unfolding listFrom
+list-keeps n [] w = kept refl
+list-keeps n (r ∷ rs) w = by (leb n (r .line)) (list-keeps n rs) where
+  by : (b : Bool) → ((u : World) → Keeps u (listFrom n rs u)) → Keeps w (elim b [ true ↦ went (put (listed r) w) (listFrom n rs) | false ↦ listFrom n rs w ])
+  by true f = went-keeps w (put (listed r) w) (listFrom n rs) (put-keeps (listed r) w) f
+  by false f = f w
+
 module _ (lim : ℕ) (e : Env) (short : lim ≤ 251) (good : isGood lim (e .page) ≡ true) where
   abbrev ps : List ℕ
   ps = placesOf (e .page)
@@ -58,8 +67,8 @@ module _ (lim : ℕ) (e : Env) (short : lim ≤ 251) (good : isGood lim (e .page
       let saved : savedIn ps (record { 0 = e .here }) ≡ true = rw h (or-right (isAmong ps mark) true refl) in
       let g = does-fits (savedIn ps) (λ p. true) (λ y. true) ps e vs saved refl (λ v l s i. refl) x
       (record { gosubs = f .gosubs; dos = any-held (f .dos); fors = any-held (f .fors); flags = f .flags; paused = f .paused }) in
-      let dos = ap (λ x. x .0) (k .same) in
-      let fors = ap (λ x. x .1) (k .same) in
+      let dos = ap (λ x. x .0 .0) (k .same) in
+      let fors = ap (λ x. x .0 .1) (k .same) in
       record {
         fit = record { gosubs = g .gosubs; dos = rw dos (f .dos); fors = rw fors (f .fors); flags = g .flags; paused = g .paused };
         goes = does-goes lim e vs short good x f;
@@ -68,14 +77,6 @@ module _ (lim : ℕ) (e : Env) (short : lim ≤ 251) (good : isGood lim (e .page
 
   pub statement-left : (q : Stmt) (w : World) → e .here ≡ mark → needsProgram q ≡ false → Fit ps (w .session) → Left (e .page) (exec e q w)
   statement-left q w h n f = immediate-left (forVars q) w (exec e q w) h (exec-does e q w) (exec-keeps e q w n) f
-
-  list-keeps : (n : ℕ) (rs : List Stored) (w : World) → Keeps w (listFrom n rs w)
-  unfolding listFrom
-  list-keeps n [] w = kept refl
-  list-keeps n (r ∷ rs) w = by (leb n (r .line)) (list-keeps n rs) where
-    by : (b : Bool) → ((u : World) → Keeps u (listFrom n rs u)) → Keeps w (elim b [ true ↦ went (put (listed r) w) (listFrom n rs) | false ↦ listFrom n rs w ])
-    by true f = went-keeps w (put (listed r) w) (listFrom n rs) (put-keeps (listed r) w) f
-    by false f = f w
 
   pub list-left : (n : ℕ) (rs : List Stored) (w : World) → e .here ≡ mark → Fit ps (w .session) → Left (e .page) (listFrom n rs w)
   list-left n rs w h f = immediate-left [] w (listFrom n rs w) h (list-does e [] n rs w) (list-keeps n rs w) f

@@ -37,6 +37,8 @@ use Rattle.demands.proofs.Refusing.{needs-asks}
 use Rattle.demands.proofs.Fixed.{unsaid, run-named}
 use Rattle.demands.proofs.Five.{continuing-never-answers-5, exactly-5, five-takes-only-the-line}
 use Rattle.demands.proofs.Held.{worldAfter, does-steady, run-steady, refusing-statement, refusing-list}
+use Rattle.demands.proofs.Fits.{exec-keeps}
+use Rattle.demands.proofs.Running.{list-keeps}
 use Rattle.demands.proofs.LastStep.{LastStep, last-step, resumes-at, unpaused-same}
 
 of-unsaid : (n : ℕ) → OneOf unsaid n → (n ≡ 0 → ⊥) → (n ≡ 5 → ⊥) → (n ≡ 14 → ⊥) → ⊥
@@ -102,7 +104,7 @@ more-by-one e k q u call same h n five = rw o (by (rw o at n) (λ z. five (rw o 
 data Kind (e : Env) (w : World) (y : Typed) : Type 0 where
   runs : (q : ℕ) (u : World) → u .session .paused ≡ w .session .paused → ((k : ℕ) → obey k e w y ≡ ended (runFrom k e q u) (e .page)) → Kind e w y
   settles : ((k : ℕ) → obey k e w y .answer .stop ≡ 0) → ((k : ℕ) → obey k e w y .answer .steps ≡ 0) → Kind e w y
-  refuses : (n : ℕ) (u : World) → ((k : ℕ) → obey k e w y ≡ stops n u (e .page)) → Refused e [] w u → Kind e w y
+  refuses : (n : ℕ) (u : World) → ((k : ℕ) → obey k e w y ≡ stops n u (e .page)) → Refused e [] w u → u .inpos ≡ w .inpos → Kind e w y
 
 nothing-done : (e : Env) (w : World) → Refused e [] w w
 nothing-done e w =
@@ -115,19 +117,19 @@ nothing-done e w =
     }
 
 module _ (e : Env) (w : World) (y : Typed) where
-  immediate-kind : (d : Done) → ((k : ℕ) → obey k e w y ≡ immediately k e d) → worldAfter d .session .paused ≡ w .session .paused
+  immediate-kind : (d : Done) → ((k : ℕ) → obey k e w y ≡ immediately k e d) → worldAfter d .session .paused ≡ w .session .paused → worldAfter d .inpos ≡ w .inpos
       → ((n : ℕ) (u : World) → d ≡ done (stop n) u → (n ≡ 0 → ⊥) → Refused e [] w u) → Kind e w y
-  immediate-kind (done on u) f p g = settles (λ k. rw (f k)) (λ k. rw (f k))
-  immediate-kind (done skip u) f p g = settles (λ k. rw (f k)) (λ k. rw (f k))
-  immediate-kind (done (go q) u) f p g = runs q u p f
-  immediate-kind (done (stop n) u) f p g =
-      by-cases (eqb n 0) (λ h. let z = eqb-true n 0 h in settles (λ k. rw (f k, z)) (λ k. rw (f k))) (λ h. refuses n u f (g n u refl (eqb-false n 0 h)))
+  immediate-kind (done on u) f p i g = settles (λ k. rw (f k)) (λ k. rw (f k))
+  immediate-kind (done skip u) f p i g = settles (λ k. rw (f k)) (λ k. rw (f k))
+  immediate-kind (done (go q) u) f p i g = runs q u p f
+  immediate-kind (done (stop n) u) f p i g =
+      by-cases (eqb n 0) (λ h. let z = eqb-true n 0 h in settles (λ k. rw (f k, z)) (λ k. rw (f k))) (λ h. refuses n u f (g n u refl (eqb-false n 0 h)) i)
 
   edit-kind : (rs : List Stored) → ((k : ℕ) → obey k e w y ≡ edited (e .page) w rs) → Kind e w y
   edit-kind rs f =
       by-cases (leb (usedBy rs) (length (e .page)))
       (λ h. let j = edited-fits (e .page) w rs (leb-true _ _ h) in settles (λ k. rw (f k, j)) (λ k. rw (f k, j)))
-      (λ h. let j = edited-full (e .page) w rs (leb-false _ _ h) in refuses 2 w (λ k. f k ∙ j) (nothing-done e w))
+      (λ h. let j = edited-full (e .page) w rs (leb-false _ _ h) in refuses 2 w (λ k. f k ∙ j) (nothing-done e w) refl)
 
 kind : (e : Env) (w : World) (y : Typed) → Kind e w y
 unfolding obey
@@ -139,12 +141,12 @@ kind e w (delete n) =
     by-cases (hasLine n (recordsOf (e .page)))
     (λ h. edit-kind e w (delete n) (without n (recordsOf (e .page))) (λ k. rw (h, obey)))
     (λ h. settles (λ k. rw (h, obey)) (λ k. rw (h, obey)))
-kind e w (list n) = immediate-kind e w (list n) (listFrom n (recordsOf (e .page)) w) (λ k. refl) (does-steady (list-does e [] n (recordsOf (e .page)) w) .paused) (λ m u h z. refusing-list e n (recordsOf (e .page)) w u m h z)
+kind e w (list n) = immediate-kind e w (list n) (listFrom n (recordsOf (e .page)) w) (λ k. refl) (does-steady (list-does e [] n (recordsOf (e .page)) w) .paused) (ap (λ y. y .1) (list-keeps n (recordsOf (e .page)) w .same)) (λ m u h z. refusing-list e n (recordsOf (e .page)) w u m h z)
 kind e w (store n t ms) = edit-kind e w (store n t ms) (with (record { line = n; text = t }) (recordsOf (e .page))) (λ k. refl)
 kind e w (immediate q) =
     by-cases (needsProgram q)
-    (λ h. refuses 3 w (λ k. rw (h, obey)) (nothing-done e w))
-    (λ h. immediate-kind e w (immediate q) (exec e q w) (λ k. rw (h, obey)) (does-steady (exec-does e q w) .paused) (λ m u f z. rw (needs-asks q h .1) at (refusing-statement e q w u m f z)))
+    (λ h. refuses 3 w (λ k. rw (h, obey)) (nothing-done e w) refl)
+    (λ h. immediate-kind e w (immediate q) (exec e q w) (λ k. rw (h, obey)) (does-steady (exec-does e q w) .paused) (ap (λ y. y .1) (exec-keeps e q w h .same)) (λ m u f z. rw (needs-asks q h .1) at (refusing-statement e q w u m f z)))
 
 some-steps : {n : ℕ} → n ≡ 0 → 1 ≤ n → ⊥
 some-steps h n = omega arith
@@ -165,7 +167,7 @@ module _ (x : Lent) where
       → 1 ≤ takeLine x .answer .steps → (takeLine x .answer .stop ≡ 5 → ⊥) → More takeLine (takeLine x)
   by-kind g y h r (runs q u p f) n m = more-by-one env (x .call .budget) q u (λ b. takeLine (budgeted b x)) (λ b i. read-again g y h r b i ∙ f b) p n m
   by-kind g y h r (settles f j) n m = absurd (some-steps (ap (λ o. o .answer .steps) (line-read x g y h r) ∙ j (x .call .budget)) n)
-  by-kind g y h r (refuses i u f j) n m = absurd (some-steps (ap (λ o. o .answer .steps) (line-read x g y h r ∙ f (x .call .budget))) n)
+  by-kind g y h r (refuses i u f j l) n m = absurd (some-steps (ap (λ o. o .answer .steps) (line-read x g y h r ∙ f (x .call .budget))) n)
 
   take-more : {o : Outcome} → o ≡ takeLine x → Takes limit x o → 1 ≤ o .answer .steps → (o .answer .stop ≡ 5 → ⊥) → More takeLine o
   take-more e (refused h) n m = absurd (omega arith)
@@ -221,7 +223,7 @@ refusing-line x sized g y h r n ended′ paused = by (kind (envOf limit x) (begu
       let i = o ∙ f (x .call .budget) in
       absurd (m (rw i (run-named (x .call .budget) (envOf limit x) q u (rw i at n))))
   by (settles f j) = absurd (ended′ (rw (o, f (x .call .budget)) refl))
-  by (refuses k u f j) =
+  by (refuses k u f j l) =
       let s = j .rest in
       rw (o, f (x .call .budget))
       (record {
@@ -229,6 +231,6 @@ refusing-line x sized g y h r n ended′ paused = by (kind (envOf limit x) (begu
         page = refl;
         memory = j .memory;
         items = j .items;
-        lines = j .lines;
+        inpos = l;
         steps = refl;
       })

@@ -4,7 +4,7 @@ use mathlib.Core.Path.{_≡_}
 use mathlib.Core.Bool.{Bool, true, false}
 use mathlib.Core.List.{List, [], _∷_}
 use mathlib.Core.Option.{some}
-use lib.ListN.{length, take, drop}
+use lib.ListN.{length, take, drop, replicate}
 use lib.Seq.{sets}
 use lib.Dec.{eqb}
 use Rattle.nibl.specs.Bytes.{if_then_else_}
@@ -56,6 +56,18 @@ stackless s =
       paused = Nowhere;
     }
 
+-- the record as CLEAR leaves it: variables zero, stacks empty, the pause ended
+abbrev pub blanked : Session → Session
+blanked s =
+    record {
+      vars = replicate 26 0;
+      flags = s .flags;
+      gosubs = record { depth = 0; places = s .gosubs .places };
+      dos = record { depth = 0; places = s .dos .places };
+      fors = record { depth = 0; entries = s .fors .entries };
+      paused = Nowhere;
+    }
+
 -- everything back as it came, the positions too
 abbrev pub unchanged : Lent → ℕ → Outcome
 unchanged x n =
@@ -70,6 +82,10 @@ unchanged x n =
 -- the line is taken, the pause ended, and nothing else changed
 abbrev pub lineTaken : Lent → ℕ → ℕ → Outcome
 lineTaken x n taken = record { answer = answered x n taken; session = unpaused (x .session); page = x .page; memory = x .memory; output = x .output }
+
+-- the line is taken, the record cleared, and nothing else changed
+abbrev pub lineCleared : Lent → ℕ → Outcome
+lineCleared x taken = record { answer = answered x 0 taken; session = blanked (x .session); page = x .page; memory = x .memory; output = x .output }
 
 -- What an edit leaves: stop 0, no line, 0 steps; "stacks cleared, variables and flags kept"; a good page whose records rise, of the same
 -- length, and what lies after its end mark as it was

@@ -4,3 +4,4 @@ pub mod Leaves
 pub mod Listing
 pub mod Sound
 pub mod Steps
+pub mod Starts

@@ -8,10 +8,10 @@ use Rattle.nibl.specs.Tree.{Member}
 use Rattle.nibl.specs.Typing.{Gathered}
 use Rattle.nibl.specs.Read.{found, member}
 use Rattle.nibl.specs.Meaning.{World, Env, Next, stop, done, exec}
-use Rattle.nibl.specs.Calls.{Lent, Outcome, textFrom, lineFrom, envAt, limit}
+use Rattle.nibl.specs.Calls.{Lent, Outcome, textFrom, lineFrom, envAt}
 use Rattle.nibl.specs.declared.Paused.{Paused}
 use Rattle.nibl.specs.declared.Paused.the-variants.{Nowhere, Start, At}
-use Rattle.demands.specs.Leaves.{unpaused, Items, Lines}
+use Rattle.demands.specs.Leaves.{unpaused, Items}
 
 -- where a paused run goes on
 abbrev pub resumes : Paused → ℕ
@@ -45,11 +45,12 @@ pub record OneMore (e : Env) (o' o : Outcome) : Type 0 where
   pub outpos : o .answer .outpos ≡ after .outpos
   pub inpos : o .answer .inpos ≡ after .inpos
 
--- A typed line's own refusal: the record but for its pause, the page and the memory are as before; the output only grows by whole items
+-- A typed line's own refusal: the record but for its pause, the page and the memory are as before; the output only grows by whole items; of
+-- the input the line is taken, and no more
 pub record RefusedLine (x : Lent) (g : Gathered) (o : Outcome) : Type 0 where
   pub session : o .session ≡ unpaused (x .session)
   pub page : o .page ≡ x .page
   pub memory : o .memory ≡ x .memory
   pub items : Items (x .output) (x .call .outpos) (o .output) (o .answer .outpos)
-  pub lines : Lines limit (x .input) (x .call .inpos + g .taken) (o .answer .inpos)
+  pub inpos : o .answer .inpos ≡ x .call .inpos + g .taken
   pub steps : o .answer .steps ≡ 0
