@@ -16,7 +16,7 @@ use Rattle.nibl.specs.Calls.{Ran, ran, stepped, textFrom, lineFrom, envAt, onwa
 use Rattle.nibl.specs.declared.Session.{Session}
 use Rattle.nibl.specs.declared.Paused.the-variants.{Nowhere}
 use Rattle.demands.specs.Leaves.{unpaused}
-use Rattle.demands.specs.Steps.{resumes}
+use Rattle.demands.specs.Starts.{resumes}
 use Rattle.demands.proofs.Runs.{run-zero, run-suc, oneStep, endOf, crOf, every-run}
 use Rattle.demands.proofs.Numbers.{OneOf}
 use Rattle.demands.proofs.Fixed.{unsaid}

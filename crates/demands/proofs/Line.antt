@@ -17,6 +17,7 @@ use Rattle.nibl.specs.declared.StopLine.the-variants as stopLine
 use Rattle.page.proofs.Walk.{by-cases, or-false}
 use Rattle.nibl.proofs.Words.{or-cases}
 use Rattle.demands.specs.Sound.{Sound, Stands, LiesIn, Shows, noLine, aLine, Answered, byLine, byRun}
+use Rattle.demands.specs.Starts.{StartsTyped, StartsPaused}
 use Rattle.demands.proofs.Ways.{Takes, refused, noCR, overlong, unread, reads, every-line, Continues, refused′, continues, every-continue}
 use Rattle.demands.proofs.Runs.{endOf}
 use Rattle.demands.proofs.Numbers.{OneOf, first-numbers}
@@ -108,27 +109,27 @@ the-last-steps-line lim e short k q w h s m n = by (run-shows lim e short k q w 
 
 -- Of the calls
 module _ (lim : ℕ) (short : lim ≤ 251) (x : Lent) (sound : Sound lim (x .page) (x .session)) where
-  obeyed-answer : {v : World} {o : ℕ → Outcome} → Obeyed lim (envOf lim x) v o → Answered lim x (o (x .call .budget))
+  obeyed-answer : {v : World} {From : ℕ → World → Type 0} {o : ℕ → Outcome} → Obeyed lim (envOf lim x) v From o → Answered lim x From (o (x .call .budget))
   obeyed-answer (stands h f) = byLine refl refl (λ e. false≢true (rw e at h))
   obeyed-answer (edits p n f) = byLine refl refl (λ e. omega arith)
-  obeyed-answer (runs q w s f i j) =
+  obeyed-answer (runs q w s f i j b) =
       let h = fit-sound lim (sound .good) f in
-      byRun q w s h refl (run-shows lim (envOf lim x) short (x .call .budget) q w h s)
+      byRun q w b s h refl (run-shows lim (envOf lim x) short (x .call .budget) q w h s)
 
-  first-answer : (n : ℕ) → firstRefusal lim x ≡ suc n → Answered lim x (stops (suc n) (worldOf x) (x .page))
+  first-answer : {From : ℕ → World → Type 0} (n : ℕ) → firstRefusal lim x ≡ suc n → Answered lim x From (stops (suc n) (worldOf x) (x .page))
   first-answer n e = byLine refl refl (λ h. false≢true (rw h at (first-numbers lim x (suc n) e)))
 
-  take-answer : {o : Outcome} → Takes lim x o → Answered lim x o
+  take-answer : {o : Outcome} → Takes lim x o → Answered lim x (StartsTyped lim x) o
   take-answer (refused {n = n} e) = first-answer n e
   take-answer (noCR z e) = byLine refl refl (λ h. omega arith)
   take-answer (overlong g z e l) = byLine refl refl (λ h. omega arith)
   take-answer (unread g y e) = byLine refl refl (λ h. omega arith)
   take-answer (reads g t y e) = obeyed-answer (read-ways lim x short (sound .good) (sound-fit sound) g t y e)
 
-  continue-answer : {o : Outcome} → Continues lim x o → Answered lim x o
+  continue-answer : {o : Outcome} → Continues lim x o → Answered lim x (StartsPaused lim x) o
   continue-answer (refused′ {n = n} e) = first-answer n e
   continue-answer (continues e) = obeyed-answer (continue-ways lim x short (sound .good) (sound-fit sound) e)
 
-pub the-answers-line : (x : Lent) → Sound limit (x .page) (x .session) → Answered limit x (takeLine x) × Answered limit x (continueRun x)
+pub the-answers-line : (x : Lent) → Sound limit (x .page) (x .session) → Answered limit x (StartsTyped limit x) (takeLine x) × Answered limit x (StartsPaused limit x) (continueRun x)
 unfolding takeLine continueRun
 the-answers-line x h = (take-answer limit (omega arith) x h (every-line limit x), continue-answer limit (omega arith) x h (every-continue limit x))

@@ -1,12 +1,12 @@
 -- How a run of a good page with a fitting record goes: at every step a member is read, its end is a place, and the record still fits.
 -- Assumes nothing.
-use Prim.Native.Nat.{ℕ, zero, suc, _≤_, _<_}
+use Prim.Native.Nat.{ℕ, zero, suc, _+_, _≤_, _<_}
 use mathlib.Core.Path.{_≡_, refl, ap}
 use mathlib.Core.Bool.{Bool, true, false}
 use mathlib.Core.List.{List, [], _∷_}
 use mathlib.Core.Option.{none, some}
 use native.Mathlib.Omega.{arith}
-use lib.ListN.{take}
+use lib.ListN.{take, length}
 use lib.Dec.{leb}
 use borrow.Author.Tests.{lt-ltb}
 use Rattle.nibl.specs.Bytes.{all}
@@ -14,6 +14,7 @@ use Rattle.nibl.specs.Tree.{Stmt}
 use Rattle.nibl.specs.Page.{Stored, isAmong, mark, isGood, placesOf, lineOf}
 use Rattle.nibl.specs.Meaning.{World, Env, on, skip, go, stop, Done, done, put, went, exec}
 use Rattle.nibl.specs.Calls.{Ran, ran, stepped, textFrom, lineFrom, envAt, onward, runFrom, needsProgram, listed, listFrom}
+use Rattle.nibl.proofs.Words.{if-split}
 use Rattle.page.proofs.Walk.{or-right}
 use Rattle.demands.specs.Effects.{forVars, Does}
 use Rattle.demands.specs.Sound.{Stands}
@@ -36,6 +37,29 @@ any-held {A = A} {d = d} {l = l} h = record { deep = h .deep; room = h .room; li
   every zero l = refl
   every (suc d) [] = refl
   every (suc d) (x ∷ l) = every d l
+
+-- LIST goes nowhere
+data Unmoved : Done → Type 0 where
+  onward′ : {w : World} → Unmoved (done on w)
+  halted : {n : ℕ} {w : World} → Unmoved (done (stop n) w)
+
+went-unmoved : (d : Done) (k : World → Done) → Unmoved d → ((u : World) → Unmoved (k u)) → Unmoved (went d k)
+went-unmoved (done on u) k h f = f u
+went-unmoved (done (stop n) u) k h f = halted
+
+list-unmoved : (n : ℕ) (rs : List Stored) (w : World) → Unmoved (listFrom n rs w)
+unfolding listFrom put
+list-unmoved n [] w = onward′
+list-unmoved n (r ∷ rs) w = by (leb n (r .line)) (list-unmoved n rs) where
+  by : (b : Bool) → ((u : World) → Unmoved (listFrom n rs u)) → Unmoved (elim b [ true ↦ went (put (listed r) w) (listFrom n rs) | false ↦ listFrom n rs w ])
+  by true f = went-unmoved (put (listed r) w) (listFrom n rs) (if-split Unmoved (leb (w .outpos + length (listed r)) (length (w .output))) (λ _. onward′) (λ _. halted)) f
+  by false f = f w
+
+pub list-stays : (n : ℕ) (rs : List Stored) (w : World) (q : ℕ) (u : World) → listFrom n rs w ≡ done (go q) u → ⊥
+list-stays n rs w q u e = by (list-unmoved n rs w) e where
+  by : {d : Done} → Unmoved d → d ≡ done (go q) u → ⊥
+  by onward′ e = let z : _≡_ {A = ℕ} 0 1 = cc in omega arith
+  by halted e = let z : _≡_ {A = ℕ} 0 1 = cc in omega arith
 
 -- LIST leaves the stacks of DO and FOR and the input alone too
 pub list-keeps : (n : ℕ) (rs : List Stored) (w : World) → Keeps w (listFrom n rs w)

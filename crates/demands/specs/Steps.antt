@@ -9,15 +9,8 @@ use Rattle.nibl.specs.Typing.{Gathered}
 use Rattle.nibl.specs.Read.{found, member}
 use Rattle.nibl.specs.Meaning.{World, Env, Next, stop, done, exec}
 use Rattle.nibl.specs.Calls.{Lent, Outcome, textFrom, lineFrom, envAt}
-use Rattle.nibl.specs.declared.Paused.{Paused}
-use Rattle.nibl.specs.declared.Paused.the-variants.{Nowhere, Start, At}
 use Rattle.demands.specs.Leaves.{unpaused, Items}
-
--- where a paused run goes on
-abbrev pub resumes : Paused → ℕ
-resumes Nowhere = 0
-resumes Start = 0
-resumes (At p) = suc (p .0)
+use Rattle.demands.specs.Starts.{resumes}
 
 -- what a paused call left, as its next statement finds it
 abbrev pub worldLeft : Outcome → World
