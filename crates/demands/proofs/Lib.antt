@@ -17,6 +17,7 @@ pub mod Paused
 pub mod Storing
 pub mod Retyping
 pub mod Settling
+pub mod Beginning
 pub mod Refusing
 pub mod Fixed
 pub mod Listing
