@@ -83,15 +83,17 @@ pub run-shows : (lim : ℕ) (e : Env) → lim ≤ 251 → (k q : ℕ) (w : World
 run-shows lim e short k q w h s = goings-show lim e short (h .good) (runFrom k e q w) (run-goes lim e short (h .good) k q w s (sound-fit h))
 
 -- and the last step is the one that gave the stop
-pub record StepsLine (e : Env) (q : ℕ) (w : World) (r : Ran) : Type 0 where
-  pub step : LastStep e q w r
-  pub line : stopAt (r .stop) (r .lines) ≡ stopLine.At (record { 0 = lineOf (e .page) (endOf e (step .start) (step .last)) })
-  pub lies : LiesIn (e .page) (endOf e (step .start) (step .last)) (lineOf (e .page) (endOf e (step .start) (step .last)))
+pub record LineOf {e : Env} {k q : ℕ} {w : World} {r : Ran} (t : LastStep e k q w r) : Type 0 where
+  pub line : stopAt (r .stop) (r .lines) ≡ stopLine.At (record { 0 = lineOf (e .page) (endOf e (t .start) (t .last)) })
+  pub lies : LiesIn (e .page) (endOf e (t .start) (t .last)) (lineOf (e .page) (endOf e (t .start) (t .last)))
 
-pub the-last-steps-line : (lim : ℕ) (e : Env) → lim ≤ 251 → (k q : ℕ) (w : World) → Sound lim (e .page) (w .session) → Stands (e .page) q
-    → (runFrom k e q w .stop ≡ 0 → ⊥) → (runFrom k e q w .stop ≡ 14 → ⊥) → StepsLine e q w (runFrom k e q w)
-the-last-steps-line lim e short k q w h s m n = by (run-shows lim e short k q w h s) refl where
-  r : Ran
+pub record StepsLine (e : Env) (k q : ℕ) (w : World) (r : Ran) : Type 0 where
+  pub step : LastStep e k q w r
+  pub its : LineOf step
+
+module _ (lim : ℕ) (e : Env) (short : lim ≤ 251) (k q : ℕ) (w : World) (h : Sound lim (e .page) (w .session)) (s : Stands (e .page) q)
+    (m : runFrom k e q w .stop ≡ 0 → ⊥) (n : runFrom k e q w .stop ≡ 14 → ⊥) where
+  abbrev r : Ran
   r = runFrom k e q w
 
   stopped : OneOf unsaid (r .stop) → ⊥
@@ -99,13 +101,17 @@ the-last-steps-line lim e short k q w h s m n = by (run-shows lim e short k q w 
       or-cases (eqb (r .stop) 0) _ i (λ j. m (eqb-true _ 0 j)) (λ i. or-cases (eqb (r .stop) 5) _ i
       (λ j. no-grammar-refusal-while-running lim e short k q w h s (eqb-true _ 5 j)) (λ i. or-cases (eqb (r .stop) 14) false i (λ j. n (eqb-true _ 14 j)) (λ j. false≢true j)))
 
-  by : {l : StopLine} → Shows (e .page) r l → stopAt (r .stop) (r .lines) ≡ l → StepsLine e q w r
-  by (noLine (inl i)) f = absurd (m i)
-  by (noLine (inr i)) f = absurd (n i)
-  by (aLine i j p d) f =
-      let t = last-step k e q w (some-step (run-goes lim e short (h .good) k q w s (sound-fit h)) i j) in
-      let at = t .place stopped in
-      record { step = t; line = rw (← at) f; lies = rw (← at) d }
+  pub a-last-steps-line : (t : LastStep e k q w r) → LineOf t
+  a-last-steps-line t = by (run-shows lim e short k q w h s) refl where
+    by : {l : StopLine} → Shows (e .page) r l → stopAt (r .stop) (r .lines) ≡ l → LineOf t
+    by (noLine (inl i)) f = absurd (m i)
+    by (noLine (inr i)) f = absurd (n i)
+    by (aLine i j p d) f = let at = t .place stopped in record { line = rw (← at) f; lies = rw (← at) d }
+
+  pub the-last-steps-line : StepsLine e k q w r
+  the-last-steps-line =
+      let t = last-step k e q w (some-step (run-goes lim e short (h .good) k q w s (sound-fit h)) m n) in
+      record { step = t; its = a-last-steps-line t }
 
 -- Of the calls
 module _ (lim : ℕ) (short : lim ≤ 251) (x : Lent) (sound : Sound lim (x .page) (x .session)) where
