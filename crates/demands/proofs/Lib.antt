@@ -26,4 +26,5 @@ pub mod Outside
 pub mod LastStep
 pub mod Resumed
 pub mod Steps
+pub mod Fourteen
 pub mod Within

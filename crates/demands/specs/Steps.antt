@@ -80,3 +80,16 @@ pub record RefusedLine (x : Lent) (g : Gathered) (o : Outcome) : Type 0 where
   pub items : Items (x .output) (x .call .outpos) (o .output) (o .answer .outpos)
   pub inpos : o .answer .inpos ≡ x .call .inpos + g .taken
   pub steps : o .answer .steps ≡ 0
+
+-- Where the run of a call stands at its end: where it began, if it made no step, or where its last member goes on. A run that a statement stopped stands
+-- nowhere. From is where the call begins a run, o' what it leaves with one step less
+pub data StandsAt (From : ℕ → World → Type 0) (e : Env) (budget : ℕ) (o' o : Outcome) : ℕ → Type 0 where
+  begun : {q : ℕ} {w : World} → From q w → o .answer .steps ≡ 0 → StandsAt From e budget o' o q
+  later : {q : ℕ} (m : OneMore e budget o' o) → GoesTo (endOf e (m .start) (m .last)) (crOf e (m .start)) (m .how) q → StandsAt From e budget o' o q
+
+-- a statement is left to run: a text follows there
+pub record LeftToRun (From : ℕ → World → Type 0) (e : Env) (budget : ℕ) (o' o : Outcome) : Type 0 where
+  pub at : ℕ
+  pub start : ℕ
+  pub stands : StandsAt From e budget o' o at
+  pub follows : textFrom (e .page) at ≡ some start
