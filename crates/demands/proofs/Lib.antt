@@ -28,3 +28,4 @@ pub mod Resumed
 pub mod Steps
 pub mod Fourteen
 pub mod Within
+pub mod Written

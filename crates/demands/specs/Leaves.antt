@@ -118,6 +118,11 @@ pub data Lines (lim : ℕ) (input : List ℕ) : ℕ → ℕ → Type 0 where
   noLine : {at : ℕ} → Lines lim input at at
   line : {at at' : ℕ} (g : Gathered) → gather lim (drop at input) ≡ some g → Lines lim input (at + g .taken) at' → Lines lim input at at'
 
+-- whole items written and whole lines taken, from these positions to those
+pub record Wrote (lim : ℕ) (input out : List ℕ) (at from : ℕ) (out' : List ℕ) (at' from' : ℕ) : Type 0 where
+  pub items : Items out at out' at'
+  pub lines : Lines lim input from from'
+
 -- all of the record but its variables
 pub record SameButVars (s t : Session) : Type 0 where
   pub flags : t .flags ≡ s .flags
