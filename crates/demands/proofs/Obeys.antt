@@ -51,11 +51,11 @@ pub data Obeyed (lim : ℕ) (e : Env) (v : World) (From : ℕ → World → Type
 
 module _ {ps : List ℕ} {s : Session} (f : Fit ps s) where
   pub paused-fit : (p : Paused) → fitsPaused ps p ≡ true → Fit ps (withPaused s p)
-  paused-fit p h = record { gosubs = f .gosubs; dos = f .dos; fors = f .fors; flags = f .flags; paused = h }
+  paused-fit p h = record { vars = f .vars; gosubs = f .gosubs; dos = f .dos; fors = f .fors; flags = f .flags; paused = h }
 
   pub cleared-fit : (qs : List ℕ) → s .paused ≡ Nowhere → Fit qs (clearStacks s)
   cleared-fit qs e =
-      record { gosubs = held-none _ (f .gosubs .room); dos = held-none _ (f .dos .room); fors = held-none _ (f .fors .room); flags = f .flags; paused = rw e }
+      record { vars = f .vars; gosubs = held-none _ (f .gosubs .room); dos = held-none _ (f .dos .room); fors = held-none _ (f .fors .room); flags = f .flags; paused = rw e }
 
 module _ (lim : ℕ) (e : Env) (v : World) (From : ℕ → World → Type 0) where
   edit-ways : (w : World) (rs : List Stored) → w .session .paused ≡ Nowhere → Fit (placesOf (e .page)) (w .session) → Program lim 0 rs → Obeyed lim e v From (λ k. edited (e .page) w rs)
@@ -84,7 +84,7 @@ module _ (lim : ℕ) (x : Lent) (short : lim ≤ 251) (good : isGood lim (x .pag
   begun-fit n = paused-fit fit Nowhere refl
 
   cleared-all : (n : ℕ) → Fit (placesOf (x .page)) (cleared (begun x n .session))
-  cleared-all n = fit-vars (cleared-fit (begun-fit n) (placesOf (x .page)) refl) _
+  cleared-all n = fit-vars (cleared-fit (begun-fit n) (placesOf (x .page)) refl) _ refl
 
   carried : {w : World} (n : ℕ) → Steady (begun x n) w → Steady (begun x 0) w
   carried n l = record { lengths = record { memory = l .lengths .memory; output = l .lengths .output }; paused = l .paused }

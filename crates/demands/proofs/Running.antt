@@ -90,11 +90,11 @@ module _ (lim : ℕ) (e : Env) (short : lim ≤ 251) (good : isGood lim (e .page
   immediate-left vs w d h x k f =
       let saved : savedIn ps (record { 0 = e .here }) ≡ true = rw h (or-right (isAmong ps mark) true refl) in
       let g = does-fits (savedIn ps) (λ p. true) (λ y. true) ps e vs saved refl (λ v l s i. refl) x
-      (record { gosubs = f .gosubs; dos = any-held (f .dos); fors = any-held (f .fors); flags = f .flags; paused = f .paused }) in
+      (record { vars = f .vars; gosubs = f .gosubs; dos = any-held (f .dos); fors = any-held (f .fors); flags = f .flags; paused = f .paused }) in
       let dos = ap (λ x. x .0 .0) (k .same) in
       let fors = ap (λ x. x .0 .1) (k .same) in
       record {
-        fit = record { gosubs = g .gosubs; dos = rw dos (f .dos); fors = rw fors (f .fors); flags = g .flags; paused = g .paused };
+        fit = record { vars = g .vars; gosubs = g .gosubs; dos = rw dos (f .dos); fors = rw fors (f .fors); flags = g .flags; paused = g .paused };
         goes = does-goes lim e vs short good x f;
         stops = does-stops x;
       }

@@ -11,7 +11,7 @@ use Rattle.nibl.specs.Bytes.{if_then_else_}
 use Rattle.nibl.specs.Typing.{Gathered, gather}
 use Rattle.nibl.specs.Stack.{popOf}
 use Rattle.nibl.specs.Tree.{Typed, blank, new, clear, run, delete, list, store, immediate}
-use Rattle.nibl.specs.Page.{Stored, isGood, recordsOf, mark, used}
+use Rattle.nibl.specs.Page.{Stored, isGood, recordsOf, programBytes, mark, used}
 use Rattle.nibl.specs.Meaning.{World, Env, withGosubs}
 use Rattle.nibl.specs.Calls.{Lent, Outcome, limit}
 use Rattle.nibl.specs.declared.Paused.the-variants.{Nowhere}
@@ -87,8 +87,8 @@ lineTaken x n taken = record { answer = answered x n taken; session = unpaused (
 abbrev pub lineCleared : Lent → ℕ → Outcome
 lineCleared x taken = record { answer = answered x 0 taken; session = blanked (x .session); page = x .page; memory = x .memory; output = x .output }
 
--- What an edit leaves: stop 0, no line, 0 steps; "stacks cleared, variables and flags kept"; a good page whose records rise, of the same
--- length, and what lies after its end mark as it was
+-- What an edit leaves: stop 0, no line, 0 steps; "stacks cleared, variables and flags kept"; a good page whose records rise and stand
+-- there byte for byte, of the same length, and what lies after its end mark as it was
 pub record Edits (x : Lent) (taken : ℕ) (o : Outcome) : Type 0 where
   pub answer : o .answer ≡ answered x 0 taken
   pub session : o .session ≡ stackless (x .session)
@@ -96,6 +96,7 @@ pub record Edits (x : Lent) (taken : ℕ) (o : Outcome) : Type 0 where
   pub output : o .output ≡ x .output
   pub good : isGood limit (o .page) ≡ true
   pub rising : Rising 0 (recordsOf (o .page))
+  pub bytes : take (used (o .page)) (o .page) ≡ programBytes (recordsOf (o .page))
   pub long : length (o .page) ≡ length (x .page)
   pub after : drop (used (o .page)) (o .page) ≡ drop (used (o .page)) (x .page)
 

@@ -16,8 +16,9 @@ use Rattle.nibl.specs.declared.Session.{Session}
 use Rattle.nibl.specs.declared.StopLine.{StopLine}
 use Rattle.nibl.specs.declared.StopLine.the-variants as stopLine
 
--- the stacks' arrays have the lengths that the record's type says
+-- the record's arrays have the lengths that its type says: 26 variables, the stacks' places and entries
 pub record Sized (s : Session) : Type 0 where
+  pub vars : length (s .vars) ≡ 26
   pub gosubs : length (s .gosubs .places) ≡ 8
   pub dos : length (s .dos .places) ≡ 8
   pub fors : length (s .fors .entries) ≡ 4
