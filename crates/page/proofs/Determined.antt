@@ -1,0 +1,69 @@
+-- One outcome: two answers that meet a public function's promise for the same arguments are equal, and so are all lent bytes. Assumes nothing.
+use Prim.Native.Nat.{ℕ, suc}
+use mathlib.Core.Path.{_≡_, refl}
+use mathlib.Core.List.{List}
+use native.Mathlib.Omega.{arith}
+use Rattle.nibl.proofs.Determined.{determined}
+use Rattle.nibl.specs.declared.LineNumber.{LineNumber}
+use Rattle.nibl.specs.Page.{recordsOf, find, lineOf, used}
+use Rattle.nibl.specs.Calls.{textFrom}
+use Rattle.page.specs.declared.FoundLine.{FoundLine}
+use Rattle.page.specs.declared.FoundLine.the-variants as line
+use Rattle.page.specs.declared.Begins.{Begins}
+use Rattle.page.specs.declared.Begins.the-variants as begins
+use Rattle.page.specs.declared.Where.{Where}
+use Rattle.page.specs.declared.Edited.{Edited}
+use Rattle.page.specs.declared.Listed.{Listed}
+use Rattle.page.specs.Walk.{positionOf, reached, beginOf, textOf}
+use Rattle.page.specs.Edits.{Changed, changed, storeOf, deleteOf, newOf}
+use Rattle.page.specs.Listing.{shown, listing}
+
+pub used-determined : (page : List ℕ) (a b : ℕ) → a ≡ used page → b ≡ used page → a ≡ b
+used-determined page = determined (used page)
+
+position-same : (r s : FoundLine) → positionOf r ≡ positionOf s → r ≡ s
+position-same line.Nothing line.Nothing e = refl
+position-same line.First line.First e = refl
+position-same (line.After p) (line.After q) e = let j : suc (p .0) ≡ suc (q .0) = cc in let k : p .0 ≡ q .0 = omega arith in λ i. line.After (record { 0 = k i })
+position-same line.Nothing line.First e = let z : _≡_ {A = ℕ} 0 1 = cc in absurd (omega arith)
+position-same line.Nothing (line.After q) e = let z : _≡_ {A = ℕ} 0 1 = cc in absurd (omega arith)
+position-same line.First line.Nothing e = let z : _≡_ {A = ℕ} 0 1 = cc in absurd (omega arith)
+position-same line.First (line.After q) e = let z : _≡_ {A = ℕ} 0 1 = cc in absurd (omega arith)
+position-same (line.After p) line.Nothing e = let z : _≡_ {A = ℕ} 0 1 = cc in absurd (omega arith)
+position-same (line.After p) line.First e = let z : _≡_ {A = ℕ} 0 1 = cc in absurd (omega arith)
+
+pub find-determined : (page : List ℕ) (n : ℕ) (r s : FoundLine) → positionOf r ≡ reached (find page n) → positionOf s ≡ reached (find page n) → r ≡ s
+find-determined page n r s p q = position-same r s (determined (reached (find page n)) (positionOf r) (positionOf s) p q)
+
+pub line-determined : (page : List ℕ) (p : ℕ) (r s : LineNumber) → r .0 ≡ lineOf page p → s .0 ≡ lineOf page p → r ≡ s
+line-determined page p r s a b = let e : r .0 ≡ s .0 = determined (lineOf page p) (r .0) (s .0) a b in λ i. record { 0 = e i }
+
+pub running-determined : (page line : List ℕ) (at : Where) (a b : List ℕ) → a ≡ textOf page line at → b ≡ textOf page line at → a ≡ b
+running-determined page line at = determined (textOf page line at)
+
+begin-same : (r s : Begins) → beginOf r ≡ beginOf s → r ≡ s
+begin-same begins.Nowhere begins.Nowhere e = refl
+begin-same (begins.At a) (begins.At b) e = let k : a ≡ b = cc in cc
+begin-same begins.Nowhere (begins.At b) e = let z : _≡_ {A = ℕ} 0 1 = cc in absurd (omega arith)
+begin-same (begins.At a) begins.Nowhere e = let z : _≡_ {A = ℕ} 0 1 = cc in absurd (omega arith)
+
+pub begin-determined : (page : List ℕ) (q : ℕ) (r s : Begins) → beginOf r ≡ textFrom page q → beginOf s ≡ textFrom page q → r ≡ s
+begin-determined page q r s a b = begin-same r s (determined (textFrom page q) (beginOf r) (beginOf s) a b)
+
+-- a page and an answer
+pub changed-determined : (c : Changed) (p q : List ℕ) (a b : Edited) → changed p a ≡ c → changed q b ≡ c → (p ≡ q) × (a ≡ b)
+changed-determined c p q a b u v = let e = determined c (changed p a) (changed q b) u v in (λ i. e i .page, λ i. e i .answer)
+
+pub store-determined : (page : List ℕ) (n : ℕ) (t p q : List ℕ) (a b : Edited) → changed p a ≡ storeOf page n t → changed q b ≡ storeOf page n t → (p ≡ q) × (a ≡ b)
+store-determined page n t = changed-determined (storeOf page n t)
+
+pub delete-determined : (page : List ℕ) (n : ℕ) (p q : List ℕ) (a b : Edited) → changed p a ≡ deleteOf page n → changed q b ≡ deleteOf page n → (p ≡ q) × (a ≡ b)
+delete-determined page n = changed-determined (deleteOf page n)
+
+pub new-determined : (page p q : List ℕ) (a b : Edited) → changed p a ≡ newOf page → changed q b ≡ newOf page → (p ≡ q) × (a ≡ b)
+new-determined page = changed-determined (newOf page)
+
+pub list-determined : (page : List ℕ) (n : ℕ) (out : List ℕ) (at : ℕ) (p q : List ℕ) (a b : Listed)
+    → shown p a ≡ listing n (recordsOf page) out at → shown q b ≡ listing n (recordsOf page) out at → (p ≡ q) × (a ≡ b)
+list-determined page n out at p q a b u v =
+    let e = determined (listing n (recordsOf page) out at) (shown p a) (shown q b) u v in (λ i. e i .output, λ i. e i .answer)

@@ -1,0 +1,143 @@
+-- What edits keep: a good page stays good, and bytes stay bytes. What the finder finds. Assumes nothing.
+use Prim.Native.Nat.{ℕ, zero, suc, _+_, _-_, _/_, _%_, _≤_, _<_}
+use mathlib.Core.Path.{_≡_, refl, sym, ap, _∙_}
+use mathlib.Core.Bool.{true, false, _&&_}
+use mathlib.Core.List.{List, [], _∷_, _++_}
+use mathlib.Core.Option.{Option, none, some}
+use native.Mathlib.Omega.{arith}
+use lib.ListN.{length, take, drop}
+use lib.Seq.{getD-drop}
+use lib.Dec.{ltb, leb, eqb}
+use borrow.Author.Tests.{leb-true, eqb-true, lt-ltb}
+use Rattle.nibl.specs.Bytes.{if_then_else_, isText, All, none as no-byte, each as each-byte}
+use Rattle.nibl.specs.Page.{Stored, recordBytes, programBytes, isGood, recordsOf, lineAt, used, hasLine, with, positionIn, find, onto}
+use Rattle.page.specs.Walk.{stopsAt, sizeAt, reached}
+use Rattle.page.specs.declared.Seat.{Seat}
+use Rattle.page.specs.Edits.{seatOf, spliced, canStore, storeOf, deleteOf}
+use Rattle.page.proofs.Walk.{by-cases, stop, size-some, met}
+use Rattle.page.proofs.Program.{both, Bytes, Storable, Program, none as empty, each, good-program}
+use Rattle.page.proofs.Changes.{with-program, without-program, onto-good}
+use Rattle.page.proofs.Boundaries.{stored-text}
+use Rattle.page.proofs.Good.{store-is, delete-is}
+
+module _ (lim : ℕ) (page : List ℕ) (bytes : Bytes page) (good : isGood lim page ≡ true) where
+  pub store-keeps : (n : ℕ) (t : List ℕ) → Storable lim (record { line = n; text = t }) → isGood lim (storeOf page n t .page) ≡ true
+  store-keeps n t s =
+      let q : Stored = record { line = n; text = t } in
+      let rs : List Stored = with q (recordsOf page) in
+      rw (store-is lim page bytes good n t (s .short))
+      (by-cases (leb (length (programBytes rs)) (length page))
+      (λ e. rw (e, if_then_else_) (onto-good page (with-program q s (omega arith) (good-program lim page bytes good))))
+      (λ e. rw (e, if_then_else_) good))
+
+  pub delete-keeps : (n : ℕ) → isGood lim (deleteOf page n .page) ≡ true
+  delete-keeps n =
+      rw (delete-is lim page bytes good n)
+      (by-cases (hasLine n (recordsOf page))
+      (λ e. rw (e, if_then_else_) (onto-good page (without-program n (good-program lim page bytes good))))
+      (λ e. rw (e, if_then_else_) good))
+
+-- bytes
+bytes-take : (n : ℕ) (l : List ℕ) → Bytes l → Bytes (take n l)
+bytes-take zero l b i = omega arith
+bytes-take (suc n) [] b i = omega arith
+bytes-take (suc n) (x ∷ l) b zero = b 0
+bytes-take (suc n) (x ∷ l) b (suc i) = bytes-take n l (λ j. b (suc j)) i
+
+bytes-drop : (n : ℕ) (l : List ℕ) → Bytes l → Bytes (drop n l)
+bytes-drop n l b i = rw (getD-drop n l i 0) (b (n + i))
+
+bytes-append : (a b : List ℕ) → Bytes a → Bytes b → Bytes (a ++ b)
+bytes-append [] b u v i = v i
+bytes-append (x ∷ a) b u v zero = u 0
+bytes-append (x ∷ a) b u v (suc i) = bytes-append a b (λ j. u (suc j)) v i
+
+bytes-cons : (x : ℕ) (l : List ℕ) → x < 256 → Bytes l → Bytes (x ∷ l)
+bytes-cons x l h b zero = h
+bytes-cons x l h b (suc i) = b i
+
+bytes-spliced : (p : List ℕ) (at gone top : ℕ) (new : List ℕ) → Bytes p → Bytes new → Bytes (spliced p at gone top new)
+bytes-spliced p at gone top new b v =
+    let rest = bytes-append (take (top - (at + gone)) (drop (at + gone) p)) (drop (at + length new + (top - (at + gone))) p)
+    (bytes-take (top - (at + gone)) (drop (at + gone) p) (bytes-drop (at + gone) p b)) (bytes-drop (at + length new + (top - (at + gone))) p b) in
+    bytes-append (take at p) _ (bytes-take at p b) (bytes-append new _ v rest)
+
+bytes-record : (n : ℕ) (t : List ℕ) → n < 65536 → length t + 4 < 256 → Bytes t → Bytes (recordBytes (record { line = n; text = t }))
+bytes-record n t h k b =
+    let body : List ℕ = t ++ (13 ∷ []) in
+    let low : Bytes body = bytes-append t (13 ∷ []) b (bytes-cons 13 [] (omega arith) (λ i. omega arith)) in
+    bytes-cons (n / 256) ((n % 256) ∷ (length t + 4) ∷ body) (omega arith)
+    (bytes-cons (n % 256) ((length t + 4) ∷ body) (omega arith) (bytes-cons (length t + 4) body k low))
+
+module _ (page : List ℕ) (bytes : Bytes page) where
+  pub store-bytes : (n : ℕ) (t : List ℕ) → n < 65536 → Bytes t → Bytes (storeOf page n t .page)
+  unfolding storeOf
+  store-bytes n t h b =
+      let s : Seat = seatOf page n in
+      by-cases (canStore page s (length t + 4))
+      (λ e.
+      let k = leb-true (length t + 4) 255 (both (leb (length t + 4) 255) _ (both (leb (used page) (length page)) _ e .1) .0) in
+      rw (e, if_then_else_) (bytes-spliced page (s .at) (s .gone) (used page) (recordBytes (record { line = n; text = t })) bytes (bytes-record n t h (omega arith) b)))
+      (λ e. rw (e, if_then_else_) bytes)
+
+  pub delete-bytes : (n : ℕ) → Bytes (deleteOf page n .page)
+  unfolding deleteOf
+  delete-bytes n =
+      let s : Seat = seatOf page n in
+      by-cases (ltb (s .gone) 1) (λ e. rw (e, if_then_else_) bytes)
+      (λ e. by-cases (leb (used page) (length page))
+      (λ f. rw (e, f, if_then_else_) (bytes-spliced page (s .at) (s .gone) (used page) [] bytes (λ i. omega arith)))
+      (λ f. rw (e, f, if_then_else_) bytes))
+
+-- a text's bytes are bytes, and so are a program's
+text-bytes : {t : List ℕ} → All isText t → Bytes t
+text-bytes no-byte i = omega arith
+text-bytes (each-byte {b = b} e a) zero =
+    let h = leb-true b 126 (both (leb 32 b) (leb b 126) (both (leb 32 b && leb b 126) _ e .0) .1) in omega arith
+text-bytes (each-byte e a) (suc i) = text-bytes a i
+
+program-bytes : {lim low : ℕ} {rs : List Stored} → Program lim low rs → Bytes (programBytes rs)
+program-bytes empty = bytes-cons 255 (255 ∷ []) (omega arith) (bytes-cons 255 [] (omega arith) (λ i. omega arith))
+program-bytes (each {r = r} {rs = rs} l s p) =
+    let n = s .number in
+    let t = s .short in
+    bytes-append (recordBytes r) (programBytes rs)
+    (bytes-record (r .line) (r .text) (omega arith) (omega arith) (text-bytes (stored-text s))) (program-bytes p)
+
+pub onto-bytes : {lim : ℕ} {rs : List Stored} (page : List ℕ) → Bytes page → Program lim 0 rs → Bytes (onto page rs)
+onto-bytes {rs = rs} page b p =
+    bytes-append (programBytes rs) _ (program-bytes p) (bytes-drop (length (programBytes rs)) page b)
+
+-- a record of line n stands at q
+pub record Stands (page : List ℕ) (n q : ℕ) : Type 0 where
+  pub inside : q + 3 ≤ length page
+  pub line : lineAt (drop q page) ≡ n
+  pub there : stopsAt (drop q page) ≡ false
+
+found : (k : ℕ) (page : List ℕ) (n at q : ℕ) → length page - at < k → positionIn n at (recordsOf (drop at page)) ≡ some q → Stands page n q
+found zero page n at q h e = absurd (omega arith)
+found (suc k) page n at q h e =
+    by-cases (stopsAt (drop at page)) (λ f. let g : none ≡ some q = sym (ap (positionIn n at) (stop (drop at page) f)) ∙ e in let z : _≡_ {A = ℕ} 0 1 = cc in absurd (omega arith))
+    (λ f.
+    let m = met page at (sizeAt (drop at page)) refl (omega (arith, size-some (drop at page) f)) in
+    by-cases (eqb (lineAt (drop at page)) n)
+    (λ g.
+    let is : some at ≡ some q = sym (rw (m .records, g)) ∙ e in
+    let at-q : at ≡ q = cc in
+    rw (← at-q) (record { inside = m .inside; line = eqb-true (lineAt (drop at page)) n g; there = f }))
+    (λ g.
+    let next = at + sizeAt (drop at page) in
+    let on : positionIn n at (recordsOf (drop at page)) ≡ positionIn n next (recordsOf (drop next page)) = rw (m .records, g, m .long) in
+    found k page n next q (omega (arith, size-some (drop at page) f, m .inside)) (sym on ∙ e)))
+
+pub find-stands : (page : List ℕ) (n q : ℕ) → find page n ≡ some q → Stands page n q
+unfolding find
+find-stands page n q e = found (suc (length page)) page n 0 q (omega arith) e
+
+-- on a page as long as a call's, every line has a place
+pub reached-all : (page : List ℕ) (n : ℕ) → length page ≤ 65535 → reached (find page n) ≡ find page n
+reached-all page n h = go (find page n) (λ q e. find-stands page n q e)
+  where
+    go : (o : Option ℕ) → ((q : ℕ) → o ≡ some q → Stands page n q) → reached o ≡ o
+    go none k = refl
+    go (some q) k = rw (lt-ltb q 65536 (omega (arith, k q refl .inside)))

@@ -1,0 +1,11 @@
+pub mod Walk
+pub mod Program
+pub mod Changes
+pub mod Texts
+pub mod Moves
+pub mod Edits
+pub mod Good
+pub mod Listings
+pub mod Boundaries
+pub mod Kept
+pub mod Determined

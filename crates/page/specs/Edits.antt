@@ -1,0 +1,77 @@
+-- What an edit does to a page's bytes, whatever they are. On a good page it is the definition's (proofs/Edits.antt).
+use Prim.Native.Nat.{ℕ, _+_, _-_, _≤_}
+use mathlib.Core.Path.{_≡_}
+use mathlib.Core.Bool.{Bool, _&&_}
+use mathlib.Core.List.{List, [], _∷_, _++_}
+use lib.ListN.{length, take, drop}
+use lib.Seq.{paste}
+use lib.Dec.{ltb, leb, eqb}
+use Rattle.nibl.specs.Bytes.{if_then_else_}
+use Rattle.nibl.specs.Page.{Stored, recordBytes, recordsOf, size, used, usedBy, onto}
+use Rattle.nibl.specs.Calls.{Outcome, stops, clearStacks}
+use Rattle.nibl.specs.Meaning.{World, withSession}
+use Rattle.page.specs.declared.Seat.{Seat}
+use Rattle.page.specs.declared.Edited.{Edited}
+use Rattle.page.specs.declared.Edited.the-variants as edited
+
+-- before the first record of a number that is not lower; `gone` is the size of the one of that number, or 0
+abbrev pub seatIn : ℕ → ℕ → List Stored → Seat
+seatIn n at [] = record { at = at; gone = 0 }
+seatIn n at (r ∷ rs) =
+    if ltb (r .line) n then seatIn n (at + size r) rs
+    else record { at = at; gone = if eqb (r .line) n then size r else 0 }
+
+unfoldable pub seatOf : List ℕ → ℕ → Seat
+seatOf page n = seatIn n 0 (recordsOf page)
+
+-- a seat that was walked to
+pub record Seated (page : List ℕ) (n : ℕ) (s : Seat) : Type 0 where
+  pub is : s ≡ seatOf page n
+  pub inside : s .at ≤ length page + 1
+  pub rest : s .at + usedBy (recordsOf (drop (s .at) page)) ≡ used page
+
+-- n bytes from `from` on stand at `to` too, as if taken whole first
+abbrev pub moved : List ℕ → ℕ → ℕ → ℕ → List ℕ
+moved p from to n = paste p to (drop from p) n
+
+-- of the `top` bytes in use the `gone` at `at` are replaced by new ones; what lies after the new end is as it was
+abbrev pub spliced : List ℕ → ℕ → ℕ → ℕ → List ℕ → List ℕ
+spliced p at gone top new =
+    take at p ++ (new ++ (take (top - (at + gone)) (drop (at + gone) p) ++ drop (at + length new + (top - (at + gone))) p))
+
+-- a page after an edit, and the answer
+pub record Changed : Type 0 where
+  pub page : List ℕ
+  pub answer : Edited
+
+abbrev pub changed : List ℕ → Edited → Changed
+changed p a = record { page = p; answer = a }
+
+-- the new record fits where the old one's room counts as free. A page that ends before its end mark has no room
+abbrev pub canStore : List ℕ → Seat → ℕ → Bool
+canStore page s n = leb (used page) (length page) && (leb n 255 && leb (used page - s .gone + n) (length page))
+
+unfoldable pub storeOf : List ℕ → ℕ → List ℕ → Changed
+storeOf page n t =
+    let s = seatOf page n in
+    let p = spliced page (s .at) (s .gone) (used page) (recordBytes (record { line = n; text = t })) in
+    if canStore page s (length t + 4) then changed p edited.Done else changed page edited.NoRoom
+
+unfoldable pub deleteOf : List ℕ → ℕ → Changed
+deleteOf page n =
+    let s = seatOf page n in
+    if ltb (s .gone) 1 then changed page edited.Absent
+    else if leb (used page) (length page) then changed (spliced page (s .at) (s .gone) (used page) []) edited.Done
+    else changed page edited.NoRoom
+
+unfoldable pub newOf : List ℕ → Changed
+newOf page = if leb 2 (length page) then changed (onto page []) edited.Done else changed page edited.NoRoom
+
+-- What an edit's answer says: its stop, and that the stacks are cleared
+abbrev pub outcomeOf : World → Changed → Outcome
+outcomeOf w c =
+    elim (c .answer) [
+      | edited.Done ↦ stops 0 (withSession w (clearStacks (w .session))) (c .page)
+      | edited.NoRoom ↦ stops 2 w (c .page)
+      | edited.Absent ↦ stops 0 w (c .page)
+    ]

@@ -1,0 +1,49 @@
+-- The walk along a page by its length bytes, and what the answers of its functions say.
+use Prim.Native.Nat.{ℕ, suc, _+_}
+use mathlib.Core.Bool.{Bool, _||_}
+use mathlib.Core.List.{List}
+use mathlib.Core.Option.{Option, none, some}
+use lib.ListN.{length}
+use lib.Dec.{ltb}
+use Rattle.nibl.specs.Bytes.{if_then_else_}
+use Rattle.nibl.specs.Page.{Stored, isEnd, lineAt, lengthAt, textAt}
+use Rattle.nibl.specs.Calls.{lineFrom}
+use Rattle.page.specs.declared.FoundLine.{FoundLine}
+use Rattle.page.specs.declared.FoundLine.the-variants as line
+use Rattle.page.specs.declared.Begins.{Begins}
+use Rattle.page.specs.declared.Begins.the-variants as begins
+use Rattle.page.specs.declared.Where.{Where}
+use Rattle.page.specs.declared.Where.the-variants as where′
+
+-- no record begins here
+abbrev pub stopsAt : List ℕ → Bool
+stopsAt q = isEnd q || ltb (lengthAt q) 5
+
+-- the record that stands here
+abbrev pub recordAt : List ℕ → Stored
+recordAt q = record { line = lineAt q; text = textAt q }
+
+-- how many bytes the record here has, and 0 where none begins
+unfoldable pub sizeAt : List ℕ → ℕ
+sizeAt q = if stopsAt q then 0 else length (textAt q) + 4
+
+-- the position at which a line's record stands: at the program's start, or after the place that ends the record before it
+abbrev pub positionOf : FoundLine → Option ℕ
+positionOf line.Nothing = none
+positionOf line.First = some 0
+positionOf (line.After p) = some (suc (p .0))
+
+-- a position that a place can name
+abbrev pub reached : Option ℕ → Option ℕ
+reached none = none
+reached (some q) = if ltb q 65536 then some q else none
+
+-- where the next text begins, if there is one
+abbrev pub beginOf : Begins → Option ℕ
+beginOf begins.Nowhere = none
+beginOf (begins.At a) = some a
+
+-- the running text: from a position of the page, or of the typed line, to the next CR
+abbrev pub textOf : List ℕ → List ℕ → Where → List ℕ
+textOf page line (where′.Page a) = lineFrom page a
+textOf page line (where′.Line a) = lineFrom line a

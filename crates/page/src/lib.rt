@@ -1,0 +1,463 @@
+// The page: the walk along its records by their length bytes, the line finder, the running text, and the edits.
+// Any bytes whatever are looked at safely; what is said of a good page is said in proofs/.
+ghost use Prim.Native.Nat.{_+_, _-_, _≤_, _<_};
+ghost use mathlib.Core.Bool.{_&&_};
+ghost use mathlib.Core.List.{_++_};
+ghost use mathlib.Core.Option.{some};
+ghost use lib.Dec.{leb, eqb};
+ghost use mathlib.Core.Path.{_≡_};
+ghost use lib.ListN.{length, getD, take, drop};
+ghost use lib.Seq.{paste};
+ghost use Rattle.nibl.specs.Page.{recordBytes, isEnd, find, lineAt, lineOf, used, usedBy, recordsOf};
+ghost use Rattle.nibl.specs.Calls.{lineFrom, textFrom, listed};
+ghost use Rattle.nibl.specs.Values.{digits};
+ghost use Rattle.value.specs.Writes.{Writes};
+ghost use Rattle.page.specs.Edits.{Seated, moved, spliced, changed, storeOf, deleteOf, newOf};
+ghost use Rattle.page.specs.Listing.{shown, listing, Here};
+ghost use Rattle.page.specs.Walk.{sizeAt, recordAt, positionOf, reached, beginOf, textOf};
+use nibl::LineNumber;
+use nibl::Place;
+use value::Wrote;
+use value::write_digits;
+use value::write_item;
+
+// Where a line's record stands: at the program's start, or after the place that ends the record before it.
+pub enum FoundLine {
+    Nothing,
+    First,
+    After(Place),
+}
+
+// Where the next text begins, if there is one.
+pub enum Begins {
+    Nowhere,
+    At(usize),
+}
+
+// Which bytes the running statement is in, and from where on.
+pub enum Where {
+    Page(usize),
+    Line(usize),
+}
+
+// Where a line's record stands or is to stand, and how many bytes of that line are there.
+pub struct Seat {
+    pub at: usize,
+    pub gone: usize,
+}
+
+// How an edit ended. A page that has no room, and one that lacks the line, are as before.
+pub enum Edited {
+    Done,
+    NoRoom,
+    Absent,
+}
+
+// How a listing ended: all lines are out, or the next one does not fit; and the position after those that are out.
+pub enum Listed {
+    All(usize),
+    Full(usize),
+}
+
+// A byte, and 0 past the end.
+fn byte_at(s: &[u8], i: usize) -> u8
+    ensures { λ r. ⌜ r ≡ getD (now (s .entry)) i 0 ⌝ }
+{
+    if i < s.len() { s[i] } else { 0 }
+}
+
+// Whether the end mark stands at `at`.
+fn is_end(page: &[u8], at: usize) -> bool
+    ensures { λ r. ⌜ r ≡ isEnd (drop at (now (page .entry))) ⌝ }
+{
+    if page.len() <= at {
+        return false;
+    }
+    if byte_at(page, at) != 255 {
+        return false;
+    }
+    byte_at(page, at + 1) == 255
+}
+
+// How many bytes the record at `at` has, and 0 where none begins. One that the page's end cuts off counts as if its CR came next.
+fn size_at(page: &[u8], at: usize) -> usize
+    ensures { λ r. ⌜ r ≡ sizeAt (drop at (now (page .entry))) ⌝ }
+{
+    let n = page.len();
+    if n <= at {
+        return 0;
+    }
+    if is_end(page, at) {
+        return 0;
+    }
+    let size = byte_at(page, at + 2) as usize;
+    if size < 5 {
+        return 0;
+    }
+    let left = n - at;
+    if left < size {
+        return left + 1;
+    }
+    size
+}
+
+// The number of the record at `at`.
+fn line_at(page: &[u8], at: usize) -> u16
+    ensures { λ r. ⌜ r ≡ lineAt (drop at (now (page .entry))) ⌝ }
+{
+    if page.len() <= at {
+        return 0;
+    }
+    let high = byte_at(page, at) as u16;
+    let low = byte_at(page, at + 1) as u16;
+    high * 256 + low
+}
+
+// The used bytes from a record boundary on, the end mark with them, and those before it.
+fn used_from(page: &[u8], from: usize) -> usize
+    requires { ⌜ from ≤ length (now page) + 1 ⌝ }
+    ensures { λ r. ⌜ r ≡ from + usedBy (recordsOf (drop from (now (page .entry)))) ⌝ }
+{
+    let mut at = from;
+    let mut size = size_at(page, at);
+    while 0 < size {
+        at += size;
+        size = size_at(page, at);
+    }
+    at + 2
+}
+
+// TOP: the page's used bytes with the end mark.
+pub fn used_bytes(page: &[u8]) -> usize
+    ensures { λ r. ⌜ r ≡ used (now (page .entry)) ⌝ }
+{
+    used_from(page, 0)
+}
+
+// A record's position, by the place before it. Past what a place can name there is none.
+fn found_at(at: usize) -> FoundLine
+    ensures { λ r. ⌜ positionOf r ≡ reached (some at) ⌝ }
+{
+    if at == 0 {
+        return FoundLine::First;
+    }
+    if at < 65536 {
+        return FoundLine::After(Place((at - 1) as u16));
+    }
+    FoundLine::Nothing
+}
+
+// The line finder, which alone turns a line number into a place.
+pub fn find_line(page: &[u8], number: LineNumber) -> FoundLine
+    ensures { λ r. ⌜ positionOf r ≡ reached (find (now (page .entry)) (number .0)) ⌝ }
+{
+    let n = number.0;
+    let mut at: usize = 0;
+    let mut size = size_at(page, at);
+    while 0 < size {
+        if line_at(page, at) == n {
+            return found_at(at);
+        }
+        at += size;
+        size = size_at(page, at);
+    }
+    FoundLine::Nothing
+}
+
+// The line of the record that a place lies in; 0 past the records.
+pub fn line_of(page: &[u8], place: Place) -> LineNumber
+    ensures { λ r. ⌜ r .0 ≡ lineOf (now (page .entry)) (place .0) ⌝ }
+{
+    let p = place.0 as usize;
+    let mut at: usize = 0;
+    let mut size = size_at(page, at);
+    while 0 < size {
+        if p - at < size {
+            return LineNumber(line_at(page, at));
+        }
+        at += size;
+        size = size_at(page, at);
+    }
+    LineNumber(0)
+}
+
+// Where the text from `at` on ends: at the next CR, or at the end.
+fn text_end(s: &[u8], at: usize) -> usize
+    ensures { λ r. ⌜ r ≡ at + length (lineFrom (now (s .entry)) at) ⌝ }
+{
+    let mut e = at;
+    while e < s.len() {
+        if s[e] == 13 {
+            return e;
+        }
+        e += 1;
+    }
+    e
+}
+
+// The text from `at` on, up to the next CR.
+fn text_at<'a>(s: &'a [u8], at: usize) -> &'a [u8]
+    ensures { λ r. ⌜ now r ≡ lineFrom (now (s .entry)) at ⌝ }
+{
+    if s.len() <= at {
+        return &s[..0];
+    }
+    let e = text_end(s, at);
+    &s[at..e]
+}
+
+// The text of the running statement: a part of the page, or of the typed line.
+pub fn running<'a>(page: &'a [u8], line: &'a [u8], at: Where) -> &'a [u8]
+    ensures { λ r. ⌜ now r ≡ textOf (now (page .entry)) (now (line .entry)) at ⌝ }
+{
+    match at {
+        Where::Page(a) => text_at(page, a),
+        Where::Line(a) => text_at(line, a),
+    }
+}
+
+// Whether a ":" stands before `at`.
+fn after_colon(page: &[u8], at: usize) -> bool
+    ensures { λ r. ⌜ r ≡ (leb 1 at && eqb (getD (now (page .entry)) (at - 1) 0) 58) ⌝ }
+{
+    if at < 1 {
+        return false;
+    }
+    byte_at(page, at - 1) == 58
+}
+
+// Where the text begins that is next at a position.
+pub fn text_from(page: &[u8], position: u32) -> Begins
+    ensures { λ r. ⌜ beginOf r ≡ textFrom (now (page .entry)) position ⌝ }
+{
+    let at = position as usize;
+    if after_colon(page, at) {
+        return Begins::At(at);
+    }
+    if is_end(page, at) {
+        return Begins::Nowhere;
+    }
+    Begins::At(at + 3)
+}
+
+// The walk to a line's seat.
+fn find_seat(page: &[u8], number: LineNumber) -> Seat
+    ensures { λ r. ⌜ Seated (now (page .entry)) (number .0) r ⌝ }
+{
+    let n = number.0;
+    let mut at: usize = 0;
+    let mut size = size_at(page, at);
+    while 0 < size {
+        let line = line_at(page, at);
+        if line == n {
+            return Seat { at: at, gone: size };
+        }
+        if n < line {
+            return Seat { at: at, gone: 0 };
+        }
+        at += size;
+        size = size_at(page, at);
+    }
+    Seat { at: at, gone: 0 }
+}
+
+// n bytes go to a lower place, the first one first.
+fn move_left(s: &mut [u8], from: usize, to: usize, n: usize)
+    requires { ⌜ (to ≤ from) × (from + n ≤ length (now s)) ⌝ }
+    ensures { λ _. ⌜ now (s .exit) ≡ moved (now (s .entry)) from to n ⌝ }
+{
+    let mut i: usize = 0;
+    while i < n {
+        s[to + i] = s[from + i];
+        i += 1;
+    }
+}
+
+// n bytes go to a higher place, the last one first.
+fn move_right(s: &mut [u8], from: usize, to: usize, n: usize)
+    requires { ⌜ (from ≤ to) × (to + n ≤ length (now s)) ⌝ }
+    ensures { λ _. ⌜ now (s .exit) ≡ moved (now (s .entry)) from to n ⌝ }
+{
+    let mut j = n;
+    while 0 < j {
+        j -= 1;
+        s[to + j] = s[from + j];
+    }
+}
+
+// The mover: as if the bytes were taken whole first.
+fn shift(s: &mut [u8], from: usize, to: usize, n: usize)
+    requires { ⌜ (from + n ≤ length (now s)) × (to + n ≤ length (now s)) ⌝ }
+    ensures { λ _. ⌜ now (s .exit) ≡ moved (now (s .entry)) from to n ⌝ }
+{
+    if to <= from {
+        move_left(s, from, to, n);
+    } else {
+        move_right(s, from, to, n);
+    }
+}
+
+// A text goes into a slice at a position.
+fn put_text(s: &mut [u8], at: usize, text: &[u8])
+    requires { ⌜ at + length (now text) ≤ length (now s) ⌝ }
+    ensures { λ _. ⌜ now (s .exit) ≡ paste (now (s .entry)) at (now (text .entry)) (length (now (text .entry))) ⌝ }
+{
+    let mut i: usize = 0;
+    while i < text.len() {
+        s[at + i] = text[i];
+        i += 1;
+    }
+}
+
+// The record writer: a record goes to the front of a slice.
+fn put_record(s: &mut [u8], number: LineNumber, text: &[u8])
+    requires { ⌜ (length (now text) + 4 ≤ 255) × (length (now text) + 4 ≤ length (now s)) ⌝ }
+    ensures { λ _. ⌜ now (s .exit) ≡ recordBytes (record { line = number .0; text = now (text .entry) }) ++ drop (length (now (text .entry)) + 4) (now (s .entry)) ⌝ }
+{
+    let n = text.len();
+    let x = number.0;
+    s[0] = (x / 256) as u8;
+    s[1] = (x % 256) as u8;
+    s[2] = (n + 4) as u8;
+    put_text(s, 3, text);
+    s[3 + n] = 13;
+}
+
+// On the page from a seat on: `gone` bytes go, of the `top` that are in use, and a record comes.
+fn put_in(s: &mut [u8], gone: usize, top: usize, number: LineNumber, text: &[u8])
+    requires { ⌜ (gone ≤ top) × ((top ≤ length (now s)) × ((length (now text) + 4 ≤ 255) × (length (now text) + 4 + (top - gone) ≤ length (now s)))) ⌝ }
+    ensures { λ _. ⌜ now (s .exit) ≡ spliced (now (s .entry)) 0 gone top (recordBytes (record { line = number .0; text = now (text .entry) })) ⌝ }
+{
+    let size = text.len() + 4;
+    let rest = top - gone;
+    shift(s, gone, size, rest);
+    put_record(s, number, text);
+}
+
+// A record is inserted, or replaces the one of its number, whose room counts as free.
+pub fn store_line(page: &mut [u8], number: LineNumber, text: &[u8]) -> Edited
+    ensures { λ r. ⌜ changed (now (page .exit)) r ≡ storeOf (now (page .entry)) (number .0) (now (text .entry)) ⌝ }
+{
+    let seat = find_seat(page, number);
+    let at = seat.at;
+    let gone = seat.gone;
+    let top = used_from(page, at);
+    let room = page.len();
+    if room < top {
+        return Edited::NoRoom;
+    }
+    let size = text.len() + 4;
+    if 255 < size {
+        return Edited::NoRoom;
+    }
+    if room < top - gone + size {
+        return Edited::NoRoom;
+    }
+    put_in(&mut page[at..], gone, top - at, number, text);
+    Edited::Done
+}
+
+// The record of a line goes.
+pub fn delete_line(page: &mut [u8], number: LineNumber) -> Edited
+    ensures { λ r. ⌜ changed (now (page .exit)) r ≡ deleteOf (now (page .entry)) (number .0) ⌝ }
+{
+    let seat = find_seat(page, number);
+    let at = seat.at;
+    let gone = seat.gone;
+    if gone < 1 {
+        return Edited::Absent;
+    }
+    let top = used_from(page, at);
+    let room = page.len();
+    if room < top {
+        return Edited::NoRoom;
+    }
+    let left = top - at;
+    shift(&mut page[at..], gone, 0, left - gone);
+    Edited::Done
+}
+
+// NEW: the end mark comes first.
+pub fn new_page(page: &mut [u8]) -> Edited
+    ensures { λ r. ⌜ changed (now (page .exit)) r ≡ newOf (now (page .entry)) ⌝ }
+{
+    if page.len() < 2 {
+        return Edited::NoRoom;
+    }
+    page[0] = 255;
+    page[1] = 255;
+    Edited::Done
+}
+
+// How many digits a number has.
+fn digit_count(n: u16) -> usize
+    ensures { λ r. ⌜ r ≡ length (digits n) ⌝ }
+{
+    if n < 10 {
+        return 1;
+    }
+    if n < 100 {
+        return 2;
+    }
+    if n < 1000 {
+        return 3;
+    }
+    if n < 10000 {
+        return 4;
+    }
+    5
+}
+
+// The record of `size` bytes at `at` as LIST writes it: digits, text, CR, LF.
+fn list_line(page: &[u8], at: usize, size: usize, output: &mut [u8], pos: usize) -> Wrote
+    requires { ⌜ (0 < size) × (size ≡ sizeAt (drop at (now page))) ⌝ }
+    ensures { λ r. ⌜ Writes (now (output .entry)) pos (listed (recordAt (drop at (now (page .entry))))) r (now (output .exit)) ⌝ }
+{
+    let line = line_at(page, at);
+    let count = digit_count(line);
+    let n = count + size - 2;
+    let room = output.len();
+    if room < pos {
+        return Wrote::Full;
+    }
+    if room - pos < n {
+        return Wrote::Full;
+    }
+    write_digits(output, pos, line);
+    let a = pos + count;
+    write_item(output, a, &page[at + 3..at + size - 1]);
+    let e = a + size - 4;
+    output[e] = 13;
+    output[e + 1] = 10;
+    Wrote::To(e + 2)
+}
+
+// A record below the number is passed over.
+fn list_here(page: &[u8], at: usize, size: usize, n: u16, output: &mut [u8], pos: usize) -> Wrote
+    requires { ⌜ (0 < size) × (size ≡ sizeAt (drop at (now page))) ⌝ }
+    ensures { λ r. ⌜ Here n (recordAt (drop at (now (page .entry)))) (now (output .entry)) pos r (now (output .exit)) ⌝ }
+{
+    if line_at(page, at) < n {
+        return Wrote::To(pos);
+    }
+    list_line(page, at, size, output, pos)
+}
+
+// LIST: each line from a number on, whole or not at all.
+pub fn list_from(page: &[u8], number: LineNumber, output: &mut [u8], from: usize) -> Listed
+    ensures { λ r. ⌜ shown (now (output .exit)) r ≡ listing (number .0) (recordsOf (now (page .entry))) (now (output .entry)) from ⌝ }
+{
+    let n = number.0;
+    let mut pos = from;
+    let mut at: usize = 0;
+    let mut size = size_at(page, at);
+    while 0 < size {
+        let Wrote::To(next) = list_here(page, at, size, n, output, pos) else {
+            return Listed::Full(pos);
+        };
+        pos = next;
+        at += size;
+        size = size_at(page, at);
+    }
+    Listed::All(pos)
+}
