@@ -6,12 +6,12 @@ pub mod Over
 pub mod Rules
 pub mod Sound
 pub mod Statements
+pub mod Complete
+pub mod Desk
+pub mod Ends
+pub mod Exact
 pub mod Lines
 pub mod Next
-pub mod Complete
-pub mod Whole
-pub mod Exact
-pub mod Ends
-pub mod Desk
 pub mod Quotients
+pub mod Whole
 pub mod Names

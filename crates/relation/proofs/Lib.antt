@@ -1,0 +1,4 @@
+pub mod Readers
+pub mod Signs
+pub mod States
+pub mod Ways

@@ -1,0 +1,190 @@
+-- What stands next: one law for each answer. Assumes nothing.
+use Prim.Native.Nat.{ℕ, suc, _+_, _-_, _*_, _≤_, _<_}
+use mathlib.Core.Path.{_≡_, refl, sym, ap, subst, _∙_}
+use mathlib.Core.List.{List, [], _∷_, _++_}
+use mathlib.Core.Option.{Option, none, some}
+use native.Mathlib.Omega.{arith}
+use borrow.Author.Tests.{ne-eqb}
+use denote.Enum.Declared.{tagOf}
+use types.Run.{OneOf, miss}
+use lib.ListN.{length, drop}
+use Rattle.nibl.specs.Words.{Token, keywords}
+use Rattle.nibl.specs.Grammar.{Joints, jointOf, sumJoints}
+use Rattle.nibl.specs.Tree.{Op, Expr, var, const}
+use Rattle.nibl.specs.Read.{Step, stepIn, Found, nothing, found, Reader, onStep, signOf, aSign, jointFound, aJoint, choose, factorCases, factorOf, fail, give, read, factor, sum}
+use Rattle.nibl.proofs.Sound.{read-factor, read-sum}
+use Rattle.word.specs.declared.Cursor.{Cursor}
+use Rattle.word.specs.declared.Word.{Word}
+use Rattle.word.specs.declared.Word.the-variants.{Variable, Decimal, Hex, Text, Sign, End, Wrong}
+use Rattle.word.proofs.Word.{the-type}
+use Rattle.word.specs.Found.{stepOf, Stands}
+use Rattle.relation.specs.Code.{op, opNumber, values}
+use Rattle.relation.specs.Makes.{ahead, need, only, Leads, stopped, refused, onto, Over, Stood, stood, Absent, absent, SignIs, Otherwise, nowhere, another, KeyIs, there, jointsOf, codeOf, JointIs, plainly, negated, LeadIs, cases, FormIs, whole, other, AtomIs, missing, goes}
+use Rattle.relation.specs.declared.Made.{Made}
+use Rattle.relation.specs.declared.Made.the-variants.{Next, NoReading}
+use Rattle.relation.specs.declared.Signed.the-variants as signed
+use Rattle.relation.specs.declared.Joined.the-variants as joined
+use Rattle.relation.specs.declared.Lead.the-variants.{Minus, Plain}
+use Rattle.relation.specs.declared.Atom.{Atom}
+use Rattle.relation.specs.declared.Atom.the-variants as atom
+use Rattle.relation.proofs.Readers.{then-found, then-nothing, if-there, if-other}
+
+pub over-here : {text : List ℕ} {c d : Cursor} {o : ℕ} → c .at < d .at → d .at ≤ length text → Over text (Next c o) (Next d o)
+over-here l h = record { low = omega arith; spare = λ k. omega arith }
+
+pub stood-over : {A : Type 0} {F : Reader A} {a : A} {text : List ℕ} {r s : Made} → Stood F a text r s → Over text r s
+stood-over (stood e l h) = over-here l h
+
+-- The word at a cursor
+module _ {text : List ℕ} {r : Made} {c : Cursor} {o : ℕ} (w : Word) (e : r ≡ Next c o) (h : Stands (stepIn keywords) text (c .at) w) where
+  by-step : {A : Type 0} (k : Token → Reader A) → onStep (stepIn keywords (drop (c .at) text)) k ≡ onStep (stepOf text w) k
+  by-step k = ap (λ (s : Step). onStep s k) (sym (h .same))
+
+  sign-step : aSign (drop (c .at) text) ≡ onStep (stepOf text w) signOf
+  unfolding aSign
+  sign-step = by-step signOf
+
+  factor-step : read factor (drop (c .at) text) ≡ onStep (stepOf text w) (factorOf read)
+  factor-step = read-factor (drop (c .at) text) ∙ by-step (factorOf read)
+
+-- a word of another kind
+no-sign : (text : List ℕ) (w : Word) → OneOf (0 ∷ 1 ∷ 2 ∷ 3 ∷ 5 ∷ 6 ∷ []) (tagOf the-type w) → onStep (stepOf text w) signOf ≡ nothing
+no-sign text (Variable v p) k = refl
+no-sign text (Decimal n p) k = refl
+no-sign text (Hex n p) k = refl
+no-sign text (Text i j p) k = refl
+no-sign text (Sign n p) k = absurd (miss (0 ∷ 1 ∷ 2 ∷ 3 ∷ 5 ∷ 6 ∷ []) 4 tt k)
+no-sign text End k = refl
+no-sign text Wrong k = refl
+
+no-factor : (text : List ℕ) (w : Word) → OneOf (3 ∷ 5 ∷ 6 ∷ []) (tagOf the-type w) → onStep (stepOf text w) (factorOf read) ≡ nothing
+no-factor text (Variable v p) k = absurd (miss (3 ∷ 5 ∷ 6 ∷ []) 0 tt k)
+no-factor text (Decimal n p) k = absurd (miss (3 ∷ 5 ∷ 6 ∷ []) 1 tt k)
+no-factor text (Hex n p) k = absurd (miss (3 ∷ 5 ∷ 6 ∷ []) 2 tt k)
+no-factor text (Text i j p) k = refl
+no-factor text (Sign n p) k = absurd (miss (3 ∷ 5 ∷ 6 ∷ []) 4 tt k)
+no-factor text End k = refl
+no-factor text Wrong k = refl
+
+module _ {text : List ℕ} {r : Made} {c : Cursor} {o : ℕ} (w : Word) (e : r ≡ Next c o) (h : Stands (stepIn keywords) text (c .at) w) where
+  pub sign-none : OneOf (0 ∷ 1 ∷ 2 ∷ 3 ∷ 5 ∷ 6 ∷ []) (tagOf the-type w) → SignIs text r signed.Other
+  sign-none k = rw e (absent (sign-step w e h ∙ no-sign text w k))
+
+  pub atom-none : OneOf (3 ∷ 5 ∷ 6 ∷ []) (tagOf the-type w) → AtomIs text r atom.Other
+  atom-none k = rw e (missing (absent (factor-step w e h ∙ no-factor text w k)))
+
+module _ {text : List ℕ} {r : Made} {c p : Cursor} {o : ℕ} (e : r ≡ Next c o) where
+  pub sign-found : {k : ℕ} → Stands (stepIn keywords) text (c .at) (Sign k p) → SignIs text r (signed.By k (Next p o))
+  sign-found h = rw e (stood (sign-step _ e h) (h .inside .0) (h .inside .1))
+
+  atom-goes : {a : Atom} (R : Reader Expr) → read factor (drop (c .at) text) ≡ R (drop (p .at) text) → c .at < p .at → p .at ≤ length text
+      → FormIs R (Next p o) a → AtomIs text r a
+  atom-goes R f l h g = rw e (goes R (onto (λ x. f) (λ i. h)) (over-here l h) g)
+
+  pub atom-variable : {v u : ℕ} → Stands (stepIn keywords) text (c .at) (Variable v p) → u ≡ v → AtomIs text r (atom.Whole (u * 64 + 1) (Next p o))
+  unfolding values
+  atom-variable h d = rw d (atom-goes (give (var _)) (factor-step _ e h) (h .inside .0) (h .inside .1) (whole (var _) refl refl))
+
+  pub atom-decimal : {v u : ℕ} → Stands (stepIn keywords) text (c .at) (Decimal v p) → u ≡ v → AtomIs text r (atom.Whole (u * 64) (Next p o))
+  unfolding values
+  atom-decimal h d = rw d (atom-goes (give (const _)) (factor-step _ e h) (h .inside .0) (h .inside .1) (whole (const _) (ap (λ n. n ∷ []) (omega arith)) refl))
+
+  pub atom-hex : {v u : ℕ} → Stands (stepIn keywords) text (c .at) (Hex v p) → u ≡ v → AtomIs text r (atom.Whole (u * 64) (Next p o))
+  unfolding values
+  atom-hex h d = rw d (atom-goes (give (const _)) (factor-step _ e h) (h .inside .0) (h .inside .1) (whole (const _) (ap (λ n. n ∷ []) (omega arith)) refl))
+
+  pub atom-sign : {k : ℕ} {a : Atom} → Stands (stepIn keywords) text (c .at) (Sign k p) → FormIs (cases k) (Next p o) a → AtomIs text r a
+  atom-sign {k} h f = atom-goes (cases k) (factor-step _ e h) (h .inside .0) (h .inside .1) f
+
+pub halted : {A : Type 0} {F : Reader A} {text : List ℕ} {r : Made} → r ≡ NoReading → Absent F text r
+halted e = rw e stopped
+
+-- The sign that must stand next
+pub key-found : {text : List ℕ} {r m : Made} {j k : ℕ} → j ≡ k → SignIs text r (signed.By j m) → KeyIs k text r m
+key-found e h = there (rw e at h)
+
+pub key-none : {text : List ℕ} {r : Made} (k : ℕ) → SignIs text r signed.Other → KeyIs k text r NoReading
+key-none k stopped = stopped
+key-none k (absent {c} e) = refused {c = c} (rw e nowhere)
+
+pub key-other : {text : List ℕ} {r m : Made} {j : ℕ} (k : ℕ) → (j ≡ k → ⊥) → SignIs text r (signed.By j m) → KeyIs k text r NoReading
+key-other k d (stood {c} e l h) = refused {c = c} (rw e (another (ne-eqb _ k d)))
+
+-- Operators
+module _ (js : Joints) where
+  pub joint-none : {text : List ℕ} {r : Made} → SignIs text r signed.Other → JointIs js text r joined.Alone
+  unfolding aJoint
+  joint-none stopped = stopped
+  joint-none (absent e) = absent (then-nothing aSign _ _ e)
+
+  none-found : (q : Option Op) (t : List ℕ) → codeOf q ≡ 0 → jointFound q t ≡ nothing
+  none-found none t i = refl
+  none-found (some q) t i = absurd (omega arith)
+
+  pub joint-not : {text : List ℕ} {r m : Made} {k v : ℕ} → v ≡ codeOf (jointOf js k) → v ≡ 0 → SignIs text r (signed.By k m) → JointIs js text r joined.Alone
+  unfolding aJoint
+  joint-not {k} f z (stood e l h) = absent (then-found aSign _ _ e ∙ none-found (jointOf js k) _ (sym f ∙ z))
+
+  operator-found : {text : List ℕ} {r m : Made} {k v : ℕ} (q : Option Op) → jointOf js k ≡ q → v ≡ codeOf q → (v ≡ 0 → ⊥) → SignIs text r (signed.By k m)
+      → JointIs js text r (joined.By v m)
+  unfolding aJoint
+  operator-found none i f z h = absurd (z f)
+  operator-found {text} (some q) i f z (stood {d} e l h) =
+      record { operator = q; number = f; next = stood (then-found aSign _ _ e ∙ ap (λ x. jointFound x (drop (d .at) text)) i) l h }
+
+  pub joint-found : {text : List ℕ} {r m : Made} {k v : ℕ} → v ≡ codeOf (jointOf js k) → (v ≡ 0 → ⊥) → SignIs text r (signed.By k m) → JointIs js text r (joined.By v m)
+  joint-found {k} f z h = operator-found (jointOf js k) refl f z h
+
+-- A number in a list of cases, or in none of them
+infixr 5 _but_
+pub data NoneOf {C : Type 0} (k : ℕ) : List (ℕ × C) → Type 0 where
+  noneLeft : NoneOf k []
+  _but_ : {n : ℕ} {a : C} {cs : List (ℕ × C)} → (k ≡ n → ⊥) → NoneOf k cs → NoneOf k ((n, a) ∷ cs)
+
+no-joint : {k : ℕ} {js : Joints} → NoneOf k js → jointOf js k ≡ none
+no-joint noneLeft = refl
+no-joint {k} (_but_ {n} d h) = rw (ne-eqb k n d) (no-joint h)
+
+no-case : {k : ℕ} {cs : List (ℕ × Reader Expr)} → NoneOf k cs → choose cs fail k ≡ fail
+no-case noneLeft = refl
+no-case {k} (_but_ {n} d h) = rw (ne-eqb k n d) (no-case h)
+
+-- The operation of a sign
+module _ (l : ℕ) {k : ℕ} {js : Joints} (e : jointsOf l ≡ js) where
+  pub code-of : {j : ℕ} → k ≡ j → codeOf (jointOf js j) ≡ codeOf (jointOf (jointsOf l) k)
+  code-of f = rw (e, f)
+
+  pub no-code : NoneOf k js → 0 ≡ codeOf (jointOf (jointsOf l) k)
+  no-code h = rw (e, no-joint h)
+
+pub of-sums : (l : ℕ) → (l ≡ 0 → ⊥) → (l ≡ 1 → ⊥) → jointsOf l ≡ sumJoints
+of-sums l a b = rw (ne-eqb l 0 a, ne-eqb l 1 b)
+
+-- How a factor begins by a sign
+pub form-at : {k n : ℕ} {m : Made} {a : Atom} → k ≡ n → FormIs (cases n) m a → FormIs (cases k) m a
+form-at e f = rw e f
+
+pub form-none : {k : ℕ} {m : Made} → NoneOf k (factorCases read) → FormIs (cases k) m atom.Other
+form-none h = other (no-case h)
+
+-- How a sum begins
+module _ {text : List ℕ} where
+  plain-sum : {c : Cursor} {o : ℕ} → Otherwise 45 (aSign (drop (c .at) text)) → Otherwise 43 (aSign (drop (c .at) text)) → LeadIs text (Next c o) (Plain (Next c o))
+  plain-sum {c} a b =
+      (onto (λ x. read-sum (drop (c .at) text) ∙ if-other "-" _ _ _ a ∙ if-other "+" plainly plainly _ b) (λ i. i), omega arith, λ k. omega arith)
+
+  pub lead-none : {r : Made} → SignIs text r signed.Other → LeadIs text r (Plain r)
+  lead-none stopped = (stopped, omega arith, λ k. omega arith)
+  lead-none (absent e) = plain-sum (rw e nowhere) (rw e nowhere)
+
+  pub lead-other : {r m : Made} {k : ℕ} → (k ≡ 45 → ⊥) → (k ≡ 43 → ⊥) → SignIs text r (signed.By k m) → LeadIs text r (Plain r)
+  lead-other a b (stood e l h) = plain-sum (rw e (another (ne-eqb _ 45 a))) (rw e (another (ne-eqb _ 43 b)))
+
+  pub lead-minus : {r m : Made} {k : ℕ} → k ≡ 45 → SignIs text r (signed.By k m) → LeadIs text r (Minus m)
+  lead-minus k (stood {c} {d} e l h) =
+      (onto (λ x. read-sum (drop (c .at) text) ∙ if-there "-" negated _ _ (e ∙ ap (λ n. found n (drop (d .at) text)) k)) (λ i. h), over-here l h)
+
+  pub lead-plus : {r m : Made} {k : ℕ} → (k ≡ 45 → ⊥) → k ≡ 43 → SignIs text r (signed.By k m) → LeadIs text r (Plain m)
+  lead-plus a k (stood {c} {d} e l h) =
+      (onto (λ x. read-sum (drop (c .at) text) ∙ if-other "-" _ _ _ (rw e (another (ne-eqb _ 45 a))) ∙ if-there "+" plainly plainly _ (e ∙ ap (λ n. found n (drop (d .at) text)) k)) (λ i. h),
+       omega arith, λ j. omega arith)

@@ -1,0 +1,35 @@
+use mathlib.Core.Path.{subst}
+use Rattle.relation.specs.Makes.{SignIs}
+use Rattle.relation.proofs.Signs.{lead-none, lead-minus, lead-plus, lead-other}
+use borrow.Author.Needs.{needs}
+use Rattle.relation.proofs.lead_at.Statement.{statement}
+use Rattle.relation.proofs.lead_at.Tie as tie
+
+sign-at-requires : tie.Need-sign-at-requires
+sign-at-requires c κs = search needs
+
+enum-known-w : tie.Need-enum-known-w
+enum-known-w c = search needs
+
+enum-told : tie.Need-enum-told
+enum-told c = search needs
+
+returns : tie.Need-returns
+returns c = lead-none (subst (SignIs _ _) (c .enum-told .given .1) (c .before .before .sign-at .ensures))
+
+returns-2 : tie.Need-returns-2
+returns-2 c =
+    lead-minus (c .if1 .taken) (subst (SignIs _ _) (c .before .before .w .given .1) (c .before .before .before .before .sign-at .ensures))
+
+returns-3 : tie.Need-returns-3
+returns-3 c =
+    lead-plus (c .before .if1 .left) (c .if2 .taken) (subst (SignIs _ _) (c .before .before .before .w .given .1) (c .before .before .before .before .before .sign-at .ensures))
+
+returns-4 : tie.Need-returns-4
+returns-4 c =
+    lead-other (c .before .if1 .left) (c .if2 .left) (subst (SignIs _ _) (c .before .before .before .w .given .1) (c .before .before .before .before .before .sign-at .ensures))
+
+pub lead-at-spec : {M : Type 1} → statement M
+lead-at-spec =
+    tie.close
+    (tie.spec sign-at-requires enum-known-w enum-told returns returns-2 returns-3 returns-4)

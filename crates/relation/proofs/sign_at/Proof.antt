@@ -1,0 +1,36 @@
+use mathlib.Core.Path.{subst}
+use Rattle.nibl.specs.Read.{stepIn}
+use Rattle.nibl.specs.Words.{keywords}
+use Rattle.word.specs.Found.{Stands}
+use Rattle.relation.proofs.Signs.{halted, sign-none, sign-found}
+use borrow.Author.Needs.{needs}
+use Rattle.relation.proofs.sign_at.Statement.{statement}
+use Rattle.relation.proofs.sign_at.Tie as tie
+
+enum-known-r : tie.Need-enum-known-r
+enum-known-r c = search needs
+
+enum-told : tie.Need-enum-told
+enum-told c = search needs
+
+returns : tie.Need-returns
+returns c = halted (c .enum-told .given .1)
+
+word-at-requires : tie.Need-word-at-requires
+word-at-requires c κs = search needs
+
+enum-known-w : tie.Need-enum-known-w
+enum-known-w c = search needs
+
+returns-2 : tie.Need-returns-2
+returns-2 c =
+    sign-none (c .before .word-at .result) (c .before .before .before .r .given .1) (c .before .word-at .ensures) (c .match2 .keys2)
+
+returns-3 : tie.Need-returns-3
+returns-3 c =
+    sign-found (c .before .before .before .before .before .r .given .1) (subst (Stands (stepIn keywords) _ _) (c .before .w .given .1) (c .before .before .before .word-at .ensures))
+
+pub sign-at-spec : {M : Type 1} → statement M
+sign-at-spec =
+    tie.close
+    (tie.spec enum-known-r enum-told returns word-at-requires enum-known-w returns-2 returns-3)

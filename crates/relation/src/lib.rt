@@ -1,0 +1,298 @@
+// The readers of a relation. They call each other in a cycle while the unread bytes of the text fall, and write
+// the operations of what they read into a lent list of numbers, which has room for one to each byte. Each goes
+// from a state to a state, so that readers follow one another with no test between them: where one finds no
+// reading, the rest of them pass that on.
+use word::Cursor;
+use word::Word;
+ghost use Prim.Native.Nat.{ℕ, _≤_};
+ghost use mathlib.Core.Path.{_≡_};
+ghost use lib.ListN.{length};
+ghost use Rattle.nibl.specs.Read.{read, factor, term, sum, relation, factors, terms};
+ghost use Rattle.relation.specs.Code.{values};
+ghost use Rattle.relation.specs.Makes.{need, filled, SignIs, KeyIs, codeOf, jointsOf, JointIs, LeadIs, FormIs, cases, AtomIs, Written, Reads, Makes};
+ghost use Rattle.nibl.specs.Grammar.{jointOf};
+
+// The cursor past what was read and the number of operations so far, or no reading.
+pub enum Made {
+    Next(Cursor, usize),
+    NoReading,
+}
+
+// A sign by its number and the state past it, where one stands next.
+pub enum Signed {
+    By(u8, Made),
+    Other,
+}
+
+// The operation of an operator and the state past it, where one stands next.
+pub enum Joined {
+    By(u32, Made),
+    Alone,
+}
+
+// How a sum begins: by a minus, or by its first term.
+pub enum Lead {
+    Minus(Made),
+    Plain(Made),
+}
+
+// How a factor begins, and the state past that: it is one operation, or an operation follows another factor,
+// or a relation in parentheses follows, or what stands behind MOD.
+pub enum Atom {
+    Whole(u32, Made),
+    Prefix(u32, Made),
+    Bracket(Made),
+    Modulo(Made),
+    Other,
+}
+
+// The sign that stands next.
+pub fn sign_at(text: &[u8], r: Made) -> Signed
+    ensures { λ s. ⌜ SignIs (now (text .entry)) r s ⌝ }
+{
+    let Made::Next(c, o) = r else {
+        return Signed::Other;
+    };
+    let w = word::word_at(text, c);
+    let Word::Sign(k, p) = w else {
+        return Signed::Other;
+    };
+    Signed::By(k, Made::Next(p, o))
+}
+
+// Past the sign of this number, which must stand next.
+pub fn past_sign(text: &[u8], r: Made, k: u8) -> Made
+    ensures { λ s. ⌜ KeyIs k (now (text .entry)) r s ⌝ }
+{
+    let w = sign_at(text, r);
+    let Signed::By(j, m) = w else {
+        return Made::NoReading;
+    };
+    if j == k {
+        return m;
+    }
+    Made::NoReading
+}
+
+// One operation more.
+pub fn write(ops: &mut [u32], r: Made, v: u32) -> Made
+    requires { ⌜ filled r ≤ length (now ops) ⌝ }
+    ensures { λ s. ⌜ Written v (now (ops .entry)) r (now (ops .exit)) s ⌝ }
+{
+    let Made::Next(c, o) = r else {
+        return Made::NoReading;
+    };
+    ops[o] = v;
+    Made::Next(c, o + 1)
+}
+
+// The operation of a sign that joins factors (0), terms (1) or sums; 0 for another sign.
+fn operator(level: u8, k: u8) -> u32
+    ensures { λ v. ⌜ v ≡ codeOf (jointOf (jointsOf level) k) ⌝ }
+{
+    if level == 0 {
+        return match k {
+            42 => 8,
+            47 => 72,
+            150 => 136,
+            _ => 0,
+        };
+    }
+    if level == 1 {
+        return match k {
+            43 => 200,
+            45 => 264,
+            151 => 328,
+            _ => 0,
+        };
+    }
+    match k {
+        61 => 392,
+        60 => 456,
+        62 => 520,
+        1 => 584,
+        2 => 648,
+        3 => 712,
+        _ => 0,
+    }
+}
+
+// The operator that joins factors (0), terms (1) or sums, where one stands next.
+fn joint_at(text: &[u8], r: Made, level: u8) -> Joined
+    ensures { λ j. ⌜ JointIs (jointsOf level) (now (text .entry)) r j ⌝ }
+{
+    let w = sign_at(text, r);
+    let Signed::By(k, m) = w else {
+        return Joined::Alone;
+    };
+    let v = operator(level, k);
+    if v == 0 {
+        return Joined::Alone;
+    }
+    Joined::By(v, m)
+}
+
+fn wide(b: u8) -> u32
+    ensures { λ r. ⌜ r ≡ b ⌝ }
+{
+    b as u32
+}
+
+fn wide16(v: u16) -> u32
+    ensures { λ r. ⌜ r ≡ v ⌝ }
+{
+    v as u32
+}
+
+// How a factor begins by a sign: STAT, TOP, "(", "@", NOT or MOD.
+fn form(k: u8, m: Made) -> Atom
+    ensures { λ a. ⌜ FormIs (cases k) m a ⌝ }
+{
+    match k {
+        147 => Atom::Whole(2, m),
+        148 => Atom::Whole(3, m),
+        40 => Atom::Bracket(m),
+        64 => Atom::Prefix(4, m),
+        152 => Atom::Prefix(5, m),
+        149 => Atom::Modulo(m),
+        _ => Atom::Other,
+    }
+}
+
+// How a factor begins.
+fn atom_at(text: &[u8], r: Made) -> Atom
+    ensures { λ a. ⌜ AtomIs (now (text .entry)) r a ⌝ }
+{
+    let Made::Next(c, o) = r else {
+        return Atom::Other;
+    };
+    let w = word::word_at(text, c);
+    match w {
+        Word::Variable(v, p) => Atom::Whole(wide(v) * 64 + 1, Made::Next(p, o)),
+        Word::Decimal(n, p) => Atom::Whole(wide16(n) * 64, Made::Next(p, o)),
+        Word::Hex(n, p) => Atom::Whole(wide16(n) * 64, Made::Next(p, o)),
+        Word::Sign(k, p) => form(k, Made::Next(p, o)),
+        _ => Atom::Other,
+    }
+}
+
+// A variable, a constant, STAT or TOP; a relation in parentheses; "@" or NOT before a factor; MOD of two relations.
+pub fn read_factor(text: &[u8], r: Made, ops: &mut [u32]) -> Made
+    requires { ⌜ need 0 (now text) r ≤ length (now ops) ⌝ }
+    ensures { λ s. ⌜ Makes (read factor) values (now (text .entry)) (now (ops .entry)) r (now (ops .exit)) s ⌝ }
+{
+    let a = atom_at(text, r);
+    match a {
+        Atom::Whole(v, m) => write(ops, m, v),
+        Atom::Prefix(v, m) => {
+            let f = read_factor(text, m, ops);
+            write(ops, f, v)
+        }
+        Atom::Bracket(m) => {
+            let e = read_relation(text, m, ops);
+            past_sign(text, e, 41)
+        }
+        Atom::Modulo(m) => {
+            let b = past_sign(text, m, 40);
+            let d = read_relation(text, b, ops);
+            let e = past_sign(text, d, 44);
+            let f = read_relation(text, e, ops);
+            let g = past_sign(text, f, 41);
+            write(ops, g, 7)
+        }
+        Atom::Other => Made::NoReading,
+    }
+}
+
+// A factor and those joined to it.
+fn read_term(text: &[u8], r: Made, ops: &mut [u32]) -> Made
+    requires { ⌜ need 0 (now text) r ≤ length (now ops) ⌝ }
+    ensures { λ s. ⌜ Makes (read term) values (now (text .entry)) (now (ops .entry)) r (now (ops .exit)) s ⌝ }
+{
+    let f = read_factor(text, r, ops);
+    more_factors(text, f, ops)
+}
+
+// The factors that are joined by * / AND.
+fn more_factors(text: &[u8], r: Made, ops: &mut [u32]) -> Made
+    requires { ⌜ need 0 (now text) r ≤ length (now ops) ⌝ }
+    ensures { λ s. ⌜ Reads (λ a. read (factors a)) values values (now (text .entry)) (now (ops .entry)) r (now (ops .exit)) s ⌝ }
+{
+    let j = joint_at(text, r, 0);
+    match j {
+        Joined::By(v, m) => {
+            let f = read_factor(text, m, ops);
+            let g = write(ops, f, v);
+            more_factors(text, g, ops)
+        }
+        Joined::Alone => r,
+    }
+}
+
+// How a sum begins: a minus takes the whole first term, and a plus is passed over.
+fn lead_at(text: &[u8], r: Made) -> Lead
+    ensures { λ l. ⌜ LeadIs (now (text .entry)) r l ⌝ }
+{
+    let w = sign_at(text, r);
+    let Signed::By(k, m) = w else {
+        return Lead::Plain(r);
+    };
+    if k == 45 {
+        return Lead::Minus(m);
+    }
+    if k == 43 {
+        return Lead::Plain(m);
+    }
+    Lead::Plain(r)
+}
+
+// A sign or none, a term, and those joined to it.
+fn read_sum(text: &[u8], r: Made, ops: &mut [u32]) -> Made
+    requires { ⌜ need 0 (now text) r ≤ length (now ops) ⌝ }
+    ensures { λ s. ⌜ Makes (read sum) values (now (text .entry)) (now (ops .entry)) r (now (ops .exit)) s ⌝ }
+{
+    let l = lead_at(text, r);
+    match l {
+        Lead::Minus(m) => {
+            let t = read_term(text, m, ops);
+            let n = write(ops, t, 6);
+            more_terms(text, n, ops)
+        }
+        Lead::Plain(m) => {
+            let t = read_term(text, m, ops);
+            more_terms(text, t, ops)
+        }
+    }
+}
+
+// The terms that are joined by + - OR.
+fn more_terms(text: &[u8], r: Made, ops: &mut [u32]) -> Made
+    requires { ⌜ need 0 (now text) r ≤ length (now ops) ⌝ }
+    ensures { λ s. ⌜ Reads (λ a. read (terms a)) values values (now (text .entry)) (now (ops .entry)) r (now (ops .exit)) s ⌝ }
+{
+    let j = joint_at(text, r, 1);
+    match j {
+        Joined::By(v, m) => {
+            let t = read_term(text, m, ops);
+            let g = write(ops, t, v);
+            more_terms(text, g, ops)
+        }
+        Joined::Alone => r,
+    }
+}
+
+// A sum, and another that it is compared with, if any.
+pub fn read_relation(text: &[u8], r: Made, ops: &mut [u32]) -> Made
+    requires { ⌜ need 0 (now text) r ≤ length (now ops) ⌝ }
+    ensures { λ s. ⌜ Makes (read relation) values (now (text .entry)) (now (ops .entry)) r (now (ops .exit)) s ⌝ }
+{
+    let f = read_sum(text, r, ops);
+    let j = joint_at(text, f, 2);
+    match j {
+        Joined::By(v, m) => {
+            let g = read_sum(text, m, ops);
+            write(ops, g, v)
+        }
+        Joined::Alone => f,
+    }
+}
