@@ -8,7 +8,8 @@
 //! Reading order: [`value`], [`stop`], [`typing`], [`words`], [`tree`],
 //! [`reader`], [`line`], [`page`], [`record`], [`machine`], [`statements`],
 //! [`calls`]. [`session`], [`case`] and [`json`] serve the programs in
-//! `src/bin`, [`random`] makes sessions, cases and lines for comparisons.
+//! `src/bin`, [`random`] makes sessions, cases and lines for comparisons, and
+//! [`rules`] pages to measure on.
 
 #![forbid(unsafe_code)]
 
@@ -21,6 +22,7 @@ pub mod page;
 pub mod random;
 pub mod reader;
 pub mod record;
+pub mod rules;
 pub mod session;
 pub mod statements;
 pub mod stop;

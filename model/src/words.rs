@@ -63,6 +63,11 @@ impl<'a> Words<'a> {
         Words { text, position: 0 }
     }
 
+    /// The position past the words handed out.
+    pub fn position(&self) -> usize {
+        self.position
+    }
+
     /// Gives up what is left, as REM does.
     pub fn skip_rest(&mut self) {
         self.position = self.text.len();

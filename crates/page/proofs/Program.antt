@@ -151,7 +151,7 @@ record-bytes (x ∷ y ∷ n ∷ s) b h l e =
 
 module _ (lim : ℕ) where
   -- what is known of a record that was found whole
-  record-known : (low : ℕ) (q : List ℕ) → isRecord lim low q ≡ true
+  pub record-known : (low : ℕ) (q : List ℕ) → isRecord lim low q ≡ true
       → (low ≤ lineAt q) × ((lineAt q ≤ 32767) × ((5 ≤ lengthAt q) × ((lengthAt q ≤ length q) × ((getD q (lengthAt q - 1) 0 ≡ 13) × (isStorable lim (lineAt q) (textAt q) ≡ true)))))
   unfolding isRecord
   record-known low q e =
@@ -162,7 +162,7 @@ module _ (lim : ℕ) where
       let f = both (eqb (getD q (lengthAt q - 1) 0) 13) _ (d .1) in
       (leb-true _ _ (a .0), (leb-true _ _ (b .0), (leb-true _ _ (c .0), (leb-true _ _ (d .0), (eqb-true _ _ (f .0), f .1)))))
 
-  good-step : (k low : ℕ) (q : List ℕ) → isEnd q ≡ false → goodN lim (suc k) low q ≡ true
+  pub good-step : (k low : ℕ) (q : List ℕ) → isEnd q ≡ false → goodN lim (suc k) low q ≡ true
       → (isRecord lim low q ≡ true) × (goodN lim k (suc (lineAt q)) (drop (lengthAt q) q) ≡ true)
   unfolding goodN
   good-step k low q e h =

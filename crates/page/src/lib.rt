@@ -6,7 +6,7 @@ ghost use mathlib.Core.List.{_++_};
 ghost use mathlib.Core.Option.{some};
 ghost use lib.Dec.{leb, eqb};
 ghost use mathlib.Core.Path.{_≡_};
-ghost use lib.ListN.{length, getD, take, drop};
+ghost use lib.ListN.{length, getD, drop};
 ghost use lib.Seq.{paste};
 ghost use Rattle.nibl.specs.Page.{recordBytes, isEnd, find, lineAt, lineOf, used, usedBy, recordsOf};
 ghost use Rattle.nibl.specs.Calls.{lineFrom, textFrom, listed};

@@ -1,3 +1,4 @@
+pub mod Answers
 pub mod Readers
 pub mod Signs
 pub mod States

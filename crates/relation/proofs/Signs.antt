@@ -1,25 +1,26 @@
 -- What stands next: one law for each answer. Assumes nothing.
-use Prim.Native.Nat.{ℕ, suc, _+_, _-_, _*_, _≤_, _<_}
-use mathlib.Core.Path.{_≡_, refl, sym, ap, subst, _∙_}
-use mathlib.Core.List.{List, [], _∷_, _++_}
+use Prim.Native.Nat.{ℕ, _+_, _-_, _*_, _≤_, _<_}
+use Prim.Native.String.{String}
+use mathlib.Core.Path.{_≡_, refl, sym, ap, _∙_}
+use mathlib.Core.List.{List, [], _∷_}
 use mathlib.Core.Option.{Option, none, some}
 use native.Mathlib.Omega.{arith}
 use borrow.Author.Tests.{ne-eqb}
 use denote.Enum.Declared.{tagOf}
 use types.Run.{OneOf, miss}
 use lib.ListN.{length, drop}
-use Rattle.nibl.specs.Words.{Token, keywords}
+use Rattle.nibl.specs.Words.{Token, keywords, number}
 use Rattle.nibl.specs.Grammar.{Joints, jointOf, sumJoints}
 use Rattle.nibl.specs.Tree.{Op, Expr, var, const}
-use Rattle.nibl.specs.Read.{Step, stepIn, Found, nothing, found, Reader, onStep, signOf, aSign, jointFound, aJoint, choose, factorCases, factorOf, fail, give, read, factor, sum}
+use Rattle.nibl.specs.Read.{Step, stepIn, nothing, found, Reader, onStep, signOf, aSign, jointFound, aJoint, choose, factorCases, factorOf, fail, give, ifKey, may, read, sum, factor}
 use Rattle.nibl.proofs.Sound.{read-factor, read-sum}
 use Rattle.word.specs.declared.Cursor.{Cursor}
 use Rattle.word.specs.declared.Word.{Word}
 use Rattle.word.specs.declared.Word.the-variants.{Variable, Decimal, Hex, Text, Sign, End, Wrong}
 use Rattle.word.proofs.Word.{the-type}
 use Rattle.word.specs.Found.{stepOf, Stands}
-use Rattle.relation.specs.Code.{op, opNumber, values}
-use Rattle.relation.specs.Makes.{ahead, need, only, Leads, stopped, refused, onto, Over, Stood, stood, Absent, absent, SignIs, Otherwise, nowhere, another, KeyIs, there, jointsOf, codeOf, JointIs, plainly, negated, LeadIs, cases, FormIs, whole, other, AtomIs, missing, goes}
+use Rattle.relation.specs.Code.{values}
+use Rattle.relation.specs.Makes.{stopped, refused, onto, Over, Stood, stood, Absent, absent, SignIs, nowhere, another, KeyIs, there, jointsOf, codeOf, JointIs, plainly, negated, LeadIs, cases, FormIs, whole, other, AtomIs, missing, goes, Leads, only}
 use Rattle.relation.specs.declared.Made.{Made}
 use Rattle.relation.specs.declared.Made.the-variants.{Next, NoReading}
 use Rattle.relation.specs.declared.Signed.the-variants as signed
@@ -28,6 +29,7 @@ use Rattle.relation.specs.declared.Lead.the-variants.{Minus, Plain}
 use Rattle.relation.specs.declared.Atom.{Atom}
 use Rattle.relation.specs.declared.Atom.the-variants as atom
 use Rattle.relation.proofs.Readers.{then-found, then-nothing, if-there, if-other}
+use Rattle.relation.proofs.States.{over-few, leads-as, leads-on}
 
 pub over-here : {text : List ℕ} {c d : Cursor} {o : ℕ} → c .at < d .at → d .at ≤ length text → Over text (Next c o) (Next d o)
 over-here l h = record { low = omega arith; spare = λ k. omega arith }
@@ -167,24 +169,36 @@ form-at e f = rw e f
 pub form-none : {k : ℕ} {m : Made} → NoneOf k (factorCases read) → FormIs (cases k) m atom.Other
 form-none h = other (no-case h)
 
+-- A word that may stand next
+module _ {X A : Type 0} {text : List ℕ} (name : String) (R S : X → Reader A) where
+  pub with-sign : {r m : Made} {k : ℕ} → k ≡ number name → SignIs text r (signed.By k m) → Leads (λ x. ifKey name (R x) (S x)) R text r m
+  with-sign k (stood {d} e l h) = onto (λ x. if-there name (R x) (S x) _ (e ∙ ap (λ n. found n (drop (d .at) text)) k)) (λ i. h)
+
+  pub with-other : {r m : Made} {k : ℕ} → (k ≡ number name → ⊥) → SignIs text r (signed.By k m) → Leads (λ x. ifKey name (R x) (S x)) S text r r
+  with-other k (stood {c} e l h) = onto {c = c} {d = c} (λ x. if-other name (R x) (S x) _ (rw e (another (ne-eqb _ (number name) k)))) (λ i. i)
+
+  pub with-none : {r : Made} → SignIs text r signed.Other → Leads (λ x. ifKey name (R x) (S x)) S text r r
+  with-none stopped = stopped
+  with-none (absent {c} e) = onto {c = c} {d = c} (λ x. if-other name (R x) (S x) _ (rw e nowhere)) (λ i. i)
+
 -- How a sum begins
-module _ {text : List ℕ} where
-  plain-sum : {c : Cursor} {o : ℕ} → Otherwise 45 (aSign (drop (c .at) text)) → Otherwise 43 (aSign (drop (c .at) text)) → LeadIs text (Next c o) (Plain (Next c o))
-  plain-sum {c} a b =
-      (onto (λ x. read-sum (drop (c .at) text) ∙ if-other "-" _ _ _ a ∙ if-other "+" plainly plainly _ b) (λ i. i), omega arith, λ k. omega arith)
+module _ {text : List ℕ} {r : Made} where
+  sum-minus : {m : Made} → Leads (only (ifKey "-" negated (may "+" plainly))) (only negated) text r m → Leads (only (read sum)) (only negated) text r m
+  sum-minus = leads-as (λ x s. read-sum s)
 
-  pub lead-none : {r : Made} → SignIs text r signed.Other → LeadIs text r (Plain r)
-  lead-none stopped = (stopped, omega arith, λ k. omega arith)
-  lead-none (absent e) = plain-sum (rw e nowhere) (rw e nowhere)
+  sum-plain : {m : Made} → Leads (only (ifKey "-" negated (may "+" plainly))) (only (may "+" plainly)) text r r → Leads (only (may "+" plainly)) (only plainly) text r m
+      → Leads (only (read sum)) (only plainly) text r m
+  sum-plain a b = leads-as (λ x s. read-sum s) (leads-on a b)
 
-  pub lead-other : {r m : Made} {k : ℕ} → (k ≡ 45 → ⊥) → (k ≡ 43 → ⊥) → SignIs text r (signed.By k m) → LeadIs text r (Plain r)
-  lead-other a b (stood e l h) = plain-sum (rw e (another (ne-eqb _ 45 a))) (rw e (another (ne-eqb _ 43 b)))
+  pub lead-none : SignIs text r signed.Other → LeadIs text r (Plain r)
+  lead-none h = (sum-plain (with-none "-" _ _ h) (with-none "+" _ _ h), omega arith, λ k. omega arith)
 
-  pub lead-minus : {r m : Made} {k : ℕ} → k ≡ 45 → SignIs text r (signed.By k m) → LeadIs text r (Minus m)
-  lead-minus k (stood {c} {d} e l h) =
-      (onto (λ x. read-sum (drop (c .at) text) ∙ if-there "-" negated _ _ (e ∙ ap (λ n. found n (drop (d .at) text)) k)) (λ i. h), over-here l h)
+  module _ {m : Made} {k : ℕ} where
+    pub lead-minus : k ≡ 45 → SignIs text r (signed.By k m) → LeadIs text r (Minus m)
+    lead-minus e h = (sum-minus (with-sign "-" _ _ e h), stood-over h)
 
-  pub lead-plus : {r m : Made} {k : ℕ} → (k ≡ 45 → ⊥) → k ≡ 43 → SignIs text r (signed.By k m) → LeadIs text r (Plain m)
-  lead-plus a k (stood {c} {d} e l h) =
-      (onto (λ x. read-sum (drop (c .at) text) ∙ if-other "-" _ _ _ (rw e (another (ne-eqb _ 45 a))) ∙ if-there "+" plainly plainly _ (e ∙ ap (λ n. found n (drop (d .at) text)) k)) (λ i. h),
-       omega arith, λ j. omega arith)
+    pub lead-plus : (k ≡ 45 → ⊥) → k ≡ 43 → SignIs text r (signed.By k m) → LeadIs text r (Plain m)
+    lead-plus d e h = let o = stood-over h in (sum-plain (with-other "-" _ _ d h) (with-sign "+" _ _ e h), omega arith, over-few o)
+
+    pub lead-other : (k ≡ 45 → ⊥) → (k ≡ 43 → ⊥) → SignIs text r (signed.By k m) → LeadIs text r (Plain r)
+    lead-other d e h = (sum-plain (with-other "-" _ _ d h) (with-other "+" _ _ e h), omega arith, λ j. omega arith)

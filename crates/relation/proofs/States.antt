@@ -1,16 +1,16 @@
 -- Readers from state to state: one after another, past a sign, and with an operation written. Assumes nothing.
-use Prim.Native.Nat.{ℕ, suc, _+_, _-_, _≤_, _<_}
+use Prim.Native.Nat.{ℕ, suc, _+_, _≤_}
 use Prim.Native.String.{String}
 use mathlib.Core.Path.{_≡_, refl, sym, ap, _∙_}
 use mathlib.Core.List.{List, [], _∷_, _++_, append-assoc, append-nil}
 use native.Mathlib.Nat.{add-zero}
 use native.Mathlib.Omega.{arith}
-use lib.ListN.{length, drop, set, length-append}
+use lib.ListN.{length, set, length-append}
 use lib.Seq.{sets}
 use Rattle.nibl.specs.Words.{number}
-use Rattle.nibl.specs.Read.{nothing, found, Reader, aSign, fail, give, key, _>>=_}
+use Rattle.nibl.specs.Read.{Reader, fail, give, key, _>>=_}
 use Rattle.word.specs.declared.Cursor.{Cursor}
-use Rattle.relation.specs.Makes.{ahead, need, filled, Wrote, Written, written, Gives, stopped, refused, given, Leads, onto, only, bare, Stood, stood, KeyIs, there}
+use Rattle.relation.specs.Makes.{ahead, need, filled, Wrote, Written, written, Gives, stopped, refused, given, Reads, Over, Leads, onto, only, bare, stood, KeyIs, there}
 use Rattle.relation.specs.declared.Made.{Made}
 use Rattle.relation.specs.declared.Made.the-variants.{Next, NoReading}
 use Rattle.relation.proofs.Readers.{then-found, then-nothing, if-there, if-other}
@@ -36,6 +36,20 @@ pub more-need : (k : ℕ) (text : List ℕ) (r : Made) → need k text r ≤ nee
 more-need k text NoReading = omega arith
 more-need k text (Next c o) = omega arith
 
+pub filled-need : (text : List ℕ) (r : Made) → filled r ≤ need 1 text r
+filled-need text NoReading = omega arith
+filled-need text (Next c o) = omega arith
+
+module _ {text : List ℕ} {r s : Made} where
+  pub over-few : Over text r s → (k : ℕ) → need k text s ≤ need k text r
+  over-few o k = omega (arith, o .spare k, more-need k text s)
+
+  pub over-filled : Over text r s → filled s ≤ need 0 text r
+  over-filled o = omega (arith, o .spare 0, filled-need text s)
+
+  pub reads-filled : {X A : Type 0} {R : X → Reader A} {pre : X → List ℕ} {code : A → List ℕ} {ops ops' : List ℕ} → Reads R pre code text ops r ops' s → filled s ≤ need 1 text r
+  reads-filled y = omega (arith, y .few 1, filled-need text s)
+
 module _ {text : List ℕ} where
   pub key-low : {k : ℕ} {r s : Made} → KeyIs k text r s → ahead text s ≤ ahead text r
   key-low stopped = omega arith
@@ -46,6 +60,9 @@ module _ {text : List ℕ} where
   key-spare stopped j = omega arith
   key-spare (refused h) j = omega arith
   key-spare (there (stood e l h)) j = omega arith
+
+  pub key-filled : {k : ℕ} {r s : Made} → KeyIs k text r s → filled s ≤ need 0 text r
+  key-filled {s} h = omega (arith, key-spare h 0, filled-need text s)
 
   pub key-few : {k : ℕ} {r s : Made} → KeyIs k text r s → (j : ℕ) → need j text s ≤ need j text r
   key-few {s} h j = omega (arith, key-spare h j, more-need j text s)
@@ -63,10 +80,6 @@ written-ahead written text = refl
 pub written-need : {v : ℕ} {ops ops' : List ℕ} {r s : Made} → Written v ops r ops' s → (text : List ℕ) (k : ℕ) → need k text s ≤ need (suc k) text r
 written-need stopped text k = omega arith
 written-need written text k = omega arith
-
-pub filled-need : (text : List ℕ) (r : Made) → filled r ≤ need 1 text r
-filled-need text NoReading = omega arith
-filled-need text (Next c o) = omega arith
 
 -- One reader after another
 module _ {X A B : Type 0} {text : List ℕ} where
@@ -89,6 +102,18 @@ module _ {X A B : Type 0} {text : List ℕ} where
       given (λ x. g x (grow tt)) (tail ++ (v ∷ [])) (λ x. then-found F _ _ (e tt)) (λ x. c x (grow tt) ∙ ap (λ l. pre x ++ (l ++ (v ∷ []))) (f tt)) h (wrote-both w (wrote-one v))
 
 -- The same by another reader
+module _ {X A : Type 0} {text : List ℕ} where
+  pub leads-as : {R S T : X → Reader A} {r m : Made} → ((x : X) (s : List ℕ) → R x s ≡ S x s) → Leads S T text r m → Leads R T text r m
+  leads-as e stopped = stopped
+  leads-as e (refused f) = refused (λ x. e x _ ∙ f x)
+  leads-as e (onto f h) = onto (λ x. e x _ ∙ f x) h
+
+  pub leads-on : {R S T : X → Reader A} {r m n : Made} → Leads R S text r m → Leads S T text m n → Leads R T text r n
+  leads-on stopped stopped = stopped
+  leads-on (refused e) stopped = refused e
+  leads-on (onto e h) (refused f) = refused (λ x. e x ∙ f x)
+  leads-on (onto e h) (onto f i) = onto (λ x. e x ∙ f x) (λ j. i (h j))
+
 module _ {X A : Type 0} {R S : X → Reader A} {pre : X → List ℕ} {code : A → List ℕ} {text ops ops' : List ℕ} where
   pub led : {r m s : Made} → Leads R S text r m → Gives S pre code text ops ops' m s → Gives R pre code text ops ops' r s
   led stopped stopped = stopped

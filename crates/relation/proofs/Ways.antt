@@ -1,15 +1,15 @@
 -- One law for each way out of the readers of a relation. Assumes nothing.
-use Prim.Native.Nat.{ℕ, suc, _+_, _≤_, _<_}
+use Prim.Native.Nat.{ℕ, suc, _+_}
 use mathlib.Core.Path.{_≡_, refl, ap, _∙_}
 use mathlib.Core.List.{List, [], _∷_, _++_}
 use native.Mathlib.Omega.{arith}
 use lib.ListN.{drop}
-use Rattle.nibl.specs.Grammar.{Joints, factorJoints, termJoints, sumJoints}
+use Rattle.nibl.specs.Grammar.{Joints, sumJoints}
 use Rattle.nibl.specs.Tree.{Op, Expr, negate, modulo, two}
-use Rattle.nibl.specs.Read.{found, nothing, Found, Reader, aJoint, orElse, onward, fail, give, key, _>>=_, Part, read, factor, term, sum, relation, factors, terms, related}
-use Rattle.nibl.proofs.Sound.{read-term, read-relation, read-factors, read-terms, read-related}
+use Rattle.nibl.specs.Read.{Reader, aJoint, orElse, onward, fail, give, key, _>>=_, Part, read, factor, term, sum, relation, factors, terms, related}
+use Rattle.nibl.proofs.Sound.{read-term, read-relation, read-related}
 use Rattle.relation.specs.Code.{op, opNumber, values}
-use Rattle.relation.specs.Makes.{ahead, need, Written, Gives, stopped, refused, Reads, Makes, Leads, onto, only, bare, Over, Stood, stood, Absent, absent, KeyIs, JoinedBy, JointIs, LeadIs, seconding, FormIs, whole, prefix, bracket, pair, other, AtomIs, missing, goes}
+use Rattle.relation.specs.Makes.{Written, Gives, stopped, refused, Reads, Makes, Leads, onto, only, bare, Over, Stood, stood, Absent, absent, KeyIs, JointIs, LeadIs, seconding, whole, prefix, bracket, pair, other, AtomIs, missing, goes}
 use Rattle.relation.specs.declared.Made.{Made}
 use Rattle.relation.specs.declared.Made.the-variants.{Next, NoReading}
 use Rattle.relation.specs.declared.Joined.the-variants as joined
@@ -17,7 +17,7 @@ use Rattle.relation.specs.declared.Lead.the-variants.{Minus, Plain}
 use Rattle.relation.specs.declared.Atom.the-variants as atom
 use Rattle.relation.proofs.Readers.{mapped, keyed}
 use Rattle.relation.proofs.Signs.{stood-over}
-use Rattle.relation.proofs.States.{more-need, key-low, key-spare, key-few, written-ahead, written-need, chain, closing, led, same, idle, single, signed, opened}
+use Rattle.relation.proofs.States.{over-few, key-low, key-spare, key-few, written-ahead, written-need, chain, closing, led, same, idle, single, signed, opened}
 
 -- the operations of a reading
 two-code : {v : ℕ} (q : Op) → v ≡ op 8 (opNumber q) → (a b : Expr) → values (two q a b) ≡ values a ++ (values b ++ (v ∷ []))
@@ -135,25 +135,25 @@ module _ {text : List ℕ} where
 
   pub factor-bracket : {ops ops1 : List ℕ} {r m s t : Made} → AtomIs text r (atom.Bracket m) → Makes (read relation) values text ops m ops1 s → KeyIs 41 text s t
       → Makes (read factor) values text ops r ops1 t
-  factor-bracket (goes {m} R l o (bracket e)) y k =
+  factor-bracket (goes R l o (bracket e)) y k =
       record {
         low = omega (arith, key-low k);
-        few = λ j. omega (arith, o .spare j, more-need j text m, y .few j, key-few k j);
+        few = λ j. omega (arith, over-few o j, y .few j, key-few k j);
         gives = led l (same (λ x s. ap (λ S. S s) e) (chain (y .gives) (signed ")" k)));
       }
 
   pub factor-pair : {ops ops1 ops2 ops3 : List ℕ} {r m a b d e f g : Made} → AtomIs text r (atom.Modulo m) → KeyIs 40 text m a
       → Makes (read relation) values text ops a ops1 b → KeyIs 44 text b d → Makes (read relation) values text ops1 d ops2 e → KeyIs 41 text e f
       → Written 7 ops2 f ops3 g → Makes (read factor) values text ops r ops3 g
-  factor-pair (goes {m} R l o (pair q)) i y j z k w =
+  factor-pair (goes R l o (pair q)) i y j z k w =
       record {
         low = omega (arith, key-low i, key-low j, key-low k, written-ahead w text);
-        few = λ n. omega (arith, o .spare n, more-need n text m, key-few i n, y .few n, key-spare j n, z .few (suc n), key-few k (suc n), written-need w text n);
+        few = λ n. omega (arith, over-few o n, key-few i n, y .few n, key-spare j n, z .few (suc n), key-few k (suc n), written-need w text n);
         gives =
-          led l
-          (same (λ x s. ap (λ S. S s) q)
-          (led (opened "(" (read relation >>= (λ a. key "," (seconding a))) i)
-          (same (λ x s. keyed "," (read relation) seconding s)
-          (chain (chain (y .gives) (signed "," j))
-          (same (λ a s. keyed ")" (read relation) (λ b. give (modulo a b)) s) (closing modulo modulo-code (chain (z .gives) (signed ")" k)) w))))));
+            led l
+            (same (λ x s. ap (λ S. S s) q)
+            (led (opened "(" (read relation >>= (λ a. key "," (seconding a))) i)
+            (same (λ x s. keyed "," (read relation) seconding s)
+            (chain (chain (y .gives) (signed "," j))
+            (same (λ a s. keyed ")" (read relation) (λ b. give (modulo a b)) s) (closing modulo modulo-code (chain (z .gives) (signed ")" k)) w))))));
       }

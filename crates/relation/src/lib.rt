@@ -4,7 +4,7 @@
 // reading, the rest of them pass that on.
 use word::Cursor;
 use word::Word;
-ghost use Prim.Native.Nat.{ℕ, _≤_};
+ghost use Prim.Native.Nat.{_≤_};
 ghost use mathlib.Core.Path.{_≡_};
 ghost use lib.ListN.{length};
 ghost use Rattle.nibl.specs.Read.{read, factor, term, sum, relation, factors, terms};
@@ -68,10 +68,7 @@ pub fn past_sign(text: &[u8], r: Made, k: u8) -> Made
     let Signed::By(j, m) = w else {
         return Made::NoReading;
     };
-    if j == k {
-        return m;
-    }
-    Made::NoReading
+    if j == k { m } else { Made::NoReading }
 }
 
 // One operation more.

@@ -12,21 +12,12 @@ use std::time::Instant;
 
 use model::line::LineNumber;
 use model::page::{delete, read_page, store};
+use model::rules::{empty_page, full_page, RULES};
 use model::{continue_run, take_line, ForEntry, Lent, Pause, Place, Record, Stop};
 
 const BATCHES: usize = 200;
 const CALL_LIMIT: f64 = 100.0;
 const STEPS_LIMIT: f64 = 5.0;
-
-/// Ordinary rule lines; the first is the shortest.
-const RULES: [&str; 6] = [
-    " A=A+1",
-    " IF @(C+2)>M-5 THEN GOSUB 900: GOTO 40",
-    " FOR I=1 TO 8: T=T+@(I*2): NEXT I",
-    " PRINT \"COW\",C,\" GATE \",STAT AND 3;: REM OPEN: SHUT",
-    " DO: N=N+2: UNTIL (MOD(I,N)=0) OR (N>J)",
-    " $600=\"WAIT: FULL\": IF A<>#1F STAT=STAT OR 4",
-];
 
 /// As many words as a line can hold.
 const DENSE: [&str; 1] = ["A=A+A+A+A+A+A+A+A+A+A+A+A+A+A+A+A+A+A+A+A+A+A+A+A+A+A+A+A+A+A+A+A"];
@@ -42,24 +33,6 @@ fn best(rounds: u32, mut round: impl FnMut()) -> f64 {
         best = best.min(start.elapsed().as_secs_f64() * 1e6 / f64::from(rounds));
     }
     best
-}
-
-fn empty_page(length: usize) -> Vec<u8> {
-    let mut page = vec![0; length];
-    page[..2].fill(255);
-    page
-}
-
-/// A page of 4,096 bytes filled with these texts in turn, as long as they fit.
-fn full_page(texts: &[&str]) -> Vec<u8> {
-    let mut page = empty_page(4096);
-    for (number, text) in (0..).step_by(10).zip(texts.iter().cycle()) {
-        let program = read_page(&page).expect("a sound page");
-        if !store(&mut page, &program, LineNumber(number), text.as_bytes()) {
-            break;
-        }
-    }
-    page
 }
 
 /// A record with all stacks full of places of this page.

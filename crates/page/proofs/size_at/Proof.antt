@@ -1,6 +1,5 @@
 -- `size_at` meets its contract: the length byte, or what the page's end leaves of the record. Assumes nothing.
-use Prim.Native.Nat.{ℕ, _+_, _≤_, _<_}
-use mathlib.Core.List.{List}
+use Prim.Native.Nat.{ℕ, _+_, _<_}
 use mathlib.Core.Bool.{false}
 use mathlib.Core.Path.{_≡_, sym, ap, _∙_}
 use native.Mathlib.Omega.{arith}
@@ -16,10 +15,14 @@ use Rattle.page.proofs.size_at.Statement.{statement}
 use Rattle.page.proofs.size_at.Tie as tie
 
 -- a record begins here, and this is its length byte
-here : (p : List ℕ) (at n : ℕ) → n ≡ getD p (at + 2) 0 → 5 ≤ n → isEnd (drop at p) ≡ false → (stopsAt (drop at p) ≡ false) × (lengthAt (drop at p) ≡ n)
-here p at n e h f =
-    let l : lengthAt (drop at p) ≡ n = getD-drop at p 2 0 ∙ sym e in
-    (rw (f, le-ltb (lengthAt (drop at p)) 5 (omega arith)), l)
+begins : (c : tie.Else3) → (let a = c .before .before .before .before .before .before .args in
+    (stopsAt (drop (a .at) (a .page .now)) ≡ false) × (lengthAt (drop (a .at) (a .page .now)) ≡ c .before .byte-at .result))
+begins c =
+    let a = c .before .before .before .before .before .before .args in
+    let q = drop (a .at) (a .page .now) in
+    let l : lengthAt q ≡ c .before .byte-at .result = getD-drop (a .at) (a .page .now) 2 0 ∙ sym (c .before .byte-at .ensures) in
+    let e = sym (c .before .before .before .is-end .ensures) ∙ c .before .before .if2 .left in
+    (rw (e, le-ltb (lengthAt q) 5 (omega arith)), l)
 
 returns : tie.Need-returns
 returns c =
@@ -62,7 +65,7 @@ returns-4 : tie.Need-returns-4
 returns-4 c =
     let a = c .before .before .before .before .before .before .before .args in
     let q = drop (a .at) (a .page .now) in
-    let h = here (a .page .now) (a .at) (c .before .before .byte-at .result) (c .before .before .byte-at .ensures) (c .before .if3 .left) (sym (c .before .before .before .before .is-end .ensures) ∙ c .before .before .before .if2 .left) in
+    let h = begins (c .before) in
     let l = length-drop (a .at) (a .page .now) in
     sym (size-cut q (h .0) (omega (arith, h .1)) ∙ ap (λ (n : ℕ). n + 1) l)
 
@@ -70,7 +73,7 @@ returns-5 : tie.Need-returns-5
 returns-5 c =
     let a = c .before .before .before .before .before .before .before .args in
     let q = drop (a .at) (a .page .now) in
-    let h = here (a .page .now) (a .at) (c .before .before .byte-at .result) (c .before .before .byte-at .ensures) (c .before .if3 .left) (sym (c .before .before .before .before .is-end .ensures) ∙ c .before .before .before .if2 .left) in
+    let h = begins (c .before) in
     let l = length-drop (a .at) (a .page .now) in
     sym (size-whole q (h .0) (omega (arith, h .1)) ∙ h .1)
 

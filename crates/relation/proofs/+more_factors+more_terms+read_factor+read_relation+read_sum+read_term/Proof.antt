@@ -8,389 +8,288 @@ use Rattle.nibl.specs.Read.{read, factor, term, factors, terms}
 use Rattle.nibl.proofs.Sound.{read-factors, read-terms}
 use Rattle.relation.specs.Makes.{ahead, JointIs, LeadIs, AtomIs}
 use Rattle.relation.proofs.Signs.{stood-over}
-use Rattle.relation.proofs.States.{more-need, key-low, key-few, written-ahead, written-need, filled-need}
+use Rattle.relation.proofs.States.{over-few, over-filled, reads-filled, key-low, key-few, key-filled, written-ahead, written-need}
 use Rattle.relation.proofs.Ways.{join-on, join-end, term-is, relation-on, relation-end, sum-plain, sum-minus, factor-none, factor-whole, factor-prefix, factor-bracket, factor-pair, over-whole, over-prefix, over-bracket, over-pair}
 use borrow.Fn.Kinds.{In}
 use borrow.Fn.PlainCycle.{Measures, is, falls, and}
 use Rattle.relation.proofs.more_factors.Reads as more-factors
-use Rattle.relation.proofs.more_factors.Kinds as more-factors-kinds
 use Rattle.relation.proofs.+more_factors+more_terms+read_factor+read_relation+read_sum+read_term.Lts-more_factors as more-factors-lts
 use Rattle.relation.proofs.more_terms.Reads as more-terms
-use Rattle.relation.proofs.more_terms.Kinds as more-terms-kinds
 use Rattle.relation.proofs.+more_factors+more_terms+read_factor+read_relation+read_sum+read_term.Lts-more_terms as more-terms-lts
 use Rattle.relation.proofs.read_factor.Reads as read-factor
-use Rattle.relation.proofs.read_factor.Kinds as read-factor-kinds
+use Rattle.relation.proofs.read_factor.Kinds as kinds
 use Rattle.relation.proofs.+more_factors+more_terms+read_factor+read_relation+read_sum+read_term.Lts-read_factor as read-factor-lts
 use Rattle.relation.proofs.read_relation.Reads as read-relation
-use Rattle.relation.proofs.read_relation.Kinds as read-relation-kinds
 use Rattle.relation.proofs.+more_factors+more_terms+read_factor+read_relation+read_sum+read_term.Lts-read_relation as read-relation-lts
 use Rattle.relation.proofs.read_sum.Reads as read-sum
-use Rattle.relation.proofs.read_sum.Kinds as read-sum-kinds
 use Rattle.relation.proofs.+more_factors+more_terms+read_factor+read_relation+read_sum+read_term.Lts-read_sum as read-sum-lts
 use Rattle.relation.proofs.read_term.Reads as read-term
-use Rattle.relation.proofs.read_term.Kinds as read-term-kinds
 use Rattle.relation.proofs.+more_factors+more_terms+read_factor+read_relation+read_sum+read_term.Lts-read_term as read-term-lts
 use Rattle.relation.proofs.atom_at.Reads as atom-at-reads
 use Rattle.relation.proofs.joint_at.Reads as joint-at-reads
 use Rattle.relation.proofs.lead_at.Reads as lead-at-reads
 use Rattle.relation.proofs.past_sign.Reads as past-sign-reads
 use Rattle.relation.proofs.write.Reads as write-reads
-use Rattle.relation.proofs.+more_factors+more_terms+read_factor+read_relation+read_sum+read_term.{
-  statement,
-}
-use Rattle.relation.proofs.+more_factors+more_terms+read_factor+read_relation+read_sum+read_term.Tie.{
-  close,
-}
+use Rattle.relation.proofs.+more_factors+more_terms+read_factor+read_relation+read_sum+read_term.{statement}
+use Rattle.relation.proofs.+more_factors+more_terms+read_factor+read_relation+read_sum+read_term.Tie.{close}
 
-abbrev μ-more-factors : Measures 2 more-factors-kinds.ps ℕ
-μ-more-factors κs a = 4 * ahead (a .0 .now) (a .1 .0)
+-- the readers differ in rank alone
+abbrev μ : ℕ → Measures 2 kinds.ps ℕ
+μ rank κs a = 4 * ahead (a .0 .now) (a .1 .0) + rank
 
-abbrev μ-more-terms : Measures 2 more-terms-kinds.ps ℕ
-μ-more-terms κs a = 4 * ahead (a .0 .now) (a .1 .0)
+abbrev at : ℕ → In 2 kinds.ps → ℕ → In 2 kinds.ps
+at rank pre t = and 2 kinds.ps (is 2 kinds.ps (μ rank) t) pre
 
-abbrev μ-read-factor : Measures 2 read-factor-kinds.ps ℕ
-μ-read-factor κs a = 4 * ahead (a .0 .now) (a .1 .0)
-
-abbrev μ-read-relation : Measures 2 read-relation-kinds.ps ℕ
-μ-read-relation κs a = 4 * ahead (a .0 .now) (a .1 .0) + 3
-
-abbrev μ-read-sum : Measures 2 read-sum-kinds.ps ℕ
-μ-read-sum κs a = 4 * ahead (a .0 .now) (a .1 .0) + 2
-
-abbrev μ-read-term : Measures 2 read-term-kinds.ps ℕ
-μ-read-term κs a = 4 * ahead (a .0 .now) (a .1 .0) + 1
-
-abbrev more-factors-at : ℕ → In 2 more-factors-kinds.ps
-more-factors-at t =
-    and 2 more-factors-kinds.ps (is 2 more-factors-kinds.ps μ-more-factors t) more-factors.Pre
-
-abbrev more-factors-below : ℕ → In 2 more-factors-kinds.ps
-more-factors-below t =
-    and
-    2
-    more-factors-kinds.ps
-    (falls 2 more-factors-kinds.ps _<_ μ-more-factors t)
-    more-factors.Pre
-
-abbrev more-terms-at : ℕ → In 2 more-terms-kinds.ps
-more-terms-at t =
-    and 2 more-terms-kinds.ps (is 2 more-terms-kinds.ps μ-more-terms t) more-terms.Pre
-
-abbrev more-terms-below : ℕ → In 2 more-terms-kinds.ps
-more-terms-below t =
-    and 2 more-terms-kinds.ps (falls 2 more-terms-kinds.ps _<_ μ-more-terms t) more-terms.Pre
-
-abbrev read-factor-at : ℕ → In 2 read-factor-kinds.ps
-read-factor-at t =
-    and 2 read-factor-kinds.ps (is 2 read-factor-kinds.ps μ-read-factor t) read-factor.Pre
-
-abbrev read-factor-below : ℕ → In 2 read-factor-kinds.ps
-read-factor-below t =
-    and 2 read-factor-kinds.ps (falls 2 read-factor-kinds.ps _<_ μ-read-factor t) read-factor.Pre
-
-abbrev read-relation-at : ℕ → In 2 read-relation-kinds.ps
-read-relation-at t =
-    and 2 read-relation-kinds.ps (is 2 read-relation-kinds.ps μ-read-relation t) read-relation.Pre
-
-abbrev read-relation-below : ℕ → In 2 read-relation-kinds.ps
-read-relation-below t =
-    and
-    2
-    read-relation-kinds.ps
-    (falls 2 read-relation-kinds.ps _<_ μ-read-relation t)
-    read-relation.Pre
-
-abbrev read-sum-at : ℕ → In 2 read-sum-kinds.ps
-read-sum-at t = and 2 read-sum-kinds.ps (is 2 read-sum-kinds.ps μ-read-sum t) read-sum.Pre
-
-abbrev read-sum-below : ℕ → In 2 read-sum-kinds.ps
-read-sum-below t =
-    and 2 read-sum-kinds.ps (falls 2 read-sum-kinds.ps _<_ μ-read-sum t) read-sum.Pre
-
-abbrev read-term-at : ℕ → In 2 read-term-kinds.ps
-read-term-at t = and 2 read-term-kinds.ps (is 2 read-term-kinds.ps μ-read-term t) read-term.Pre
-
-abbrev read-term-below : ℕ → In 2 read-term-kinds.ps
-read-term-below t =
-    and 2 read-term-kinds.ps (falls 2 read-term-kinds.ps _<_ μ-read-term t) read-term.Pre
+abbrev below : ℕ → In 2 kinds.ps → ℕ → In 2 kinds.ps
+below rank pre t = and 2 kinds.ps (falls 2 kinds.ps _<_ (μ rank) t) pre
 
 abbrev claims-more-factors : ℕ → more-factors-lts.Claims
-claims-more-factors t = (joint-at-reads.Asked, joint-at-reads.Learnt, read-factor-below t, read-factor.Post, write-reads.Asked, write-reads.Learnt, more-factors-below t, more-factors.Post)
+claims-more-factors t = (joint-at-reads.Asked, joint-at-reads.Learnt, below 0 read-factor.Pre t, read-factor.Post, write-reads.Asked, write-reads.Learnt, below 0 more-factors.Pre t, more-factors.Post)
 
 abbrev claims-more-terms : ℕ → more-terms-lts.Claims
-claims-more-terms t = (joint-at-reads.Asked, joint-at-reads.Learnt, read-term-below t, read-term.Post, write-reads.Asked, write-reads.Learnt, more-terms-below t, more-terms.Post)
+claims-more-terms t = (joint-at-reads.Asked, joint-at-reads.Learnt, below 1 read-term.Pre t, read-term.Post, write-reads.Asked, write-reads.Learnt, below 0 more-terms.Pre t, more-terms.Post)
 
 abbrev claims-read-factor : ℕ → read-factor-lts.Claims
-claims-read-factor t = (atom-at-reads.Asked, atom-at-reads.Learnt, write-reads.Asked, write-reads.Learnt, read-factor-below t, read-factor.Post, read-relation-below t, read-relation.Post, past-sign-reads.Asked, past-sign-reads.Learnt)
+claims-read-factor t = (atom-at-reads.Asked, atom-at-reads.Learnt, write-reads.Asked, write-reads.Learnt, below 0 read-factor.Pre t, read-factor.Post, below 3 read-relation.Pre t, read-relation.Post, past-sign-reads.Asked, past-sign-reads.Learnt)
 
 abbrev claims-read-relation : ℕ → read-relation-lts.Claims
-claims-read-relation t = (read-sum-below t, read-sum.Post, joint-at-reads.Asked, joint-at-reads.Learnt, write-reads.Asked, write-reads.Learnt)
+claims-read-relation t = (below 2 read-sum.Pre t, read-sum.Post, joint-at-reads.Asked, joint-at-reads.Learnt, write-reads.Asked, write-reads.Learnt)
 
 abbrev claims-read-sum : ℕ → read-sum-lts.Claims
-claims-read-sum t = (lead-at-reads.Asked, lead-at-reads.Learnt, read-term-below t, read-term.Post, write-reads.Asked, write-reads.Learnt, more-terms-below t, more-terms.Post)
+claims-read-sum t = (lead-at-reads.Asked, lead-at-reads.Learnt, below 1 read-term.Pre t, read-term.Post, write-reads.Asked, write-reads.Learnt, below 0 more-terms.Pre t, more-terms.Post)
 
 abbrev claims-read-term : ℕ → read-term-lts.Claims
-claims-read-term t = (read-factor-below t, read-factor.Post, more-factors-below t, more-factors.Post)
+claims-read-term t = (below 0 read-factor.Pre t, read-factor.Post, below 0 more-factors.Pre t, more-factors.Post)
 
-more-factors-read-factor-requires : (t : ℕ) → more-factors-lts.Need-read-factor-requires (claims-more-factors t) (more-factors-at t) more-factors.Post
+more-factors-read-factor-requires : (t : ℕ) → more-factors-lts.Need-read-factor-requires (claims-more-factors t) (at 0 more-factors.Pre t) more-factors.Post
 more-factors-read-factor-requires t c κs =
     let h = c .before .before .before .before .before .before .before .pre in
-    let g = c .before .before .before .before .before .before .before .good in
     let j = subst (JointIs factorJoints _ _) (c .before .before .j .given .1) (c .before .before .before .before .joint-at .ensures) in
     let o = stood-over (j .next) in
-    omega (arith, o .spare 0, more-need 0 (c .before .before .before .before .before .before .before .args .text .now) (c .before .before .j .given .0 .1 .0))
+    omega (arith, over-few o 0)
 
-more-factors-write-requires : (t : ℕ) → more-factors-lts.Need-write-requires (claims-more-factors t) (more-factors-at t) more-factors.Post
+more-factors-write-requires : (t : ℕ) → more-factors-lts.Need-write-requires (claims-more-factors t) (at 0 more-factors.Pre t) more-factors.Post
 more-factors-write-requires t c κs =
     let h = c .before .before .before .before .before .before .before .before .before .before .before .pre in
-    let g = c .before .before .before .before .before .before .before .before .before .before .before .good in
     let j = subst (JointIs factorJoints _ _) (c .before .before .before .before .before .before .j .given .1) (c .before .before .before .before .before .before .before .before .joint-at .ensures) in
     let o = stood-over (j .next) in
-    let y = c .before .before .before .read-factor .ensures in
-    omega (arith, o .spare 0, y .few 1, filled-need (c .before .before .before .before .before .before .before .before .before .before .before .args .text .now) (c .before .before .before .read-factor .result), c .before .before .before .read-factor .kept .1 .1 .0)
+    omega (arith, o .spare 0, reads-filled (c .before .before .before .read-factor .ensures), c .before .before .before .read-factor .kept .1 .1 .0)
 
-more-factors-more-factors-requires : (t : ℕ) → more-factors-lts.Need-more-factors-requires (claims-more-factors t) (more-factors-at t) more-factors.Post
+more-factors-more-factors-requires : (t : ℕ) → more-factors-lts.Need-more-factors-requires (claims-more-factors t) (at 0 more-factors.Pre t) more-factors.Post
 more-factors-more-factors-requires t c κs =
     let h = c .before .before .before .before .before .before .before .before .before .before .before .before .before .before .before .pre in
-    let g = c .before .before .before .before .before .before .before .before .before .before .before .before .before .before .before .good in
     let j = subst (JointIs factorJoints _ _) (c .before .before .before .before .before .before .before .before .before .before .j .given .1) (c .before .before .before .before .before .before .before .before .before .before .before .before .joint-at .ensures) in
     let o = stood-over (j .next) in
     let y = c .before .before .before .before .before .before .before .read-factor .ensures in
     let w = c .before .before .before .write .ensures in
     omega (arith, o .spare 0, y .few 1, written-ahead w (c .before .before .before .before .before .before .before .before .before .before .before .before .before .before .before .args .text .now), written-need w (c .before .before .before .before .before .before .before .before .before .before .before .before .before .before .before .args .text .now) 0, c .before .before .before .before .before .before .before .read-factor .kept .1 .1 .0, c .before .before .before .write .kept .0)
 
-more-factors-returns : (t : ℕ) → more-factors-lts.Need-returns (claims-more-factors t) (more-factors-at t) more-factors.Post
+more-factors-returns : (t : ℕ) → more-factors-lts.Need-returns (claims-more-factors t) (at 0 more-factors.Pre t) more-factors.Post
 more-factors-returns t c =
     let j = subst (JointIs factorJoints _ _) (c .before .before .before .before .before .before .before .before .before .before .before .before .before .j .given .1) (c .before .before .before .before .before .before .before .before .before .before .before .before .before .before .before .joint-at .ensures) in
     join-on factorJoints factor (λ a. read (factors a)) (λ a. read (factors a)) read-factors j (c .before .before .before .before .before .before .before .before .before .before .read-factor .ensures) (c .before .before .before .before .before .before .write .ensures) (c .before .before .more-factors .ensures)
 
-more-factors-returns-2 : (t : ℕ) → more-factors-lts.Need-returns-2 (claims-more-factors t) (more-factors-at t) more-factors.Post
+more-factors-returns-2 : (t : ℕ) → more-factors-lts.Need-returns-2 (claims-more-factors t) (at 0 more-factors.Pre t) more-factors.Post
 more-factors-returns-2 t c =
     join-end factorJoints factor (λ a. read (factors a)) (λ a. read (factors a)) read-factors (subst (JointIs factorJoints _ _) (c .enum-told .given .1) (c .before .before .joint-at .ensures))
 
-more-terms-read-term-requires : (t : ℕ) → more-terms-lts.Need-read-term-requires (claims-more-terms t) (more-terms-at t) more-terms.Post
+more-terms-read-term-requires : (t : ℕ) → more-terms-lts.Need-read-term-requires (claims-more-terms t) (at 0 more-terms.Pre t) more-terms.Post
 more-terms-read-term-requires t c κs =
     let h = c .before .before .before .before .before .before .before .pre in
-    let g = c .before .before .before .before .before .before .before .good in
     let j = subst (JointIs termJoints _ _) (c .before .before .j .given .1) (c .before .before .before .before .joint-at .ensures) in
     let o = stood-over (j .next) in
-    omega (arith, o .spare 0, more-need 0 (c .before .before .before .before .before .before .before .args .text .now) (c .before .before .j .given .0 .1 .0))
+    omega (arith, over-few o 0)
 
-more-terms-write-requires : (t : ℕ) → more-terms-lts.Need-write-requires (claims-more-terms t) (more-terms-at t) more-terms.Post
+more-terms-write-requires : (t : ℕ) → more-terms-lts.Need-write-requires (claims-more-terms t) (at 0 more-terms.Pre t) more-terms.Post
 more-terms-write-requires t c κs =
     let h = c .before .before .before .before .before .before .before .before .before .before .before .pre in
-    let g = c .before .before .before .before .before .before .before .before .before .before .before .good in
     let j = subst (JointIs termJoints _ _) (c .before .before .before .before .before .before .j .given .1) (c .before .before .before .before .before .before .before .before .joint-at .ensures) in
     let o = stood-over (j .next) in
-    let y = c .before .before .before .read-term .ensures in
-    omega (arith, o .spare 0, y .few 1, filled-need (c .before .before .before .before .before .before .before .before .before .before .before .args .text .now) (c .before .before .before .read-term .result), c .before .before .before .read-term .kept .1 .1 .0)
+    omega (arith, o .spare 0, reads-filled (c .before .before .before .read-term .ensures), c .before .before .before .read-term .kept .1 .1 .0)
 
-more-terms-more-terms-requires : (t : ℕ) → more-terms-lts.Need-more-terms-requires (claims-more-terms t) (more-terms-at t) more-terms.Post
+more-terms-more-terms-requires : (t : ℕ) → more-terms-lts.Need-more-terms-requires (claims-more-terms t) (at 0 more-terms.Pre t) more-terms.Post
 more-terms-more-terms-requires t c κs =
     let h = c .before .before .before .before .before .before .before .before .before .before .before .before .before .before .before .pre in
-    let g = c .before .before .before .before .before .before .before .before .before .before .before .before .before .before .before .good in
     let j = subst (JointIs termJoints _ _) (c .before .before .before .before .before .before .before .before .before .before .j .given .1) (c .before .before .before .before .before .before .before .before .before .before .before .before .joint-at .ensures) in
     let o = stood-over (j .next) in
     let y = c .before .before .before .before .before .before .before .read-term .ensures in
     let w = c .before .before .before .write .ensures in
     omega (arith, o .spare 0, y .few 1, written-ahead w (c .before .before .before .before .before .before .before .before .before .before .before .before .before .before .before .args .text .now), written-need w (c .before .before .before .before .before .before .before .before .before .before .before .before .before .before .before .args .text .now) 0, c .before .before .before .before .before .before .before .read-term .kept .1 .1 .0, c .before .before .before .write .kept .0)
 
-more-terms-returns : (t : ℕ) → more-terms-lts.Need-returns (claims-more-terms t) (more-terms-at t) more-terms.Post
+more-terms-returns : (t : ℕ) → more-terms-lts.Need-returns (claims-more-terms t) (at 0 more-terms.Pre t) more-terms.Post
 more-terms-returns t c =
     let j = subst (JointIs termJoints _ _) (c .before .before .before .before .before .before .before .before .before .before .before .before .before .j .given .1) (c .before .before .before .before .before .before .before .before .before .before .before .before .before .before .before .joint-at .ensures) in
     join-on termJoints term (λ a. read (terms a)) (λ a. read (terms a)) read-terms j (c .before .before .before .before .before .before .before .before .before .before .read-term .ensures) (c .before .before .before .before .before .before .write .ensures) (c .before .before .more-terms .ensures)
 
-more-terms-returns-2 : (t : ℕ) → more-terms-lts.Need-returns-2 (claims-more-terms t) (more-terms-at t) more-terms.Post
+more-terms-returns-2 : (t : ℕ) → more-terms-lts.Need-returns-2 (claims-more-terms t) (at 0 more-terms.Pre t) more-terms.Post
 more-terms-returns-2 t c =
     join-end termJoints term (λ a. read (terms a)) (λ a. read (terms a)) read-terms (subst (JointIs termJoints _ _) (c .enum-told .given .1) (c .before .before .joint-at .ensures))
 
-read-factor-write-requires : (t : ℕ) → read-factor-lts.Need-write-requires (claims-read-factor t) (read-factor-at t) read-factor.Post
+read-factor-write-requires : (t : ℕ) → read-factor-lts.Need-write-requires (claims-read-factor t) (at 0 read-factor.Pre t) read-factor.Post
 read-factor-write-requires t c κs =
     let h = c .before .before .before .before .before .before .before .pre in
-    let g = c .before .before .before .before .before .before .before .good in
     let a = subst (AtomIs _ _) (c .before .before .a .given .1) (c .before .before .before .before .atom-at .ensures) in
-    let o = over-whole a in
-    omega (arith, o .spare 0, filled-need (c .before .before .before .before .before .before .before .args .text .now) (c .before .before .a .given .0 .1 .0))
+    omega (arith, over-filled (over-whole a))
 
-read-factor-read-factor-requires : (t : ℕ) → read-factor-lts.Need-read-factor-requires (claims-read-factor t) (read-factor-at t) read-factor.Post
+read-factor-read-factor-requires : (t : ℕ) → read-factor-lts.Need-read-factor-requires (claims-read-factor t) (at 0 read-factor.Pre t) read-factor.Post
 read-factor-read-factor-requires t c κs =
     let h = c .before .before .before .before .before .before .before .pre in
-    let g = c .before .before .before .before .before .before .before .good in
     let a = subst (AtomIs _ _) (c .before .before .a2 .given .1) (c .before .before .before .before .atom-at .ensures) in
     let o = over-prefix a in
-    omega (arith, o .spare 0, more-need 0 (c .before .before .before .before .before .before .before .args .text .now) (c .before .before .a2 .given .0 .1 .0))
+    omega (arith, over-few o 0)
 
-read-factor-write-requires-2 : (t : ℕ) → read-factor-lts.Need-write-requires-2 (claims-read-factor t) (read-factor-at t) read-factor.Post
+read-factor-write-requires-2 : (t : ℕ) → read-factor-lts.Need-write-requires-2 (claims-read-factor t) (at 0 read-factor.Pre t) read-factor.Post
 read-factor-write-requires-2 t c κs =
     let h = c .before .before .before .before .before .before .before .before .before .before .before .pre in
-    let g = c .before .before .before .before .before .before .before .before .before .before .before .good in
     let a = subst (AtomIs _ _) (c .before .before .before .before .before .before .a2 .given .1) (c .before .before .before .before .before .before .before .before .atom-at .ensures) in
     let o = over-prefix a in
-    let y = c .before .before .before .read-factor .ensures in
-    omega (arith, o .spare 0, y .few 1, filled-need (c .before .before .before .before .before .before .before .before .before .before .before .args .text .now) (c .before .before .before .read-factor .result), c .before .before .before .read-factor .kept .1 .1 .0)
+    omega (arith, o .spare 0, reads-filled (c .before .before .before .read-factor .ensures), c .before .before .before .read-factor .kept .1 .1 .0)
 
-read-factor-read-relation-requires : (t : ℕ) → read-factor-lts.Need-read-relation-requires (claims-read-factor t) (read-factor-at t) read-factor.Post
+read-factor-read-relation-requires : (t : ℕ) → read-factor-lts.Need-read-relation-requires (claims-read-factor t) (at 0 read-factor.Pre t) read-factor.Post
 read-factor-read-relation-requires t c κs =
     let h = c .before .before .before .before .before .before .before .pre in
-    let g = c .before .before .before .before .before .before .before .good in
     let a = subst (AtomIs _ _) (c .before .before .a3 .given .1) (c .before .before .before .before .atom-at .ensures) in
     let o = over-bracket a in
-    omega (arith, o .spare 0, more-need 0 (c .before .before .before .before .before .before .before .args .text .now) (c .before .before .a3 .given .0 .0))
+    omega (arith, over-few o 0)
 
-read-factor-read-relation-requires-2 : (t : ℕ) → read-factor-lts.Need-read-relation-requires-2 (claims-read-factor t) (read-factor-at t) read-factor.Post
+read-factor-read-relation-requires-2 : (t : ℕ) → read-factor-lts.Need-read-relation-requires-2 (claims-read-factor t) (at 0 read-factor.Pre t) read-factor.Post
 read-factor-read-relation-requires-2 t c κs =
     let h = c .before .before .before .before .before .before .before .before .pre in
-    let g = c .before .before .before .before .before .before .before .before .good in
     let a = subst (AtomIs _ _) (c .before .before .before .a4 .given .1) (c .before .before .before .before .before .atom-at .ensures) in
     let o = over-pair a in
-    let k = c .before .past-sign2 .ensures in
-    omega (arith, o .spare 0, more-need 0 (c .before .before .before .before .before .before .before .before .args .text .now) (c .before .before .before .a4 .given .0 .0), key-low k, key-few k 0)
+    let i = c .before .past-sign2 .ensures in
+    omega (arith, over-few o 0, key-low i, key-few i 0)
 
-read-factor-read-relation-requires-3 : (t : ℕ) → read-factor-lts.Need-read-relation-requires-3 (claims-read-factor t) (read-factor-at t) read-factor.Post
+read-factor-read-relation-requires-3 : (t : ℕ) → read-factor-lts.Need-read-relation-requires-3 (claims-read-factor t) (at 0 read-factor.Pre t) read-factor.Post
 read-factor-read-relation-requires-3 t c κs =
     let h = c .before .before .before .before .before .before .before .before .before .before .before .before .before .pre in
-    let g = c .before .before .before .before .before .before .before .before .before .before .before .before .before .good in
     let a = subst (AtomIs _ _) (c .before .before .before .before .before .before .before .before .a4 .given .1) (c .before .before .before .before .before .before .before .before .before .before .atom-at .ensures) in
     let o = over-pair a in
-    let k = c .before .before .before .before .before .before .past-sign2 .ensures in
+    let i = c .before .before .before .before .before .before .past-sign2 .ensures in
     let y = c .before .before .before .before .read-relation2 .ensures in
     let j = c .before .past-sign3 .ensures in
-    omega (arith, o .spare 0, more-need 0 (c .before .before .before .before .before .before .before .before .before .before .before .before .before .args .text .now) (c .before .before .before .before .before .before .before .before .a4 .given .0 .0), key-low k, key-few k 0, y .few 0, key-low j, key-few j 0, c .before .before .before .before .read-relation2 .kept .1 .1 .0)
+    omega (arith, over-few o 0, key-low i, key-few i 0, y .few 0, key-low j, key-few j 0, c .before .before .before .before .read-relation2 .kept .1 .1 .0)
 
-read-factor-write-requires-3 : (t : ℕ) → read-factor-lts.Need-write-requires-3 (claims-read-factor t) (read-factor-at t) read-factor.Post
+read-factor-write-requires-3 : (t : ℕ) → read-factor-lts.Need-write-requires-3 (claims-read-factor t) (at 0 read-factor.Pre t) read-factor.Post
 read-factor-write-requires-3 t c κs =
     let h = c .before .before .before .before .before .before .before .before .before .before .before .before .before .before .before .before .before .before .pre in
-    let g = c .before .before .before .before .before .before .before .before .before .before .before .before .before .before .before .before .before .before .good in
     let a = subst (AtomIs _ _) (c .before .before .before .before .before .before .before .before .before .before .before .before .before .a4 .given .1) (c .before .before .before .before .before .before .before .before .before .before .before .before .before .before .before .atom-at .ensures) in
     let o = over-pair a in
-    let k = c .before .before .before .before .before .before .before .before .before .before .before .past-sign2 .ensures in
+    let i = c .before .before .before .before .before .before .before .before .before .before .before .past-sign2 .ensures in
     let y = c .before .before .before .before .before .before .before .before .before .read-relation2 .ensures in
     let j = c .before .before .before .before .before .before .past-sign3 .ensures in
     let z = c .before .before .before .before .read-relation3 .ensures in
-    let i = c .before .past-sign4 .ensures in
-    omega (arith, o .spare 0, key-few k 1, y .few 1, key-few j 1, z .few 1, key-few i 1, filled-need (c .before .before .before .before .before .before .before .before .before .before .before .before .before .before .before .before .before .before .args .text .now) (c .before .past-sign4 .result), c .before .before .before .before .before .before .before .before .before .read-relation2 .kept .1 .1 .0, c .before .before .before .before .read-relation3 .kept .1 .1 .0)
+    omega (arith, over-few o 0, key-few i 0, y .few 0, key-few j 0, z .few 0, key-filled (c .before .past-sign4 .ensures), c .before .before .before .before .before .before .before .before .before .read-relation2 .kept .1 .1 .0, c .before .before .before .before .read-relation3 .kept .1 .1 .0)
 
-read-factor-returns : (t : ℕ) → read-factor-lts.Need-returns (claims-read-factor t) (read-factor-at t) read-factor.Post
+read-factor-returns : (t : ℕ) → read-factor-lts.Need-returns (claims-read-factor t) (at 0 read-factor.Pre t) read-factor.Post
 read-factor-returns t c =
     let a = subst (AtomIs _ _) (c .before .before .before .before .before .a .given .1) (c .before .before .before .before .before .before .before .atom-at .ensures) in
     factor-whole a (c .before .before .write .ensures)
 
-read-factor-returns-2 : (t : ℕ) → read-factor-lts.Need-returns-2 (claims-read-factor t) (read-factor-at t) read-factor.Post
+read-factor-returns-2 : (t : ℕ) → read-factor-lts.Need-returns-2 (claims-read-factor t) (at 0 read-factor.Pre t) read-factor.Post
 read-factor-returns-2 t c =
     let a = subst (AtomIs _ _) (c .before .before .before .before .before .before .before .before .before .a2 .given .1) (c .before .before .before .before .before .before .before .before .before .before .before .atom-at .ensures) in
     factor-prefix a (c .before .before .before .before .before .before .read-factor .ensures) (c .before .before .write2 .ensures)
 
-read-factor-returns-3 : (t : ℕ) → read-factor-lts.Need-returns-3 (claims-read-factor t) (read-factor-at t) read-factor.Post
+read-factor-returns-3 : (t : ℕ) → read-factor-lts.Need-returns-3 (claims-read-factor t) (at 0 read-factor.Pre t) read-factor.Post
 read-factor-returns-3 t c =
     let a = subst (AtomIs _ _) (c .before .before .before .before .before .before .a3 .given .1) (c .before .before .before .before .before .before .before .before .atom-at .ensures) in
     factor-bracket a (c .before .before .before .read-relation .ensures) (c .past-sign .ensures)
 
-read-factor-returns-4 : (t : ℕ) → read-factor-lts.Need-returns-4 (claims-read-factor t) (read-factor-at t) read-factor.Post
+read-factor-returns-4 : (t : ℕ) → read-factor-lts.Need-returns-4 (claims-read-factor t) (at 0 read-factor.Pre t) read-factor.Post
 read-factor-returns-4 t c =
     let a = subst (AtomIs _ _) (c .before .before .before .before .before .before .before .before .before .before .before .before .before .before .before .before .a4 .given .1) (c .before .before .before .before .before .before .before .before .before .before .before .before .before .before .before .before .before .before .atom-at .ensures) in
     factor-pair a (c .before .before .before .before .before .before .before .before .before .before .before .before .before .before .past-sign2 .ensures) (c .before .before .before .before .before .before .before .before .before .before .before .before .read-relation2 .ensures) (c .before .before .before .before .before .before .before .before .before .past-sign3 .ensures) (c .before .before .before .before .before .before .before .read-relation3 .ensures) (c .before .before .before .before .past-sign4 .ensures) (c .before .before .write3 .ensures)
 
-read-factor-returns-5 : (t : ℕ) → read-factor-lts.Need-returns-5 (claims-read-factor t) (read-factor-at t) read-factor.Post
+read-factor-returns-5 : (t : ℕ) → read-factor-lts.Need-returns-5 (claims-read-factor t) (at 0 read-factor.Pre t) read-factor.Post
 read-factor-returns-5 t c =
     factor-none (subst (AtomIs _ _) (c .enum-told .given .1) (c .before .before .atom-at .ensures))
 
-read-relation-read-sum-requires : (t : ℕ) → read-relation-lts.Need-read-sum-requires (claims-read-relation t) (read-relation-at t) read-relation.Post
+read-relation-read-sum-requires : (t : ℕ) → read-relation-lts.Need-read-sum-requires (claims-read-relation t) (at 3 read-relation.Pre t) read-relation.Post
 read-relation-read-sum-requires t c κs =
     let h = c .before .before .before .pre in
-    let g = c .before .before .before .good in
     omega arith
 
-read-relation-read-sum-requires-2 : (t : ℕ) → read-relation-lts.Need-read-sum-requires-2 (claims-read-relation t) (read-relation-at t) read-relation.Post
+read-relation-read-sum-requires-2 : (t : ℕ) → read-relation-lts.Need-read-sum-requires-2 (claims-read-relation t) (at 3 read-relation.Pre t) read-relation.Post
 read-relation-read-sum-requires-2 t c κs =
     let h = c .before .before .before .before .before .before .before .before .before .before .before .pre in
-    let g = c .before .before .before .before .before .before .before .before .before .before .before .good in
     let j = subst (JointIs sumJoints _ _) (c .before .before .j .given .1) (c .before .before .before .before .joint-at .ensures) in
     let o = stood-over (j .next) in
     let y = c .before .before .before .before .before .before .before .read-sum .ensures in
-    omega (arith, o .spare 0, more-need 0 (c .before .before .before .before .before .before .before .before .before .before .before .args .text .now) (c .before .before .j .given .0 .1 .0), y .few 0, c .before .before .before .before .before .before .before .read-sum .kept .1 .1 .0)
+    omega (arith, over-few o 0, y .few 0, c .before .before .before .before .before .before .before .read-sum .kept .1 .1 .0)
 
-read-relation-write-requires : (t : ℕ) → read-relation-lts.Need-write-requires (claims-read-relation t) (read-relation-at t) read-relation.Post
+read-relation-write-requires : (t : ℕ) → read-relation-lts.Need-write-requires (claims-read-relation t) (at 3 read-relation.Pre t) read-relation.Post
 read-relation-write-requires t c κs =
     let h = c .before .before .before .before .before .before .before .before .before .before .before .before .before .before .before .pre in
-    let g = c .before .before .before .before .before .before .before .before .before .before .before .before .before .before .before .good in
     let j = subst (JointIs sumJoints _ _) (c .before .before .before .before .before .before .j .given .1) (c .before .before .before .before .before .before .before .before .joint-at .ensures) in
     let o = stood-over (j .next) in
     let y = c .before .before .before .before .before .before .before .before .before .before .before .read-sum .ensures in
-    let z = c .before .before .before .read-sum2 .ensures in
-    omega (arith, o .spare 0, y .few 0, z .few 1, filled-need (c .before .before .before .before .before .before .before .before .before .before .before .before .before .before .before .args .text .now) (c .before .before .before .read-sum2 .result), c .before .before .before .before .before .before .before .before .before .before .before .read-sum .kept .1 .1 .0, c .before .before .before .read-sum2 .kept .1 .1 .0)
+    omega (arith, o .spare 0, y .few 0, reads-filled (c .before .before .before .read-sum2 .ensures), c .before .before .before .before .before .before .before .before .before .before .before .read-sum .kept .1 .1 .0, c .before .before .before .read-sum2 .kept .1 .1 .0)
 
-read-relation-returns : (t : ℕ) → read-relation-lts.Need-returns (claims-read-relation t) (read-relation-at t) read-relation.Post
+read-relation-returns : (t : ℕ) → read-relation-lts.Need-returns (claims-read-relation t) (at 3 read-relation.Pre t) read-relation.Post
 read-relation-returns t c =
     let j = subst (JointIs sumJoints _ _) (c .before .before .before .before .before .before .before .before .before .j .given .1) (c .before .before .before .before .before .before .before .before .before .before .before .joint-at .ensures) in
     relation-on (c .before .before .before .before .before .before .before .before .before .before .before .before .before .before .read-sum .ensures) j (c .before .before .before .before .before .before .read-sum2 .ensures) (c .before .before .write .ensures)
 
-read-relation-returns-2 : (t : ℕ) → read-relation-lts.Need-returns-2 (claims-read-relation t) (read-relation-at t) read-relation.Post
+read-relation-returns-2 : (t : ℕ) → read-relation-lts.Need-returns-2 (claims-read-relation t) (at 3 read-relation.Pre t) read-relation.Post
 read-relation-returns-2 t c =
     relation-end (c .before .before .before .before .before .read-sum .ensures) (subst (JointIs sumJoints _ _) (c .enum-told .given .1) (c .before .before .joint-at .ensures))
 
-read-sum-read-term-requires : (t : ℕ) → read-sum-lts.Need-read-term-requires (claims-read-sum t) (read-sum-at t) read-sum.Post
+read-sum-read-term-requires : (t : ℕ) → read-sum-lts.Need-read-term-requires (claims-read-sum t) (at 2 read-sum.Pre t) read-sum.Post
 read-sum-read-term-requires t c κs =
     let h = c .before .before .before .before .before .before .before .pre in
-    let g = c .before .before .before .before .before .before .before .good in
     let l = subst (LeadIs _ _) (c .before .before .l .given .1) (c .before .before .before .before .lead-at .ensures) in
-    omega (arith, l .1 .spare 0, more-need 0 (c .before .before .before .before .before .before .before .args .text .now) (c .before .before .l .given .0 .0))
+    omega (arith, over-few (l .1) 0)
 
-read-sum-write-requires : (t : ℕ) → read-sum-lts.Need-write-requires (claims-read-sum t) (read-sum-at t) read-sum.Post
+read-sum-write-requires : (t : ℕ) → read-sum-lts.Need-write-requires (claims-read-sum t) (at 2 read-sum.Pre t) read-sum.Post
 read-sum-write-requires t c κs =
     let h = c .before .before .before .before .before .before .before .before .before .before .before .pre in
-    let g = c .before .before .before .before .before .before .before .before .before .before .before .good in
     let l = subst (LeadIs _ _) (c .before .before .before .before .before .before .l .given .1) (c .before .before .before .before .before .before .before .before .lead-at .ensures) in
-    let y = c .before .before .before .read-term .ensures in
-    omega (arith, l .1 .spare 0, y .few 1, filled-need (c .before .before .before .before .before .before .before .before .before .before .before .args .text .now) (c .before .before .before .read-term .result), c .before .before .before .read-term .kept .1 .1 .0)
+    omega (arith, l .1 .spare 0, reads-filled (c .before .before .before .read-term .ensures), c .before .before .before .read-term .kept .1 .1 .0)
 
-read-sum-more-terms-requires : (t : ℕ) → read-sum-lts.Need-more-terms-requires (claims-read-sum t) (read-sum-at t) read-sum.Post
+read-sum-more-terms-requires : (t : ℕ) → read-sum-lts.Need-more-terms-requires (claims-read-sum t) (at 2 read-sum.Pre t) read-sum.Post
 read-sum-more-terms-requires t c κs =
     let h = c .before .before .before .before .before .before .before .before .before .before .before .before .before .before .before .pre in
-    let g = c .before .before .before .before .before .before .before .before .before .before .before .before .before .before .before .good in
     let l = subst (LeadIs _ _) (c .before .before .before .before .before .before .before .before .before .before .l .given .1) (c .before .before .before .before .before .before .before .before .before .before .before .before .lead-at .ensures) in
     let y = c .before .before .before .before .before .before .before .read-term .ensures in
     let w = c .before .before .before .write .ensures in
     omega (arith, l .1 .spare 0, y .few 1, written-ahead w (c .before .before .before .before .before .before .before .before .before .before .before .before .before .before .before .args .text .now), written-need w (c .before .before .before .before .before .before .before .before .before .before .before .before .before .before .before .args .text .now) 0, c .before .before .before .before .before .before .before .read-term .kept .1 .1 .0, c .before .before .before .write .kept .0)
 
-read-sum-read-term-requires-2 : (t : ℕ) → read-sum-lts.Need-read-term-requires-2 (claims-read-sum t) (read-sum-at t) read-sum.Post
+read-sum-read-term-requires-2 : (t : ℕ) → read-sum-lts.Need-read-term-requires-2 (claims-read-sum t) (at 2 read-sum.Pre t) read-sum.Post
 read-sum-read-term-requires-2 t c κs =
     let h = c .before .before .before .before .before .before .before .pre in
-    let g = c .before .before .before .before .before .before .before .good in
     let l = subst (LeadIs _ _) (c .before .before .l2 .given .1) (c .before .before .before .before .lead-at .ensures) in
     omega (arith, l .2 0)
 
-read-sum-more-terms-requires-2 : (t : ℕ) → read-sum-lts.Need-more-terms-requires-2 (claims-read-sum t) (read-sum-at t) read-sum.Post
+read-sum-more-terms-requires-2 : (t : ℕ) → read-sum-lts.Need-more-terms-requires-2 (claims-read-sum t) (at 2 read-sum.Pre t) read-sum.Post
 read-sum-more-terms-requires-2 t c κs =
     let h = c .before .before .before .before .before .before .before .before .before .before .before .pre in
-    let g = c .before .before .before .before .before .before .before .before .before .before .before .good in
     let l = subst (LeadIs _ _) (c .before .before .before .before .before .before .l2 .given .1) (c .before .before .before .before .before .before .before .before .lead-at .ensures) in
     let y = c .before .before .before .read-term2 .ensures in
     omega (arith, l .2 0, y .few 0, c .before .before .before .read-term2 .kept .1 .1 .0)
 
-read-sum-returns : (t : ℕ) → read-sum-lts.Need-returns (claims-read-sum t) (read-sum-at t) read-sum.Post
+read-sum-returns : (t : ℕ) → read-sum-lts.Need-returns (claims-read-sum t) (at 2 read-sum.Pre t) read-sum.Post
 read-sum-returns t c =
     let l = subst (LeadIs _ _) (c .before .before .before .before .before .before .before .before .before .before .before .before .before .l .given .1) (c .before .before .before .before .before .before .before .before .before .before .before .before .before .before .before .lead-at .ensures) in
     sum-minus l (c .before .before .before .before .before .before .before .before .before .before .read-term .ensures) (c .before .before .before .before .before .before .write .ensures) (c .before .before .more-terms .ensures)
 
-read-sum-returns-2 : (t : ℕ) → read-sum-lts.Need-returns-2 (claims-read-sum t) (read-sum-at t) read-sum.Post
+read-sum-returns-2 : (t : ℕ) → read-sum-lts.Need-returns-2 (claims-read-sum t) (at 2 read-sum.Pre t) read-sum.Post
 read-sum-returns-2 t c =
     let l = subst (LeadIs _ _) (c .before .before .before .before .before .before .before .before .before .l2 .given .1) (c .before .before .before .before .before .before .before .before .before .before .before .lead-at .ensures) in
     sum-plain l (c .before .before .before .before .before .before .read-term2 .ensures) (c .before .before .more-terms2 .ensures)
 
-read-term-read-factor-requires : (t : ℕ) → read-term-lts.Need-read-factor-requires (claims-read-term t) (read-term-at t) read-term.Post
+read-term-read-factor-requires : (t : ℕ) → read-term-lts.Need-read-factor-requires (claims-read-term t) (at 1 read-term.Pre t) read-term.Post
 read-term-read-factor-requires t c κs =
     let h = c .before .before .before .pre in
-    let g = c .before .before .before .good in
     omega arith
 
-read-term-more-factors-requires : (t : ℕ) → read-term-lts.Need-more-factors-requires (claims-read-term t) (read-term-at t) read-term.Post
+read-term-more-factors-requires : (t : ℕ) → read-term-lts.Need-more-factors-requires (claims-read-term t) (at 1 read-term.Pre t) read-term.Post
 read-term-more-factors-requires t c κs =
     let h = c .before .before .before .before .before .before .before .pre in
-    let g = c .before .before .before .before .before .before .before .good in
     let y = c .before .before .before .read-factor .ensures in
     omega (arith, y .few 0, c .before .before .before .read-factor .kept .1 .1 .0)
 
-read-term-returns : (t : ℕ) → read-term-lts.Need-returns (claims-read-term t) (read-term-at t) read-term.Post
+read-term-returns : (t : ℕ) → read-term-lts.Need-returns (claims-read-term t) (at 1 read-term.Pre t) read-term.Post
 read-term-returns t c =
     term-is (c .before .before .before .before .before .before .read-factor .ensures) (c .before .before .more-factors .ensures)
 
@@ -398,14 +297,14 @@ pub +more-factors+more-terms+read-factor+read-relation+read-sum+read-term-spec :
     {M : Type 1} → statement M
 +more-factors+more-terms+read-factor+read-relation+read-sum+read-term-spec =
     close
-    μ-more-factors
-    μ-more-terms
-    μ-read-factor
-    μ-read-relation
-    μ-read-sum
-    μ-read-term
+    (μ 0)
+    (μ 0)
+    (μ 0)
+    (μ 3)
+    (μ 2)
+    (μ 1)
     (λ t. more-factors-lts.spec (claims-more-factors t)
-    (more-factors-at t)
+    (at 0 more-factors.Pre t)
     more-factors.Post
     (λ c κs. search needs)
     (λ c. search needs)
@@ -417,7 +316,7 @@ pub +more-factors+more-terms+read-factor+read-relation+read-sum+read-term-spec :
     (more-factors-returns t)
     (more-factors-returns-2 t))
     (λ t. more-terms-lts.spec (claims-more-terms t)
-    (more-terms-at t)
+    (at 0 more-terms.Pre t)
     more-terms.Post
     (λ c κs. search needs)
     (λ c. search needs)
@@ -429,7 +328,7 @@ pub +more-factors+more-terms+read-factor+read-relation+read-sum+read-term-spec :
     (more-terms-returns t)
     (more-terms-returns-2 t))
     (λ t. read-factor-lts.spec (claims-read-factor t)
-    (read-factor-at t)
+    (at 0 read-factor.Pre t)
     read-factor.Post
     (λ c κs. search needs)
     (λ c. search needs)
@@ -458,7 +357,7 @@ pub +more-factors+more-terms+read-factor+read-relation+read-sum+read-term-spec :
     (read-factor-returns-4 t)
     (read-factor-returns-5 t))
     (λ t. read-relation-lts.spec (claims-read-relation t)
-    (read-relation-at t)
+    (at 3 read-relation.Pre t)
     read-relation.Post
     (read-relation-read-sum-requires t)
     (λ c κs. search needs)
@@ -471,7 +370,7 @@ pub +more-factors+more-terms+read-factor+read-relation+read-sum+read-term-spec :
     (λ c. search needs)
     (read-relation-returns-2 t))
     (λ t. read-sum-lts.spec (claims-read-sum t)
-    (read-sum-at t)
+    (at 2 read-sum.Pre t)
     read-sum.Post
     (λ c κs. search needs)
     (λ c. search needs)
@@ -486,7 +385,7 @@ pub +more-factors+more-terms+read-factor+read-relation+read-sum+read-term-spec :
     (λ c. search needs)
     (read-sum-returns-2 t))
     λ t. read-term-lts.spec (claims-read-term t)
-    (read-term-at t)
+    (at 1 read-term.Pre t)
     read-term.Post
     (read-term-read-factor-requires t)
     (read-term-more-factors-requires t)

@@ -8,53 +8,8 @@ use borrow.Author.Needs.{needs}
 use Rattle.relation.proofs.atom_at.Statement.{statement}
 use Rattle.relation.proofs.atom_at.Tie as tie
 
-enum-known-r : tie.Need-enum-known-r
-enum-known-r c = search needs
-
-enum-told : tie.Need-enum-told
-enum-told c = search needs
-
 returns : tie.Need-returns
 returns c = missing (halted (c .enum-told .given .1))
-
-word-at-requires : tie.Need-word-at-requires
-word-at-requires c κs = search needs
-
-enum-known-w : tie.Need-enum-known-w
-enum-known-w c = search needs
-
-wide-requires : tie.Need-wide-requires
-wide-requires c κs = search needs
-
-mul-t16 : tie.Need-mul-t16
-mul-t16 c = search needs
-
-add-t17 : tie.Need-add-t17
-add-t17 c = search needs
-
-enum-known-w-2 : tie.Need-enum-known-w-2
-enum-known-w-2 c = search needs
-
-wide16-requires : tie.Need-wide16-requires
-wide16-requires c κs = search needs
-
-mul-t20 : tie.Need-mul-t20
-mul-t20 c = search needs
-
-enum-known-w-3 : tie.Need-enum-known-w-3
-enum-known-w-3 c = search needs
-
-wide16-requires-2 : tie.Need-wide16-requires-2
-wide16-requires-2 c κs = search needs
-
-mul-t23 : tie.Need-mul-t23
-mul-t23 c = search needs
-
-enum-known-w-4 : tie.Need-enum-known-w-4
-enum-known-w-4 c = search needs
-
-form-requires : tie.Need-form-requires
-form-requires c κs = search needs
 
 returns-2 : tie.Need-returns-2
 returns-2 c =
@@ -80,22 +35,22 @@ pub atom-at-spec : {M : Type 1} → statement M
 atom-at-spec =
     tie.close
     (tie.spec
-    enum-known-r
-    enum-told
+    (λ c. search needs)
+    (λ c. search needs)
     returns
-    word-at-requires
-    enum-known-w
-    wide-requires
-    mul-t16
-    add-t17
-    enum-known-w-2
-    wide16-requires
-    mul-t20
-    enum-known-w-3
-    wide16-requires-2
-    mul-t23
-    enum-known-w-4
-    form-requires
+    (λ c κs. search needs)
+    (λ c. search needs)
+    (λ c κs. search needs)
+    (λ c. search needs)
+    (λ c. search needs)
+    (λ c. search needs)
+    (λ c κs. search needs)
+    (λ c. search needs)
+    (λ c. search needs)
+    (λ c κs. search needs)
+    (λ c. search needs)
+    (λ c. search needs)
+    (λ c κs. search needs)
     returns-2
     returns-3
     returns-4

@@ -5,21 +5,9 @@ use borrow.Author.Needs.{needs}
 use Rattle.relation.proofs.joint_at.Statement.{statement}
 use Rattle.relation.proofs.joint_at.Tie as tie
 
-sign-at-requires : tie.Need-sign-at-requires
-sign-at-requires c κs = search needs
-
-enum-known-w : tie.Need-enum-known-w
-enum-known-w c = search needs
-
-enum-told : tie.Need-enum-told
-enum-told c = search needs
-
 returns : tie.Need-returns
 returns c =
     joint-none (jointsOf (c .before .before .before .before .args .level)) (subst (SignIs _ _) (c .enum-told .given .1) (c .before .before .sign-at .ensures))
-
-operator-requires : tie.Need-operator-requires
-operator-requires c κs = search needs
 
 returns-2 : tie.Need-returns-2
 returns-2 c =
@@ -33,10 +21,10 @@ pub joint-at-spec : {M : Type 1} → statement M
 joint-at-spec =
     tie.close
     (tie.spec
-    sign-at-requires
-    enum-known-w
-    enum-told
+    (λ c κs. search needs)
+    (λ c. search needs)
+    (λ c. search needs)
     returns
-    operator-requires
+    (λ c κs. search needs)
     returns-2
     returns-3)

@@ -5,15 +5,6 @@ use borrow.Author.Needs.{needs}
 use Rattle.relation.proofs.past_sign.Statement.{statement}
 use Rattle.relation.proofs.past_sign.Tie as tie
 
-sign-at-requires : tie.Need-sign-at-requires
-sign-at-requires c κs = search needs
-
-enum-known-w : tie.Need-enum-known-w
-enum-known-w c = search needs
-
-enum-told : tie.Need-enum-told
-enum-told c = search needs
-
 returns : tie.Need-returns
 returns c = key-none _ (subst (SignIs _ _) (c .enum-told .given .1) (c .before .before .sign-at .ensures))
 
@@ -27,4 +18,4 @@ returns-3 c =
 
 pub past-sign-spec : {M : Type 1} → statement M
 past-sign-spec =
-    tie.close (tie.spec sign-at-requires enum-known-w enum-told returns returns-2 returns-3)
+    tie.close (tie.spec (λ c κs. search needs) (λ c. search needs) (λ c. search needs) returns returns-2 returns-3)

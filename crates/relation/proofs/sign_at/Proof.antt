@@ -7,20 +7,8 @@ use borrow.Author.Needs.{needs}
 use Rattle.relation.proofs.sign_at.Statement.{statement}
 use Rattle.relation.proofs.sign_at.Tie as tie
 
-enum-known-r : tie.Need-enum-known-r
-enum-known-r c = search needs
-
-enum-told : tie.Need-enum-told
-enum-told c = search needs
-
 returns : tie.Need-returns
 returns c = halted (c .enum-told .given .1)
-
-word-at-requires : tie.Need-word-at-requires
-word-at-requires c κs = search needs
-
-enum-known-w : tie.Need-enum-known-w
-enum-known-w c = search needs
 
 returns-2 : tie.Need-returns-2
 returns-2 c =
@@ -33,4 +21,4 @@ returns-3 c =
 pub sign-at-spec : {M : Type 1} → statement M
 sign-at-spec =
     tie.close
-    (tie.spec enum-known-r enum-told returns word-at-requires enum-known-w returns-2 returns-3)
+    (tie.spec (λ c. search needs) (λ c. search needs) returns (λ c κs. search needs) (λ c. search needs) returns-2 returns-3)

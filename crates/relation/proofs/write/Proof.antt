@@ -8,12 +8,6 @@ use borrow.Author.Needs.{needs}
 use Rattle.relation.proofs.write.Statement.{statement}
 use Rattle.relation.proofs.write.Tie as tie
 
-enum-known-r : tie.Need-enum-known-r
-enum-known-r c = search needs
-
-enum-told : tie.Need-enum-told
-enum-told c = search needs
-
 returns : tie.Need-returns
 returns c = written-none (c .enum-told .given .1)
 
@@ -29,13 +23,10 @@ add-t6 : tie.Need-add-t6
 add-t6 c =
     let h = subst (λ r. filled r ≤ length (c .before .before .before .args .ops .now)) (c .before .r .given .1) (c .before .before .before .pre) in let g = c .before .before .before .good in omega arith
 
-same-length : tie.Need-same-length
-same-length c = search needs
-
 returns-2 : tie.Need-returns-2
 returns-2 c = written-next (c .before .r .given .1)
 
 pub write-spec : {M : Type 1} → statement M
 write-spec =
     tie.close
-    (tie.spec enum-known-r enum-told returns mul-ops slice-write-ops add-t6 same-length returns-2)
+    (tie.spec (λ c. search needs) (λ c. search needs) returns mul-ops slice-write-ops add-t6 (λ c. search needs) returns-2)

@@ -1,0 +1,94 @@
+-- What a call past its first refusals has. Assumes nothing.
+use Prim.Native.Nat.{ℕ, _≤_}
+use mathlib.Core.Path.{_≡_, refl}
+use mathlib.Core.Bool.{Bool, true, false, not}
+use native.Mathlib.Omega.{arith}
+use lib.ListN.{length}
+use lib.Dec.{leb}
+use borrow.Author.Tests.{leb-true, le-leb}
+use Rattle.nibl.specs.Bytes.{if_then_else_}
+use Rattle.nibl.specs.Page.{isGood, fits}
+use Rattle.nibl.specs.Calls.{Lent, inRange, firstRefusal, obeyLine, takeLineIn, continueFrom, continueRunIn}
+use Rattle.page.proofs.Program.{both}
+use Rattle.demands.specs.Sound.{budgeted}
+use Rattle.demands.proofs.Ways.{lineOf}
+
+pub record InRange (x : Lent) : Type 0 where
+  pub some : 2 ≤ length (x .page)
+  pub page : length (x .page) ≤ 4096
+  pub memory : length (x .memory) ≤ 4096
+  pub input : length (x .input) ≤ 65535
+  pub output : length (x .output) ≤ 65535
+  pub inpos : x .call .inpos ≤ length (x .input)
+  pub outpos : x .call .outpos ≤ length (x .output)
+  pub budget : x .call .budget ≤ 65535
+
+pub in-range-of : (x : Lent) → inRange x ≡ true → InRange x
+in-range-of x h =
+    let a = both (leb 2 (length (x .page))) _ h in
+    let b = both (leb (length (x .page)) 4096) _ (a .1) in
+    let c = both (leb (length (x .memory)) 4096) _ (b .1) in
+    let d = both (leb (length (x .input)) 65535) _ (c .1) in
+    let e = both (leb (length (x .output)) 65535) _ (d .1) in
+    let f = both (leb (x .call .inpos) (length (x .input))) _ (e .1) in
+    let g = both (leb (x .call .outpos) (length (x .output))) _ (f .1) in
+    record {
+      some = leb-true _ _ (a .0);
+      page = leb-true _ _ (b .0);
+      memory = leb-true _ _ (c .0);
+      input = leb-true _ _ (d .0);
+      output = leb-true _ _ (e .0);
+      inpos = leb-true _ _ (f .0);
+      outpos = leb-true _ _ (g .0);
+      budget = leb-true _ _ (g .1);
+    }
+
+pub in-range-is : {x : Lent} → InRange x → inRange x ≡ true
+in-range-is {x = x} r =
+    rw (
+      le-leb 2 (length (x .page)) (r .some),
+      le-leb (length (x .page)) 4096 (r .page),
+      le-leb (length (x .memory)) 4096 (r .memory),
+      le-leb (length (x .input)) 65535 (r .input),
+      le-leb (length (x .output)) 65535 (r .output),
+      le-leb (x .call .inpos) (length (x .input)) (r .inpos),
+      le-leb (x .call .outpos) (length (x .output)) (r .outpos),
+      le-leb (x .call .budget) 65535 (r .budget),
+    )
+
+pub record Accepted (lim : ℕ) (x : Lent) : Type 0 where
+  pub range : InRange x
+  pub good : isGood lim (x .page) ≡ true
+  pub fit : fits (x .page) (x .session) ≡ true
+
+pub accepted-of : (lim : ℕ) (x : Lent) → firstRefusal lim x ≡ 0 → Accepted lim x
+unfolding firstRefusal
+accepted-of lim x h = by (inRange x) refl (isGood lim (x .page)) refl (fits (x .page) (x .session)) refl h where
+  by : (a : Bool) → inRange x ≡ a → (b : Bool) → isGood lim (x .page) ≡ b → (c : Bool) → fits (x .page) (x .session) ≡ c
+      → _≡_ {A = ℕ} (if not a then 1 else if not b then 18 else if not c then 19 else 0) 0 → Accepted lim x
+  by true p true q true r e = record { range = in-range-of x p; good = q; fit = r }
+  by false p b q c r e = absurd (omega arith)
+  by true p false q c r e = absurd (omega arith)
+  by true p true q false r e = absurd (omega arith)
+
+pub accepted-is : {lim : ℕ} {x : Lent} → Accepted lim x → firstRefusal lim x ≡ 0
+unfolding firstRefusal
+accepted-is s = rw (in-range-is (s .range), s .good, s .fit)
+
+-- and so has the same call with a smaller budget
+pub accepted-less : (lim : ℕ) (x : Lent) (k l : ℕ) → k ≤ l → firstRefusal lim (budgeted l x) ≡ 0 → firstRefusal lim (budgeted k x) ≡ 0
+accepted-less lim x k l h e =
+    let a = accepted-of lim (budgeted l x) e in
+    let r = a .range in
+    let less : InRange (budgeted k x) =
+    record { some = r .some; page = r .page; memory = r .memory; input = r .input; output = r .output; inpos = r .inpos; outpos = r .outpos; budget = omega arith } in
+    accepted-is (record { range = less; good = a .good; fit = a .fit })
+
+-- it does what its line does, or what its pause says
+pub take-at : (lim : ℕ) (x : Lent) → firstRefusal lim x ≡ 0 → takeLineIn lim x ≡ obeyLine lim x (lineOf lim x)
+unfolding takeLineIn
+take-at lim x h = rw (h, takeLineIn)
+
+pub continue-at : (lim : ℕ) (x : Lent) → firstRefusal lim x ≡ 0 → continueRunIn lim x ≡ continueFrom lim x (x .session .paused)
+unfolding continueRunIn
+continue-at lim x h = rw (h, continueRunIn)

@@ -1,0 +1,118 @@
+-- "14 exactly when the budget is spent and a statement is left to run"; "past the last line it is 0 at any budget". Assumes nothing.
+use Prim.Native.Nat.{ℕ, suc, _≤_}
+use mathlib.Core.Path.{_≡_, refl, sym, ap, _∙_}
+use mathlib.Core.Bool.{Bool, true, false, false≢true}
+use mathlib.Core.List.{List, _++_}
+use mathlib.Core.Logic.{_↔_}
+use mathlib.Core.Option.{Option, none, some}
+use native.Mathlib.Numerals.{add-one}
+use native.Mathlib.Omega.{arith}
+use lib.ListN.{length, length-append}
+use lib.Dec.{eqb}
+use borrow.Author.Tests.{eqb-true, eq-eqb}
+use Rattle.nibl.specs.Tree.{Typed}
+use Rattle.nibl.specs.Read.{typed}
+use Rattle.nibl.specs.Typing.{Gathered}
+use Rattle.nibl.specs.Meaning.{World, Env}
+use Rattle.nibl.specs.Calls.{Lent, Outcome, Ran, ran, textFrom, runFrom, stops, firstRefusal, begun, envOf, obeyRead, obeyLine, takeLine, takeLineIn, continueRun, continueRunIn, limit}
+use Rattle.page.proofs.Walk.{by-cases}
+use Rattle.demands.specs.Sound.{Sized, Sound, Stands, budgeted}
+use Rattle.demands.proofs.Runs.{run-none, run-suc}
+use Rattle.demands.proofs.Budget.{joined, split-run, steps-within}
+use Rattle.demands.proofs.Ways.{lineOf, Typing}
+use Rattle.demands.proofs.Places.{Ready}
+use Rattle.demands.proofs.Fits.{sound-fit, fit-sound}
+use Rattle.demands.proofs.Running.{Goings, runsOut, pauses, steps, run-goes}
+use Rattle.demands.proofs.Running.{stops as halts}
+use Rattle.demands.proofs.Obeys.{Obeyed, stands, edits, runs, read-ways, continue-ways}
+use Rattle.demands.proofs.Accepted.{accepted-less, take-at, continue-at}
+use Rattle.demands.proofs.Sound.{unrefused}
+
+pub past-the-last-line : (e : Env) (q : ℕ) (w : World) → textFrom (e .page) q ≡ none → (k : ℕ) → runFrom k e q w ≡ ran 0 q w
+past-the-last-line e q w h k = run-none k e q w h
+
+-- where a run paused: the budget is spent, and a text follows that can be read
+record Pause (page : List ℕ) (k : ℕ) (r : Ran) : Type 0 where
+  spent : length (r .lines) ≡ k
+  start : ℕ
+  follows : textFrom page (r .at) ≡ some start
+  ready : Ready page start
+
+goings-pause : {page : List ℕ} {k : ℕ} {r : Ran} → Goings page k r → r .stop ≡ 14 → Pause page k r
+goings-pause (runsOut h f) e = absurd (omega arith)
+goings-pause (pauses {a = a} h r s f) e = record { spent = refl; start = a; follows = h; ready = r }
+goings-pause (halts h m f) e = absurd (false≢true (rw e at m))
+goings-pause (steps p h g) e = let s = goings-pause g e in record { spent = ap suc (s .spent); start = s .start; follows = s .follows; ready = s .ready }
+
+-- Exactly: with one step more in the budget there is one step more
+abbrev pub Exactly : ℕ → ℕ → ℕ → ℕ → Type 0
+Exactly stop k spent more = (stop ≡ 14) ↔ ((spent ≡ k) × (more ≡ suc k))
+
+module _ (lim : ℕ) (e : Env) (short : lim ≤ 251) (q : ℕ) (w : World) (h : Sound lim (e .page) (w .session)) (s : Stands (e .page) q) where
+  paused-where : (k : ℕ) → runFrom k e q w .stop ≡ 14 → Pause (e .page) k (runFrom k e q w)
+  paused-where k i = goings-pause (run-goes lim e short (h .good) k q w s (sound-fit h)) i
+
+  -- a text that follows gives one step
+  one-step : (a : ℕ) (r : Ran) → textFrom (e .page) (r .at) ≡ some a → Ready (e .page) a → 1 ≤ length (runFrom 1 e (r .at) (r .world) .lines)
+  one-step a r i y = rw (run-suc 0 e (r .at) (r .world) a i, y .finds) (omega arith)
+
+  more-steps : (k : ℕ) → runFrom k e q w .stop ≡ 14 → length (runFrom (suc k) e q w .lines) ≡ suc k
+  more-steps k i =
+      let r : Ran = runFrom k e q w in
+      let p = paused-where k i in
+      let t : Ran = runFrom 1 e (r .at) (r .world) in
+      let one : 1 ≤ length (t .lines) = one-step (p .start) r (p .follows) (p .ready) in
+      let whole : runFrom (suc k) e q w .lines ≡ r .lines ++ t .lines =
+      ap (λ (n : ℕ). runFrom n e q w .lines) (sym (add-one k)) ∙ ap (λ (y : Ran). y .lines) (split-run k 1 e q w) ∙ rw (eq-eqb (r .stop) 14 i) in
+      omega (arith, ap length whole, length-append (r .lines) (t .lines), steps-within (suc k) e q w)
+
+  no-more : (k : ℕ) → eqb (runFrom k e q w .stop) 14 ≡ false → length (runFrom (suc k) e q w .lines) ≤ k
+  no-more k i =
+      let same : runFrom (suc k) e q w ≡ runFrom k e q w = ap (λ (n : ℕ). runFrom n e q w) (sym (add-one k)) ∙ split-run k 1 e q w ∙ rw (i, joined) in
+      omega (arith, ap (λ (y : Ran). length (y .lines)) same, steps-within k e q w)
+
+  pub run-pauses-exactly : (k : ℕ) → Exactly (runFrom k e q w .stop) k (length (runFrom k e q w .lines)) (length (runFrom (suc k) e q w .lines))
+  run-pauses-exactly k = (
+    λ i. (paused-where k i .spent, more-steps k i),
+    λ i. by-cases (eqb (runFrom k e q w .stop) 14) (λ j. eqb-true _ 14 j) (λ j. let l = no-more k j in absurd (omega arith)),
+  )
+
+-- Of the calls. A stop without a step is none
+unpaused : (stop k : ℕ) → (stop ≡ 14 → ⊥) → Exactly stop k 0 0
+unpaused stop k n = (λ i. absurd (n i), λ i. absurd (omega arith))
+
+abbrev pub Pausing : ℕ → (ℕ → Outcome) → Type 0
+Pausing k o = Exactly (o k .answer .stop) k (o k .answer .steps) (o (suc k) .answer .steps)
+
+module _ (lim : ℕ) (short : lim ≤ 251) (x : Lent) (h : Sound lim (x .page) (x .session)) (k : ℕ) where
+  obeyed-pauses : {v : World} {o : ℕ → Outcome} → Obeyed lim (envOf lim x) v o → Pausing k o
+  obeyed-pauses (stands {n = n} i f) = unpaused n k (λ e. false≢true (rw e at i))
+  obeyed-pauses (edits p n f) = unpaused 0 k (λ e. omega arith)
+  obeyed-pauses (runs q w s f i j) = run-pauses-exactly lim (envOf lim x) short q w (fit-sound lim (h .good) f) s k
+
+  read-pauses : (g : Gathered) → Typing lim x g → (t : Option Typed) → typed (g .line .bytes) ≡ t → Pausing k (λ n. obeyRead n (envOf lim x) (begun x (g .taken)) t)
+  read-pauses g y none e = unpaused 5 k (λ e. omega arith)
+  read-pauses g y (some t) e = obeyed-pauses (read-ways lim x short (h .good) (sound-fit h) g t y e)
+
+  line-pauses : firstRefusal lim x ≡ 0 → (g : Option Gathered) → lineOf lim x ≡ g → Pausing k (λ n. obeyLine lim (budgeted n x) g)
+  line-pauses z none e = unpaused 7 k (λ e. omega arith)
+  line-pauses z (some g) e = by (g .line .long) refl where
+    by : (b : Bool) → g .line .long ≡ b
+        → Pausing k (λ n. elim b [ true ↦ stops 5 (begun x (g .taken)) (x .page) | false ↦ obeyRead n (envOf lim x) (begun x (g .taken)) (typed (g .line .bytes)) ])
+    by true l = unpaused 5 k (λ e. omega arith)
+    by false l = read-pauses g (record { sound = z; line = e; short = l }) (typed (g .line .bytes)) refl
+
+module _ (lim : ℕ) (short : lim ≤ 251) (x : Lent) (sized : Sized (x .session)) (k : ℕ) (z : firstRefusal lim (budgeted (suc k) x) ≡ 0) where
+  pub pauses-within : Pausing k (λ n. takeLineIn lim (budgeted n x)) × Pausing k (λ n. continueRunIn lim (budgeted n x))
+  pauses-within =
+      let y = accepted-less lim x k (suc k) (omega arith) z in
+      let h = unrefused lim (budgeted k x) sized y in (
+        rw (take-at lim (budgeted k x) y, take-at lim (budgeted (suc k) x) z) (line-pauses lim short (budgeted k x) h k y (lineOf lim x) refl),
+        rw (continue-at lim (budgeted k x) y, continue-at lim (budgeted (suc k) x) z) (obeyed-pauses lim short (budgeted k x) h k (continue-ways lim (budgeted k x) short (h .good) (sound-fit h) y)),
+      )
+
+-- a call answers 14 exactly when its steps are the budget, and with one more in the budget they would be one more
+pub paused-exactly : (x : Lent) (k : ℕ) → Sized (x .session) → firstRefusal limit (budgeted (suc k) x) ≡ 0
+    → Pausing k (λ n. takeLine (budgeted n x)) × Pausing k (λ n. continueRun (budgeted n x))
+unfolding takeLine continueRun
+paused-exactly x k s z = pauses-within limit (omega arith) x s k z

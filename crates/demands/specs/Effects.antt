@@ -1,0 +1,85 @@
+-- All that one statement can do, as a list of effects: what holds of each effect holds of every statement (proofs/Effects.antt).
+use Prim.Native.Nat.{ℕ, zero, suc, _+_, _-_, _%_, _≤_}
+use mathlib.Core.Path.{_≡_}
+use mathlib.Core.Bool.{Bool, true, false}
+use mathlib.Core.List.{List, [], _∷_}
+use mathlib.Core.Option.{Option, none, some}
+use lib.ListN.{length, getD, drop}
+use lib.Seq.{sets}
+use Rattle.nibl.specs.Tree.{Stmt, letVar, letStat, letByte, letCopy, letText, goto, gosub, until, return, loop, remark, end, print, ifThen, for, next, input, inputText}
+use Rattle.nibl.specs.Values.{add16}
+use Rattle.nibl.specs.Stack.{pushOf, popOf, pushFor, popFor}
+use Rattle.nibl.specs.Typing.{Gathered, gather}
+use Rattle.nibl.specs.Page.{isAmong, find}
+use Rattle.nibl.specs.Meaning.{World, Env, Next, on, skip, go, stop, Done, done, withVar, withFlags, withGosubs, withDos, withFors, withSession, withMemory, withOutput, withInpos, place, after, goesOn}
+use Rattle.nibl.specs.declared.Place.{Place}
+use Rattle.nibl.specs.declared.ForEntry.{ForEntry}
+use Rattle.nibl.specs.declared.Top.the-variants as top
+use Rattle.nibl.specs.declared.TopFor.the-variants as topf
+
+-- what a statement may be refused with, and END
+abbrev pub refusals : List ℕ
+refusals = 6 ∷ 7 ∷ 8 ∷ 9 ∷ 10 ∷ 11 ∷ 12 ∷ 13 ∷ 15 ∷ 16 ∷ 17 ∷ 20 ∷ []
+
+-- the variable that a FOR names
+abbrev pub forVars : Stmt → List ℕ
+forVars (letVar v a) = []
+forVars (letStat a) = []
+forVars (letByte a b) = []
+forVars (letCopy a b) = []
+forVars (letText a bs) = []
+forVars (goto a) = []
+forVars (gosub a) = []
+forVars (until a) = []
+forVars return = []
+forVars loop = []
+forVars remark = []
+forVars end = []
+forVars (print is b) = []
+forVars (ifThen a q) = forVars q
+forVars (for v a b c) = v ∷ []
+forVars (next v) = []
+forVars (input vs) = []
+forVars (inputText a) = []
+
+-- INPUT: variables given one after the other, up to the first refusal
+pub data Gives : World → Done → Type 0 where
+  gave : {w : World} → Gives w (done on w)
+  refused : {w : World} {n : ℕ} → isAmong refusals n ≡ true → Gives w (done (stop n) w)
+  gives : {w : World} {d : Done} (v x : ℕ) → Gives (withSession w (withVar (w .session) v x)) d → Gives w d
+
+-- vs are the variables that a FOR may name
+pub data Does (e : Env) (vs : List ℕ) : World → Done → Type 0 where
+  -- output items, whole, and input lines, whole, come first
+  writes : {w : World} {d : Done} (bs : List ℕ) → w .outpos + length bs ≤ length (w .output)
+      → Does e vs (withOutput w (sets (w .output) (w .outpos) bs) (w .outpos + length bs)) d → Does e vs w d
+  takes : {w : World} {d : Done} (g : Gathered) → gather (e .lim) (drop (w .inpos) (e .input)) ≡ some g
+      → Does e vs (withInpos w (w .inpos + g .taken)) d → Does e vs w d
+  -- then one effect
+  refuses : {w : World} {n : ℕ} → isAmong refusals n ≡ true → Does e vs w (done (stop n) w)
+  passes : {w : World} → Does e vs w (done on w)
+  skips : {w : World} → Does e vs w (done skip w)
+  assigns : {w : World} (v x : ℕ) → Does e vs w (done on (withSession w (withVar (w .session) v x)))
+  assignsFlags : {w : World} (x : ℕ) → Does e vs w (done on (withSession w (withFlags (w .session) (x % 8))))
+  stores : {w : World} (m : List ℕ) → length m ≡ length (w .memory) → Does e vs w (done on (withMemory w m))
+  goesTo : {w : World} {q : ℕ} (n : ℕ) → find (e .page) n ≡ some q → Does e vs w (done (go q) w)
+  saves : {w : World} {q : ℕ} (n : ℕ) → find (e .page) n ≡ some q → pushOf (w .session .gosubs) (place (e .here)) .ok ≡ true
+      → Does e vs w (done (go q) (withSession w (withGosubs (w .session) (pushOf (w .session .gosubs) (place (e .here)) .stack))))
+  returns : {w : World} (p : Place) → popOf (w .session .gosubs) .top ≡ top.At p
+      → Does e vs w (done (after p) (withSession w (withGosubs (w .session) (popOf (w .session .gosubs) .stack))))
+  loops : {w : World} → pushOf (w .session .dos) (place (e .here)) .ok ≡ true
+      → Does e vs w (done on (withSession w (withDos (w .session) (pushOf (w .session .dos) (place (e .here)) .stack))))
+  repeats : {w : World} (p : Place) → popOf (w .session .dos) .top ≡ top.At p → Does e vs w (done (go (suc (p .0))) w)
+  leaves : {w : World} (p : Place) → popOf (w .session .dos) .top ≡ top.At p
+      → Does e vs w (done on (withSession w (withDos (w .session) (popOf (w .session .dos) .stack))))
+  begins : {w : World} (v first limit step : ℕ) → isAmong vs v ≡ true
+      → pushFor (w .session .fors) (record { var = v; limit = limit; step = step; place = place (e .here) }) .ok ≡ true
+      → Does e vs w (done on (withSession w (withVar (withFors (w .session)
+      (pushFor (w .session .fors) (record { var = v; limit = limit; step = step; place = place (e .here) }) .stack)) v first)))
+  again : {w : World} (v : ℕ) (f : ForEntry) → popFor (w .session .fors) .top ≡ topf.Entry f
+      → goesOn (f .step) (add16 (getD (w .session .vars) v 0) (f .step)) (f .limit) ≡ true
+      → Does e vs w (done (go (suc (f .place .0))) (withSession w (withVar (w .session) v (add16 (getD (w .session .vars) v 0) (f .step)))))
+  finishes : {w : World} (v : ℕ) (f : ForEntry) → popFor (w .session .fors) .top ≡ topf.Entry f
+      → goesOn (f .step) (add16 (getD (w .session .vars) v 0) (f .step)) (f .limit) ≡ false
+      → Does e vs w (done on (withSession w (withFors (withVar (w .session) v (add16 (getD (w .session .vars) v 0) (f .step))) (popFor (w .session .fors) .stack))))
+  inputs : {w : World} {d : Done} → Gives w d → Does e vs w d

@@ -1,0 +1,162 @@
+-- What a call leaves, written out: the demands' sentences name these.
+use Prim.Native.Nat.{ℕ, suc, _+_, _≤_}
+use mathlib.Core.Path.{_≡_}
+use mathlib.Core.Bool.{Bool, true, false}
+use mathlib.Core.List.{List, [], _∷_}
+use mathlib.Core.Option.{some}
+use lib.ListN.{length, take, drop}
+use lib.Seq.{sets}
+use lib.Dec.{eqb}
+use Rattle.nibl.specs.Bytes.{if_then_else_}
+use Rattle.nibl.specs.Typing.{Gathered, gather}
+use Rattle.nibl.specs.Stack.{popOf}
+use Rattle.nibl.specs.Tree.{Typed, blank, new, clear, run, delete, list, store, immediate}
+use Rattle.nibl.specs.Page.{Stored, isGood, recordsOf, mark, used}
+use Rattle.nibl.specs.Meaning.{World, Env, withGosubs}
+use Rattle.nibl.specs.Calls.{Lent, Outcome, limit}
+use Rattle.nibl.specs.declared.Paused.the-variants.{Nowhere}
+use Rattle.nibl.specs.declared.Session.{Session}
+use Rattle.nibl.specs.declared.Place.{Place}
+use Rattle.nibl.specs.declared.Top.the-variants as top
+use Rattle.nibl.specs.declared.StopLine.the-variants as stopLine
+use Rattle.nibl.specs.declared.Answer.{Answer}
+use Rattle.demands.specs.Asks.{GivenIn}
+
+-- the records of a number, and the others, in their order
+abbrev pub ofLine : ℕ → List Stored → List Stored
+ofLine n [] = []
+ofLine n (r ∷ rs) = if eqb (r .line) n then r ∷ ofLine n rs else ofLine n rs
+
+abbrev pub others : ℕ → List Stored → List Stored
+others n [] = []
+others n (r ∷ rs) = if eqb (r .line) n then others n rs else r ∷ others n rs
+
+-- "in strictly rising line number", from low on
+pub data Rising : ℕ → List Stored → Type 0 where
+  alone : {low : ℕ} → Rising low []
+  rises : {low : ℕ} {r : Stored} {rs : List Stored} → low ≤ r .line → Rising (suc (r .line)) rs → Rising low (r ∷ rs)
+
+-- a stop with no line and no steps, after so many bytes of the input; the output position as it came
+abbrev pub answered : Lent → ℕ → ℕ → Answer
+answered x n taken = record { stop = n; line = stopLine.NoLine; steps = 0; inpos = x .call .inpos + taken; outpos = x .call .outpos }
+
+-- the record with its pause ended
+abbrev pub unpaused : Session → Session
+unpaused s = record { vars = s .vars; flags = s .flags; gosubs = s .gosubs; dos = s .dos; fors = s .fors; paused = Nowhere }
+
+-- and with its stacks empty: the slots hold what they held
+abbrev pub stackless : Session → Session
+stackless s =
+    record {
+      vars = s .vars;
+      flags = s .flags;
+      gosubs = record { depth = 0; places = s .gosubs .places };
+      dos = record { depth = 0; places = s .dos .places };
+      fors = record { depth = 0; entries = s .fors .entries };
+      paused = Nowhere;
+    }
+
+-- everything back as it came, the positions too
+abbrev pub unchanged : Lent → ℕ → Outcome
+unchanged x n =
+    record {
+      answer = record { stop = n; line = stopLine.NoLine; steps = 0; inpos = x .call .inpos; outpos = x .call .outpos };
+      session = x .session;
+      page = x .page;
+      memory = x .memory;
+      output = x .output;
+    }
+
+-- the line is taken, the pause ended, and nothing else changed
+abbrev pub lineTaken : Lent → ℕ → ℕ → Outcome
+lineTaken x n taken = record { answer = answered x n taken; session = unpaused (x .session); page = x .page; memory = x .memory; output = x .output }
+
+-- What an edit leaves: stop 0, no line, 0 steps; "stacks cleared, variables and flags kept"; a good page whose records rise, of the same
+-- length, and what lies after its end mark as it was
+pub record Edits (x : Lent) (taken : ℕ) (o : Outcome) : Type 0 where
+  pub answer : o .answer ≡ answered x 0 taken
+  pub session : o .session ≡ stackless (x .session)
+  pub memory : o .memory ≡ x .memory
+  pub output : o .output ≡ x .output
+  pub good : isGood limit (o .page) ≡ true
+  pub rising : Rising 0 (recordsOf (o .page))
+  pub long : length (o .page) ≡ length (x .page)
+  pub after : drop (used (o .page)) (o .page) ≡ drop (used (o .page)) (x .page)
+
+-- "exactly one record of number n, with that text; all other records as they were"
+pub record Replaces (x : Lent) (n : ℕ) (t : List ℕ) (o : Outcome) : Type 0 where
+  pub one : ofLine n (recordsOf (o .page)) ≡ record { line = n; text = t } ∷ []
+  pub rest : others n (recordsOf (o .page)) ≡ others n (recordsOf (x .page))
+
+pub record Deletes (x : Lent) (n : ℕ) (o : Outcome) : Type 0 where
+  pub gone : ofLine n (recordsOf (o .page)) ≡ []
+  pub rest : recordsOf (o .page) ≡ others n (recordsOf (x .page))
+
+-- Whole items from a position of the output on, one after the other: the output then, and the position
+pub data Items : List ℕ → ℕ → List ℕ → ℕ → Type 0 where
+  noItem : {out : List ℕ} {at : ℕ} → Items out at out at
+  item : {out out' : List ℕ} {at at' : ℕ} (bs : List ℕ) → at + length bs ≤ length out → Items (sets out at bs) (at + length bs) out' at' → Items out at out' at'
+
+-- whole lines of the input, as they are gathered, from a position on
+pub data Lines (lim : ℕ) (input : List ℕ) : ℕ → ℕ → Type 0 where
+  noLine : {at : ℕ} → Lines lim input at at
+  line : {at at' : ℕ} (g : Gathered) → gather lim (drop at input) ≡ some g → Lines lim input (at + g .taken) at' → Lines lim input at at'
+
+-- all of the record but its variables
+pub record SameButVars (s t : Session) : Type 0 where
+  pub flags : t .flags ≡ s .flags
+  pub gosubs : t .gosubs ≡ s .gosubs
+  pub dos : t .dos ≡ s .dos
+  pub fors : t .fors ≡ s .fors
+  pub paused : t .paused ≡ s .paused
+
+-- what a refusing statement leaves, from w to u: us are the variables that its INPUT names
+pub record Refused (e : Env) (us : List ℕ) (w u : World) : Type 0 where
+  pub given : GivenIn us (w .session .vars) (u .session .vars)
+  pub rest : SameButVars (w .session) (u .session)
+  pub memory : u .memory ≡ w .memory
+  pub items : Items (w .output) (w .outpos) (u .output) (u .outpos)
+  pub lines : Lines (e .lim) (e .input) (w .inpos) (u .inpos)
+
+-- "RETURN to the immediate mark" pops one place, the mark, and changes nothing else of the record
+pub record Returned (s t : Session) : Type 0 where
+  pub place : Place
+  pub top : popOf (s .gosubs) .top ≡ top.At place
+  pub mark : place .0 ≡ mark
+  pub rest : t ≡ withGosubs s (popOf (s .gosubs) .stack)
+
+-- the output from one position to the other is new, and only that
+pub record Grown (out : List ℕ) (at : ℕ) (out' : List ℕ) (at' : ℕ) : Type 0 where
+  pub forward : at ≤ at'
+  pub long : length out' ≡ length out
+  pub before : take at out' ≡ take at out
+  pub behind : drop at' out' ≡ drop at' out
+
+-- the page after a call: of the same length, and every byte after its end mark as it was
+pub record PageHeld (page page' : List ℕ) : Type 0 where
+  pub long : length page' ≡ length page
+  pub after : drop (used page') page' ≡ drop (used page') page
+
+-- memory and output keep their lengths
+pub record LengthsHeld (x : Lent) (o : Outcome) : Type 0 where
+  pub memory : length (o .memory) ≡ length (x .memory)
+  pub output : length (o .output) ≡ length (x .output)
+
+-- two outcomes are the same, all of them
+pub record Agrees (a b : Outcome) : Type 0 where
+  pub answer : a .answer ≡ b .answer
+  pub session : a .session ≡ b .session
+  pub page : a .page ≡ b .page
+  pub memory : a .memory ≡ b .memory
+  pub output : a .output ≡ b .output
+
+-- whether a typed line edits the program
+abbrev pub isEdit : Typed → Bool
+isEdit blank = false
+isEdit new = true
+isEdit clear = false
+isEdit run = false
+isEdit (delete n) = true
+isEdit (list n) = false
+isEdit (store n t ms) = true
+isEdit (immediate q) = false

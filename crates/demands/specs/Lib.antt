@@ -1,0 +1,6 @@
+pub mod Effects
+pub mod Asks
+pub mod Leaves
+pub mod Listing
+pub mod Sound
+pub mod Steps

@@ -1,0 +1,1 @@
+// No code: the demands as theorems over the definition, in proofs/.
