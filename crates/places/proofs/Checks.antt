@@ -16,7 +16,7 @@ use Rattle.nibl.specs.Values.{digits}
 use Rattle.nibl.specs.Page.{isEnd, lineAt, lengthAt, textAt, hasReading, isStorable, isRecord, goodN}
 use Rattle.page.proofs.Walk.{by-cases}
 use Rattle.page.proofs.Program.{record-known, both}
-use Rattle.places.specs.Whole.{isWhole, wholeAt, recordSize}
+use Rattle.places.specs.Whole.{isWhole, wholeSize, recordSize}
 
 -- a text that a page may hold
 pub starts-none : (p : ℕ → Bool) (t : List ℕ) → length t < 1 → starts p t ≡ false
@@ -60,42 +60,41 @@ text-short q h = omega (arith, length-take (lengthAt q - 4) (drop 3 q))
 
 -- a whole record
 module _ (q : List ℕ) where
-  pub whole-yes : 5 ≤ lengthAt q → lengthAt q ≤ length q → getD q (lengthAt q - 1) 0 ≡ 13 → wholeAt q ≡ lengthAt q
-  unfolding wholeAt
+  pub whole-yes : 5 ≤ lengthAt q → lengthAt q ≤ length q → getD q (lengthAt q - 1) 0 ≡ 13 → wholeSize q ≡ lengthAt q
+  unfolding wholeSize
   whole-yes h l e = rw (le-leb 5 (lengthAt q) h, le-leb (lengthAt q) (length q) l, e)
 
-  pub whole-small : lengthAt q < 5 → wholeAt q ≡ 0
-  unfolding wholeAt
+  pub whole-small : lengthAt q < 5 → wholeSize q ≡ 0
+  unfolding wholeSize
   whole-small h = rw (lt-leb 5 (lengthAt q) h)
 
-  pub whole-cut : length q < lengthAt q → wholeAt q ≡ 0
-  unfolding wholeAt
+  pub whole-cut : length q < lengthAt q → wholeSize q ≡ 0
+  unfolding wholeSize
   whole-cut h = rw (lt-leb (lengthAt q) (length q) h, and-false (leb 5 (lengthAt q)))
 
-  pub whole-open : (getD q (lengthAt q - 1) 0 ≡ 13 → ⊥) → wholeAt q ≡ 0
-  unfolding wholeAt
+  pub whole-open : (getD q (lengthAt q - 1) 0 ≡ 13 → ⊥) → wholeSize q ≡ 0
+  unfolding wholeSize
   whole-open n =
       rw (ne-eqb (getD q (lengthAt q - 1) 0) 13 n, and-false (leb (lengthAt q) (length q)), and-false (leb 5 (lengthAt q)))
 
-  pub whole-short : length q < 5 → wholeAt q ≡ 0
+  pub whole-short : length q < 5 → wholeSize q ≡ 0
   whole-short h = by-cases (leb 5 (lengthAt q)) (λ e. let l = leb-true 5 (lengthAt q) e in whole-cut (omega arith)) (λ e. whole-small (leb-false 5 (lengthAt q) e))
 
   -- what is known where one was found
   pub record Found : Type 0 where
-    pub is : isWhole q ≡ true
-    pub long : wholeAt q ≡ lengthAt q
+    pub long : wholeSize q ≡ lengthAt q
     pub least : 5 ≤ lengthAt q
     pub inside : lengthAt q ≤ length q
     pub cr : getD q (lengthAt q - 1) 0 ≡ 13
 
-  pub whole-found : 0 < wholeAt q → Found
-  unfolding wholeAt
+  pub whole-found : 0 < wholeSize q → Found
+  unfolding wholeSize
   whole-found h =
       by-cases (isWhole q)
       (λ e.
       let a = both (leb 5 (lengthAt q)) _ e in
       let b = both (leb (lengthAt q) (length q)) _ (a .1) in
-      record { is = e; long = rw e; least = leb-true 5 (lengthAt q) (a .0); inside = leb-true (lengthAt q) (length q) (b .0); cr = eqb-true (getD q (lengthAt q - 1) 0) 13 (b .1) })
+      record { long = rw e; least = leb-true 5 (lengthAt q) (a .0); inside = leb-true (lengthAt q) (length q) (b .0); cr = eqb-true (getD q (lengthAt q - 1) 0) 13 (b .1) })
       (λ e. absurd (omega (arith, rw e at h)))
 
   -- a record of a good page, of a number from low on
@@ -112,7 +111,7 @@ module _ (q : List ℕ) where
     unfolding recordSize
     record-not e = rw e
 
-    pub record-open : wholeAt q < 5 → recordSize lim low q ≡ 0
+    pub record-open : wholeSize q < 5 → recordSize lim low q ≡ 0
     record-open h =
         record-not (by-cases (isRecord lim low q)
         (λ f. let k = record-known lim low q f in absurd (omega (arith, whole-yes (k .1 .1 .0) (k .1 .1 .1 .0) (k .1 .1 .1 .1 .0))))

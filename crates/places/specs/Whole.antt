@@ -16,8 +16,8 @@ pub record Roomy (text ops : List ℕ) : Type 0 where
 abbrev pub isWhole : List ℕ → Bool
 isWhole q = leb 5 (lengthAt q) && (leb (lengthAt q) (length q) && eqb (getD q (lengthAt q - 1) 0) 13)
 
-unfoldable pub wholeAt : List ℕ → ℕ
-wholeAt q = if isWhole q then lengthAt q else 0
+unfoldable pub wholeSize : List ℕ → ℕ
+wholeSize q = if isWhole q then lengthAt q else 0
 
 -- how many bytes a record has that a good page may hold here; 0 where none stands
 unfoldable pub recordSize : ℕ → ℕ → List ℕ → ℕ

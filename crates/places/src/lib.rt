@@ -7,7 +7,7 @@ ghost use Rattle.nibl.specs.Bytes.{isDigit, starts};
 ghost use Rattle.nibl.specs.Read.{reading};
 ghost use Rattle.nibl.specs.Page.{hasReading, isStorable, isGood, textAt, endsOf, placesOf, isAmong};
 ghost use Rattle.page.specs.Walk.{sizeAt};
-ghost use Rattle.places.specs.Whole.{Roomy, wholeAt, recordSize};
+ghost use Rattle.places.specs.Whole.{Roomy, wholeSize, recordSize};
 use line::EndRead;
 use line::ListRead;
 use nibl::Place;
@@ -59,9 +59,9 @@ fn is_storable(text: &[u8], line: u16, lim: usize, ops: &mut [u32]) -> bool
 }
 
 // How many bytes the whole record at `at` has, by its length byte; 0 where none stands.
-fn whole_at(page: &[u8], at: usize) -> usize
+fn whole_size(page: &[u8], at: usize) -> usize
     requires { ⌜ at ≤ length (now page) ⌝ }
-    ensures { λ r. ⌜ r ≡ wholeAt (drop at (now (page .entry))) ⌝ }
+    ensures { λ r. ⌜ r ≡ wholeSize (drop at (now (page .entry))) ⌝ }
 {
     let left = page.len() - at;
     if left < 5 {
@@ -81,11 +81,11 @@ fn whole_at(page: &[u8], at: usize) -> usize
 }
 
 // How many bytes the record at `at` has that a good page may hold there, of a number from `low` on; 0 where none stands.
-fn record_at(page: &[u8], at: usize, low: u32, lim: usize, ops: &mut [u32]) -> usize
+fn record_size(page: &[u8], at: usize, low: u32, lim: usize, ops: &mut [u32]) -> usize
     requires { ⌜ (at ≤ length (now page)) × (251 ≤ length (now ops)) ⌝ }
     ensures { λ r. ⌜ r ≡ recordSize lim low (drop at (now (page .entry))) ⌝ }
 {
-    let size = whole_at(page, at);
+    let size = whole_size(page, at);
     if size < 5 {
         return 0;
     }
@@ -111,7 +111,7 @@ pub fn is_good(page: &[u8], lim: usize) -> bool
     let mut at: usize = 0;
     let mut low: u32 = 0;
     while !page::is_end(page, at) {
-        let size = record_at(page, at, low, lim, &mut ops);
+        let size = record_size(page, at, low, lim, &mut ops);
         if size < 1 {
             return false;
         }

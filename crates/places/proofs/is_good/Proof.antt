@@ -18,11 +18,11 @@ abbrev μ-loop : tie.MeasureT-loop
 μ-loop page lim ops₀ at₀ low₀ ops at low = length page - at
 
 -- a record that may stand here was found
-turn : (c : tie.Else2 Inv-loop μ-loop) → let a = c .before .before .before .before .before .before .before .before .args in let l = c .before .before .before .before .before .before .loop in Next (a .lim) (l .low) (drop (l .at) (a .page .now)) (c .before .before .record-at .result)
+turn : (c : tie.Else2 Inv-loop μ-loop) → let a = c .before .before .before .before .before .before .before .before .args in let l = c .before .before .before .before .before .before .loop in Next (a .lim) (l .low) (drop (l .at) (a .page .now)) (c .before .before .record-size .result)
 turn c =
     let a = c .before .before .before .before .before .before .before .before .args in
     let l = c .before .before .before .before .before .before .loop in
-    good-next (a .lim) (l .low) (drop (l .at) (a .page .now)) (c .before .before .record-at .result) (sym (c .before .before .before .before .before .is-end .ensures) ∙ not-true _ (c .before .before .before .before .if1 .taken)) (c .before .before .record-at .ensures) (c .if2 .left)
+    good-next (a .lim) (l .low) (drop (l .at) (a .page .now)) (c .before .before .record-size .result) (sym (c .before .before .before .before .before .is-end .ensures) ∙ not-true _ (c .before .before .before .before .if1 .taken)) (c .before .before .record-size .ensures) (c .if2 .left)
 
 loop-holds : tie.Need-loop-holds Inv-loop μ-loop
 unfolding isGood
@@ -31,17 +31,17 @@ loop-holds c = (omega arith, (refl, refl))
 is-end-requires : tie.Need-is-end-requires Inv-loop μ-loop
 is-end-requires c κs = search needs
 
-slice-aggregate-record-at : tie.Need-slice-aggregate-record-at Inv-loop μ-loop
-slice-aggregate-record-at c = sym (c .before .before .before .loop .inv .1 .0)
+slice-aggregate-record-size : tie.Need-slice-aggregate-record-size Inv-loop μ-loop
+slice-aggregate-record-size c = sym (c .before .before .before .loop .inv .1 .0)
 
-record-at-requires : tie.Need-record-at-requires Inv-loop μ-loop
-record-at-requires c κs = (c .before .before .before .loop .inv .0, omega arith)
+record-size-requires : tie.Need-record-size-requires Inv-loop μ-loop
+record-size-requires c κs = (c .before .before .before .loop .inv .0, omega arith)
 
 returns : tie.Need-returns Inv-loop μ-loop
 returns c =
     let a = c .before .before .before .before .before .before .before .before .args in
     let l = c .before .before .before .before .before .before .loop in
-    sym (sym (l .inv .1 .1) ∙ good-none (a .lim) (l .low) (drop (l .at) (a .page .now)) (sym (c .before .before .before .before .before .is-end .ensures) ∙ not-true _ (c .before .before .before .before .if1 .taken)) (omega (arith, c .before .before .record-at .ensures)))
+    sym (sym (l .inv .1 .1) ∙ good-none (a .lim) (l .low) (drop (l .at) (a .page .now)) (sym (c .before .before .before .before .before .is-end .ensures) ∙ not-true _ (c .before .before .before .before .if1 .taken)) (omega (arith, c .before .before .record-size .ensures)))
 
 line-at-requires : tie.Need-line-at-requires Inv-loop μ-loop
 line-at-requires c κs = search needs
@@ -62,7 +62,7 @@ loop-again : tie.Need-loop-again Inv-loop μ-loop
 loop-again c =
     let a = c .before .before .before .before .before .before .before .before .before .args in
     let l = c .before .before .before .before .before .before .before .loop in
-    let n = c .before .before .before .record-at .result in
+    let n = c .before .before .before .record-size .result in
     let t = turn (c .before) in
     let d = length-drop (l .at) (a .page .now) in
     let e : c .line-at .result + 1 ≡ suc (lineAt (drop (l .at) (a .page .now))) = omega (arith, c .line-at .ensures) in (
@@ -87,8 +87,8 @@ is-good-spec =
     μ-loop
     loop-holds
     is-end-requires
-    slice-aggregate-record-at
-    record-at-requires
+    slice-aggregate-record-size
+    record-size-requires
     returns
     line-at-requires
     cast-low

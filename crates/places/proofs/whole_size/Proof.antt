@@ -1,12 +1,12 @@
--- `whole_at` meets its contract: the length byte, what is left of the page, and the CR. Assumes nothing.
+-- `whole_size` meets its contract: the length byte, what is left of the page, and the CR. Assumes nothing.
 use Prim.Native.Nat.{_+_}
 use mathlib.Core.Path.{sym, _∙_}
 use native.Mathlib.Omega.{arith}
 use lib.ListN.{length, drop, length-drop}
 use borrow.Author.Needs.{needs}
 use Rattle.places.proofs.Checks.{byte-length, byte-last, whole-short, whole-small, whole-cut, whole-open, whole-yes}
-use Rattle.places.proofs.whole_at.Statement.{statement}
-use Rattle.places.proofs.whole_at.Tie as tie
+use Rattle.places.proofs.whole_size.Statement.{statement}
+use Rattle.places.proofs.whole_size.Tie as tie
 
 sub-left : tie.Need-sub-left
 sub-left c = search needs
@@ -53,8 +53,8 @@ returns-5 c =
     let e = byte-last (a .page .now) (a .at) (omega (arith, c .before .before .before .if2 .left)) in
     sym (whole-yes q (omega (arith, c .before .before .before .if2 .left)) (omega (arith, c .before .before .if3 .left)) (e ∙ c .if4 .left) ∙ l)
 
-pub whole-at-spec : {M : Type 1} → statement M
-whole-at-spec =
+pub whole-size-spec : {M : Type 1} → statement M
+whole-size-spec =
     tie.close
     (tie.spec
     sub-left

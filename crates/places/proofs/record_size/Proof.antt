@@ -1,4 +1,4 @@
--- `record_at` meets its contract: a whole record, whose text is the part that is read. Assumes nothing.
+-- `record_size` meets its contract: a whole record, whose text is the part that is read. Assumes nothing.
 use Prim.Native.Nat.{ℕ, _+_, _-_, _≤_}
 use mathlib.Core.List.{List}
 use mathlib.Core.Path.{_≡_, sym, _∙_}
@@ -10,8 +10,8 @@ use Rattle.nibl.specs.Page.{lineAt, lengthAt, textAt, isStorable}
 use Rattle.nibl.specs.Bytes.{if_then_else_}
 use Rattle.places.specs.Whole.{recordSize}
 use Rattle.places.proofs.Checks.{byte-length, Found, whole-found, text-is, record-open, record-below, record-above, record-text}
-use Rattle.places.proofs.record_at.Statement.{statement}
-use Rattle.places.proofs.record_at.Tie as tie
+use Rattle.places.proofs.record_size.Statement.{statement}
+use Rattle.places.proofs.record_size.Tie as tie
 
 -- a whole record stands here, of so many bytes
 record There (p : List ℕ) (at size : ℕ) : Type 0 where
@@ -21,11 +21,11 @@ record There (p : List ℕ) (at size : ℕ) : Type 0 where
   most : size ≤ 255
   inside : at + size ≤ length p
 
-there : (c : tie.Else3) → There (c .before .before .before .before .before .before .before .args .page .now) (c .before .before .before .before .before .before .before .args .at) (c .before .before .before .before .whole-at .result)
+there : (c : tie.Else3) → There (c .before .before .before .before .before .before .before .args .page .now) (c .before .before .before .before .before .before .before .args .at) (c .before .before .before .before .whole-size .result)
 there c =
     let a = c .before .before .before .before .before .before .before .args in
     let q = drop (a .at) (a .page .now) in
-    let w = c .before .before .before .before .whole-at in
+    let w = c .before .before .before .before .whole-size in
     let f = whole-found q (omega (arith, w .ensures)) in
     let l = byte-length (a .page .now) (a .at) in
     let d = length-drop (a .at) (a .page .now) in
@@ -34,22 +34,22 @@ there c =
     record { found = f; is = e; least = omega arith; most = omega arith; inside = omega arith }
 
 -- what the answer about its text says of it
-said : (c : tie.After-is-storable) → let a = c .before .before .before .before .before .before .before .before .before .before .args in recordSize (a .lim) (a .low) (drop (a .at) (a .page .now)) ≡ (if c .is-storable .result then c .before .before .before .before .before .before .before .whole-at .result else 0)
+said : (c : tie.After-is-storable) → let a = c .before .before .before .before .before .before .before .before .before .before .args in recordSize (a .lim) (a .low) (drop (a .at) (a .page .now)) ≡ (if c .is-storable .result then c .before .before .before .before .before .before .before .whole-size .result else 0)
 said c =
     let a = c .before .before .before .before .before .before .before .before .before .before .args in
     let q = drop (a .at) (a .page .now) in
     let k = there (c .before .before .before) in
-    let n : ℕ = c .before .before .before .before .before .before .before .whole-at .result - 4 in
+    let n : ℕ = c .before .before .before .before .before .before .before .whole-size .result - 4 in
     let line : c .before .before .before .before .before .line-at .result ≡ lineAt q = c .before .before .before .before .before .line-at .ensures in
     let e : c .is-storable .result ≡ isStorable (a .lim) (lineAt q) (textAt q) =
     c .is-storable .ensures ∙ (λ i. isStorable (a .lim) (line i) (text-is (a .page .now) (a .at) n (omega arith) i)) in
     record-text q (a .lim) (a .low) (k .found) (omega arith) (omega arith) ∙ (λ i. if sym e i then sym (k .is) i else 0)
 
-whole-at-requires : tie.Need-whole-at-requires
-whole-at-requires c κs = search needs
+whole-size-requires : tie.Need-whole-size-requires
+whole-size-requires c κs = search needs
 
 returns : tie.Need-returns
-returns c = let a = c .before .before .before .before .args in sym (record-open (drop (a .at) (a .page .now)) (a .lim) (a .low) (omega (arith, c .before .whole-at .ensures)))
+returns c = let a = c .before .before .before .before .args in sym (record-open (drop (a .at) (a .page .now)) (a .lim) (a .low) (omega (arith, c .before .whole-size .ensures)))
 
 line-at-requires : tie.Need-line-at-requires
 line-at-requires c κs = search needs
@@ -94,7 +94,7 @@ is-storable-requires : tie.Need-is-storable-requires
 is-storable-requires c κs =
     let k = there (c .before .before) in
     let a = c .before .before .before .before .before .before .before .before .before .args in
-    let n : ℕ = c .before .before .before .before .before .before .whole-at .result - 4 in
+    let n : ℕ = c .before .before .before .before .before .before .whole-size .result - 4 in
     let l : length (take (a .at + 3 + n - (a .at + 3)) (drop (a .at + 3) (a .page .now))) ≡ n =
     length-take-le (a .at + 3 + n - (a .at + 3)) (drop (a .at + 3) (a .page .now)) (omega (arith, length-drop (a .at + 3) (a .page .now))) ∙ omega arith in
     record { room = omega (arith, length-take-le n (a .ops .now) (omega arith)); short = omega arith }
@@ -111,11 +111,11 @@ same-length-2 c = search needs
 returns-5 : tie.Need-returns-5
 returns-5 c = sym (said (c .before .before .before) ∙ rw (c .if4 .left))
 
-pub record-at-spec : {M : Type 1} → statement M
-record-at-spec =
+pub record-size-spec : {M : Type 1} → statement M
+record-size-spec =
     tie.close
     (tie.spec
-    whole-at-requires
+    whole-size-requires
     returns
     line-at-requires
     cast-if2
