@@ -53,8 +53,8 @@ after-stops : (b : Bool) (q : ℕ) (w : World) → StopsWith (done (if b then st
 after-stops true q w = stopped refl
 after-stops false q w = jumped
 
-pub does-stops : {e : Env} {vs : List ℕ} {w : World} {d : Done} → Does e vs w d → StopsWith d
-does-stops (writes bs h d) = does-stops d
+pub does-stops : {e : Env} {vs : List ℕ} {W : List ℕ → Type 0} {w : World} {d : Done} → Does e vs W w d → StopsWith d
+does-stops (writes bs i h d) = does-stops d
 does-stops (takes g h d) = does-stops d
 does-stops (refuses h) = refusal-stops h
 does-stops passes = goes
