@@ -1,6 +1,6 @@
 -- PRINT works item by item and LIST line by line: a 17 leaves exactly what came before the item that does not fit. Assumes nothing.
-use Prim.Native.Nat.{ℕ, _+_, _≤_, _<_}
-use mathlib.Core.Path.{_≡_, refl, ap}
+use Prim.Native.Nat.{ℕ, _+_}
+use mathlib.Core.Path.{_≡_, refl}
 use mathlib.Core.Bool.{Bool, true, false}
 use mathlib.Core.List.{List, [], _∷_}
 use lib.ListN.{length}
@@ -9,7 +9,7 @@ use borrow.Author.Tests.{leb-true, leb-false}
 use Rattle.nibl.specs.Bytes.{if_then_else_}
 use Rattle.nibl.specs.Tree.{Item, text, stored, value, print}
 use Rattle.nibl.specs.Values.{Result, is, no, Value, printed}
-use Rattle.nibl.specs.Page.{Stored, recordsOf}
+use Rattle.nibl.specs.Page.{Stored}
 use Rattle.nibl.specs.Meaning.{World, Env, on, skip, go, stop, Done, done, bind, given, went, eval, put, putItem, putItems, putEnd, exec}
 use Rattle.nibl.specs.Calls.{listed, listFrom}
 use Rattle.demands.specs.Items.{itemBytes, wroteItem, Room, NoRoom, Prints, writes, refused, noRoom, noEnd, end, noRoomForEnd, ListsLines, over, below, listsLine, noRoomForLine}

@@ -6,7 +6,7 @@ use Rattle.nibl.specs.Tree.{Stmt, blank, clear, list, immediate}
 use Rattle.nibl.specs.Page.{recordsOf}
 use Rattle.nibl.specs.Readings.{LineReading}
 use Rattle.nibl.specs.Typing.{Gathered}
-use Rattle.nibl.specs.Meaning.{World, Next, on, skip, stop, Done, done, exec}
+use Rattle.nibl.specs.Meaning.{World, Next, on, skip, stop, done, exec}
 use Rattle.nibl.specs.Calls.{Lent, stops, begun, envOf, listFrom, immediately, needsProgram, obey, takeLine, limit}
 use Rattle.nibl.proofs.Whole.{typed-complete}
 use Rattle.demands.specs.Leaves.{lineTaken, lineCleared}
