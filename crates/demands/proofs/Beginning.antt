@@ -1,13 +1,12 @@
 -- Where a run begins: "RUN does CLEAR and starts at the first line", an immediate statement goes where it goes, and continue goes on where a run was
 -- paused. Assumes nothing.
-use Prim.Native.Nat.{ℕ, suc}
-use mathlib.Core.Path.{_≡_, refl, sym, ap, _∙_}
-use mathlib.Core.Option.{Option, none, some}
-use native.Mathlib.Nat.{add-zero}
+use Prim.Native.Nat.{ℕ}
+use mathlib.Core.Path.{_≡_, refl, ap, _∙_}
+use mathlib.Core.Option.{none, some}
 use Rattle.nibl.specs.Tree.{run, immediate}
 use Rattle.nibl.specs.Typing.{Gathered}
-use Rattle.nibl.specs.Meaning.{World, Done, withSession}
-use Rattle.nibl.specs.Calls.{Lent, Outcome, Ran, runFrom, textFrom, withPaused, pausedAt, ended, stops, firstRefusal, begun, envOf, immediately, needsProgram, obey, takeLine, continueFrom, continueRun, limit}
+use Rattle.nibl.specs.Meaning.{World, withSession}
+use Rattle.nibl.specs.Calls.{Lent, Outcome, Ran, runFrom, textFrom, withPaused, pausedAt, ended, stops, firstRefusal, begun, envOf, immediately, obey, takeLine, continueFrom, continueRun, limit}
 use Rattle.nibl.specs.declared.Paused.{Paused}
 use Rattle.nibl.specs.declared.Paused.the-variants.{Nowhere, Start, At}
 use Rattle.nibl.proofs.Whole.{typed-complete}

@@ -2,7 +2,7 @@
 use Prim.Native.Nat.{ℕ, zero, suc, _+_, _-_, _≤_, suc-le-suc}
 use mathlib.Core.Path.{_≡_, refl, _∙_, ap, sym}
 use mathlib.Core.Bool.{Bool, true, false, _||_}
-use mathlib.Core.List.{List, [], _∷_, _++_}
+use mathlib.Core.List.{List, _∷_, _++_}
 use mathlib.Core.Option.{Option, none, some}
 use native.Mathlib.Nat.{zero-add, suc-add}
 use native.Mathlib.Omega.{arith}
@@ -13,11 +13,11 @@ use Rattle.nibl.specs.Bytes.{if_then_else_}
 use Rattle.nibl.specs.Tree.{Member, Stmt}
 use Rattle.nibl.specs.Read.{Found, nothing, found, member}
 use Rattle.nibl.specs.Page.{isAmong, mark, lineOf}
-use Rattle.nibl.specs.Meaning.{World, Env, Next, on, skip, go, stop, Done, done, after, exec}
-use Rattle.nibl.specs.Calls.{Ran, ran, stepped, textFrom, lineFrom, envAt, onward, step, runFrom}
+use Rattle.nibl.specs.Meaning.{World, Env, on, skip, go, stop, Done, done, exec}
+use Rattle.nibl.specs.Calls.{Ran, stepped, textFrom, lineFrom, envAt, onward, step, runFrom}
 use Rattle.demands.specs.Effects.{refusals, Gives, gave, refused, gives, Does, writes, takes, refuses, passes, skips, assigns, assignsFlags, stores, goesTo, saves, returns, loops, repeats, leaves, begins, again, finishes, inputs}
 use Rattle.demands.proofs.Effects.{exec-does}
-use Rattle.demands.proofs.Runs.{run-none, run-zero, run-suc, oneStep, endOf, crOf, onward-law, every-run}
+use Rattle.demands.proofs.Runs.{run-none, run-zero, run-suc, endOf, crOf, onward-law, every-run}
 
 -- a run that went on where the first paused
 abbrev pub joined : Ran → (ℕ → World → Ran) → Ran
@@ -53,8 +53,8 @@ after-stops : (b : Bool) (q : ℕ) (w : World) → StopsWith (done (if b then st
 after-stops true q w = stopped refl
 after-stops false q w = jumped
 
-pub does-stops : {e : Env} {vs : List ℕ} {w : World} {d : Done} → Does e vs w d → StopsWith d
-does-stops (writes bs h d) = does-stops d
+pub does-stops : {e : Env} {vs : List ℕ} {W : List ℕ → Type 0} {w : World} {d : Done} → Does e vs W w d → StopsWith d
+does-stops (writes bs i h d) = does-stops d
 does-stops (takes g h d) = does-stops d
 does-stops (refuses h) = refusal-stops h
 does-stops passes = goes

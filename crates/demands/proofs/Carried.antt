@@ -33,8 +33,8 @@ module _ (input : List ℕ) where
   gives-placed (refused h) p = p
   gives-placed (gives v x g) p = gives-placed g (other-record _ p)
 
-  pub does-placed : {e : Env} {vs : List ℕ} {w : World} {d : Done} → e .input ≡ input → Does e vs w d → Placed input w → Placed input (worldAfter d)
-  does-placed i (writes {w = w} bs h d) p =
+  pub does-placed : {e : Env} {vs : List ℕ} {W : List ℕ → Type 0} {w : World} {d : Done} → e .input ≡ input → Does e vs W w d → Placed input w → Placed input (worldAfter d)
+  does-placed i (writes {w = w} bs n h d) p =
       does-placed i d (record { inside = p .inside; room = omega (arith, length-sets (w .output) (w .outpos) bs) })
   does-placed {e = e} i (takes {w = w} g h d) p =
       does-placed i d (record { inside = gathered-inside (e .lim) input (w .inpos) g (p .inside) (rw i at h); room = p .room })

@@ -1,6 +1,6 @@
 -- A statement does nothing but what the list of effects has. Assumes nothing.
-use Prim.Native.Nat.{ℕ, zero, suc, _+_, _-_, _%_, _≤_, _<_}
-use mathlib.Core.Path.{_≡_, refl, sym, subst, _∙_, ap}
+use Prim.Native.Nat.{ℕ, _+_, _≤_}
+use mathlib.Core.Path.{_≡_, refl, ap}
 use mathlib.Core.Bool.{Bool, true, false, not, _||_}
 use mathlib.Core.List.{List, [], _∷_, _++_}
 use mathlib.Core.Option.{Option, none, some}
@@ -17,15 +17,15 @@ use Rattle.nibl.specs.Tree.{Stmt, letVar, letStat, letByte, letCopy, letText, g
 use Rattle.nibl.specs.Read.{replied}
 use Rattle.nibl.specs.Values.{Result, is, no, Value, apply, mod16, quotient16, remainder16, printed}
 use Rattle.nibl.specs.Stack.{pushOf, popOf, pushFor, popFor}
-use Rattle.nibl.specs.Typing.{Kept, Gathered, gather}
+use Rattle.nibl.specs.Typing.{Gathered, gather}
 use Rattle.nibl.specs.Page.{Stored, isAmong, find}
-use Rattle.nibl.specs.Meaning.{World, Env, Next, on, skip, go, stop, Done, done, withVar, withSession, withInpos, withOutput, bind, given, went, byteOf, stringAt, storeAt, eval, put, putItem, putItems, putEnd, keepIn, lineThere, place, gosubTo, returnBy, doHere, untilBy, forHere, goesOn, nextBy, gathered, asked, assign, assignReply, exec}
+use Rattle.nibl.specs.Meaning.{World, Env, on, skip, go, stop, Done, done, withVar, withSession, withInpos, withOutput, bind, given, went, byteOf, stringAt, storeAt, eval, put, putItem, putItems, putEnd, keepIn, lineThere, place, gosubTo, returnBy, doHere, untilBy, forHere, goesOn, nextBy, gathered, asked, assign, assignReply, exec}
 use Rattle.nibl.specs.Calls.{listed, listFrom}
-use Rattle.nibl.specs.declared.ForEntry.{ForEntry}
 use Rattle.nibl.specs.declared.Top.{Top}
 use Rattle.nibl.specs.declared.Top.the-variants as top
 use Rattle.nibl.specs.declared.TopFor.{TopFor}
 use Rattle.nibl.specs.declared.TopFor.the-variants as topf
+use Rattle.demands.specs.Items.{In, first, further, itemBytes, ItemOf, ofPrint, endOfPrint, ofInput, ofInputText, ofIf, ListItem, ofRecord}
 use Rattle.demands.specs.Effects.{refusals, forVars, Gives, gave, refused, gives, Does, writes, takes, refuses, passes, skips, assigns, assignsFlags, stores, goesTo, saves, returns, loops, repeats, leaves, begins, again, finishes, inputs}
 
 abbrev pub allIn : List ℕ → List ℕ → Bool
@@ -102,68 +102,72 @@ eval-known e w (negate a) = bind-known (eval e w a) _ (eval-known e w a) (λ x. 
 eval-known e w (modulo a b) = bind-known (eval e w a) _ (eval-known e w a) (λ x. bind-known (eval e w b) _ (eval-known e w b) (mod-known x))
 eval-known e w (two o a b) = bind-known (eval e w a) _ (eval-known e w a) (λ x. bind-known (eval e w b) _ (eval-known e w b) (apply-known o x))
 
-module _ (e : Env) (vs : List ℕ) where
+pub went-went : (d : Done) (k j : World → Done) → went (went d k) j ≡ went d (λ w. went (k w) j)
+went-went (done on w) k j = refl
+went-went (done skip w) k j = refl
+went-went (done (go q) w) k j = refl
+went-went (done (stop n) w) k j = refl
+
+pub given-went : {A : Type 0} (r : Result A) (w : World) (k : A → Done) (j : World → Done) → went (given r w k) j ≡ given r w (λ a. went (k a) j)
+given-went (is a) w k j = refl
+given-went (no n) w k j = refl
+
+pub store-known : (m : List ℕ) (a : ℕ) (bs : List ℕ) → Known (storeAt m a bs)
+unfolding storeAt
+store-known m a bs = choice-known (leb (a + length bs) (length m)) (is _) (no 16) given′ (refused′ refl)
+
+pub line-known : (o : Option ℕ) → Known (lineThere o)
+line-known none = refused′ refl
+line-known (some q) = given′
+
+module _ (e : Env) (vs : List ℕ) (W : List ℕ → Type 0) where
   module _ {A : Type 0} where
     -- what follows a value that is there
-    given-does : (r : Result A) (w : World) (k : A → Done) → Known r → ((a : A) → r ≡ is a → Does e vs w (k a)) → Does e vs w (given r w k)
+    given-does : (r : Result A) (w : World) (k : A → Done) → Known r → ((a : A) → r ≡ is a → Does e vs W w (k a)) → Does e vs W w (given r w k)
     given-does (is a) w k h f = f a refl
     given-does (no n) w k (refused′ h) f = refuses (value-refusal n h)
 
   -- an item, and what follows it
-  put-does : (bs : List ℕ) (w : World) (k : World → Done) → ((u : World) → Does e vs u (k u)) → Does e vs w (went (put bs w) k)
+  put-does : (bs : List ℕ) → W bs → (w : World) (k : World → Done) → ((u : World) → Does e vs W u (k u)) → Does e vs W w (went (put bs w) k)
   unfolding put
-  put-does bs w k f = go (leb (w .outpos + length bs) (length (w .output))) refl where
+  put-does bs i w k f = go (leb (w .outpos + length bs) (length (w .output))) refl where
     u : World
     u = withOutput w (sets (w .output) (w .outpos) bs) (w .outpos + length bs)
 
-    go : (b : Bool) → leb (w .outpos + length bs) (length (w .output)) ≡ b → Does e vs w (went (if b then done on u else done (stop 17) w) k)
-    go true h = writes bs (leb-true _ _ h) (f u)
+    go : (b : Bool) → leb (w .outpos + length bs) (length (w .output)) ≡ b → Does e vs W w (went (if b then done on u else done (stop 17) w) k)
+    go true h = writes bs i (leb-true _ _ h) (f u)
     go false h = refuses refl
 
-  put-last : (bs : List ℕ) (w : World) → Does e vs w (put bs w)
+  put-last : (bs : List ℕ) → W bs → (w : World) → Does e vs W w (put bs w)
   unfolding put
-  put-last bs w = go (leb (w .outpos + length bs) (length (w .output))) refl where
+  put-last bs i w = go (leb (w .outpos + length bs) (length (w .output))) refl where
     u : World
     u = withOutput w (sets (w .output) (w .outpos) bs) (w .outpos + length bs)
 
-    go : (b : Bool) → leb (w .outpos + length bs) (length (w .output)) ≡ b → Does e vs w (if b then done on u else done (stop 17) w)
-    go true h = writes bs (leb-true _ _ h) passes
+    go : (b : Bool) → leb (w .outpos + length bs) (length (w .output)) ≡ b → Does e vs W w (if b then done on u else done (stop 17) w)
+    go true h = writes bs i (leb-true _ _ h) passes
     go false h = refuses refl
 
-  pub went-went : (d : Done) (k j : World → Done) → went (went d k) j ≡ went d (λ w. went (k w) j)
-  went-went (done on w) k j = refl
-  went-went (done skip w) k j = refl
-  went-went (done (go q) w) k j = refl
-  went-went (done (stop n) w) k j = refl
-
-  pub given-went : {A : Type 0} (r : Result A) (w : World) (k : A → Done) (j : World → Done) → went (given r w k) j ≡ given r w (λ a. went (k a) j)
-  given-went (is a) w k j = refl
-  given-went (no n) w k j = refl
-
-  item-does : (i : Item) (w : World) (k : World → Done) → ((u : World) → Does e vs u (k u)) → Does e vs w (went (putItem e i w) k)
+  item-does : (i : Item) (w : World) → ((bs : List ℕ) → itemBytes e w i ≡ is bs → W bs) → (k : World → Done) → ((u : World) → Does e vs W u (k u)) → Does e vs W w (went (putItem e i w) k)
   unfolding putItem
-  item-does (text bs) w k f = put-does bs w k f
-  item-does (stored a) w k f =
+  item-does (text bs) w n k f = put-does bs (n bs refl) w k f
+  item-does (stored a) w n k f =
       rw (given-went (bind (eval e w a) (stringAt (w .memory))) w (λ bs. put bs w) k)
-      (given-does _ w _ (bind-known (eval e w a) _ (eval-known e w a) (string-known (w .memory))) (λ bs h. put-does bs w k f))
-  item-does (value a) w k f = rw (given-went (eval e w a) w (λ x. put (printed x) w) k) (given-does _ w _ (eval-known e w a) (λ x h. put-does (printed x) w k f))
+      (given-does _ w _ (bind-known (eval e w a) _ (eval-known e w a) (string-known (w .memory))) (λ bs h. put-does bs (n bs h) w k f))
+  item-does (value a) w n k f = rw (given-went (eval e w a) w (λ x. put (printed x) w) k) (given-does _ w _ (eval-known e w a) (λ x h. put-does (printed x) (n (printed x) (ap (λ r. bind r (λ y. is (printed y))) h)) w k f))
 
-  items-do : (is′ : List Item) (w : World) (k : World → Done) → ((u : World) → Does e vs u (k u)) → Does e vs w (went (putItems e is′ w) k)
+  items-do : (is′ : List Item) → ((i : Item) → In i is′ → (u : World) (bs : List ℕ) → itemBytes e u i ≡ is bs → W bs) → (w : World) (k : World → Done) → ((u : World) → Does e vs W u (k u)) → Does e vs W w (went (putItems e is′ w) k)
   unfolding putItems
-  items-do [] w k f = f w
-  items-do (i ∷ is′) w k f = rw (went-went (putItem e i w) (putItems e is′) k) (item-does i w (λ u. went (putItems e is′ u) k) (λ u. items-do is′ u k f))
+  items-do [] n w k f = f w
+  items-do (i ∷ is′) n w k f = rw (went-went (putItem e i w) (putItems e is′) k) (item-does i w (n i first w) (λ u. went (putItems e is′ u) k) (λ u. items-do is′ (λ j m. n j (further m)) u k f))
 
-  end-does : (b : Bool) (w : World) → Does e vs w (putEnd b w)
-  end-does true w = passes
-  end-does false w = put-last (13 ∷ 10 ∷ []) w
+  end-does : (b : Bool) → (b ≡ false → W (13 ∷ 10 ∷ [])) → (w : World) → Does e vs W w (putEnd b w)
+  end-does true n w = passes
+  end-does false n w = put-last (13 ∷ 10 ∷ []) (n refl) w
 
-  keep-does : (w : World) (r : Result (List ℕ)) → Known r → ((m : List ℕ) → r ≡ is m → length m ≡ length (w .memory)) → Does e vs w (keepIn w r)
+  keep-does : (w : World) (r : Result (List ℕ)) → Known r → ((m : List ℕ) → r ≡ is m → length m ≡ length (w .memory)) → Does e vs W w (keepIn w r)
   unfolding keepIn
   keep-does w r h f = given-does r w _ h (λ m g. stores m (f m g))
-
-  pub store-known : (m : List ℕ) (a : ℕ) (bs : List ℕ) → Known (storeAt m a bs)
-  unfolding storeAt
-  store-known m a bs = choice-known (leb (a + length bs) (length m)) (is _) (no 16) given′ (refused′ refl)
 
   kept-length : (m : List ℕ) (a : ℕ) (bs : List ℕ) (l : List ℕ) → storeAt m a bs ≡ is l → length l ≡ length m
   unfolding storeAt
@@ -176,48 +180,44 @@ module _ (e : Env) (vs : List ℕ) where
   copy-length m (is bs) a l h = kept-length m a (bs ++ (13 ∷ [])) l h
   copy-length m (no n) a l h = let z : _≡_ {A = ℕ} 0 1 = cc in absurd (omega arith)
 
-  pub line-known : (o : Option ℕ) → Known (lineThere o)
-  line-known none = refused′ refl
-  line-known (some q) = given′
-
   line-there : (o : Option ℕ) (q : ℕ) → lineThere o ≡ is q → o ≡ some q
   line-there none q h = let z : _≡_ {A = ℕ} 0 1 = cc in absurd (omega arith)
   line-there (some p) q h = let g : p ≡ q = cc in ap some g
 
   -- to a line that is there
-  to-line : (r : Value) (w : World) (k : ℕ → Done) → Known r → ((n q : ℕ) → find (e .page) n ≡ some q → Does e vs w (k q))
-      → Does e vs w (given (bind r (λ n. lineThere (find (e .page) n))) w k)
+  to-line : (r : Value) (w : World) (k : ℕ → Done) → Known r → ((n q : ℕ) → find (e .page) n ≡ some q → Does e vs W w (k q))
+      → Does e vs W w (given (bind r (λ n. lineThere (find (e .page) n))) w k)
   to-line (is n) w k h f = given-does _ w k (line-known (find (e .page) n)) (λ q g. f n q (line-there (find (e .page) n) q g))
   to-line (no n) w k (refused′ h) f = refuses (value-refusal n h)
 
-  choice-does : (b : Bool) (w : World) (d f : Done) → (b ≡ true → Does e vs w d) → (b ≡ false → Does e vs w f) → Does e vs w (if b then d else f)
+  choice-does : (b : Bool) (w : World) (d f : Done) → (b ≡ true → Does e vs W w d) → (b ≡ false → Does e vs W w f) → Does e vs W w (if b then d else f)
   choice-does true w d f h g = h refl
   choice-does false w d f h g = g refl
 
-  gosub-does : (w : World) (n q : ℕ) → find (e .page) n ≡ some q → Does e vs w (gosubTo e w q)
+  gosub-does : (w : World) (n q : ℕ) → find (e .page) n ≡ some q → Does e vs W w (gosubTo e w q)
   unfolding gosubTo
   gosub-does w n q h = choice-does (pushOf (w .session .gosubs) (place (e .here)) .ok) w _ _ (saves n h) (λ g. refuses refl)
 
-  return-does : (w : World) (t : Top) → popOf (w .session .gosubs) .top ≡ t → Does e vs w (returnBy w t)
+  return-does : (w : World) (t : Top) → popOf (w .session .gosubs) .top ≡ t → Does e vs W w (returnBy w t)
   unfolding returnBy
   return-does w top.Empty h = refuses refl
   return-does w (top.At p) h = returns p h
 
-  do-does : (w : World) → Does e vs w (doHere e w)
+  do-does : (w : World) → Does e vs W w (doHere e w)
   unfolding doHere
   do-does w = choice-does (pushOf (w .session .dos) (place (e .here)) .ok) w _ _ loops (λ g. refuses refl)
 
-  until-does : (w : World) (x : ℕ) (t : Top) → popOf (w .session .dos) .top ≡ t → Does e vs w (untilBy w x t)
+  until-does : (w : World) (x : ℕ) (t : Top) → popOf (w .session .dos) .top ≡ t → Does e vs W w (untilBy w x t)
   unfolding untilBy
   until-does w x top.Empty h = refuses refl
   until-does w x (top.At p) h = choice-does (eqb x 0) w _ _ (λ g. repeats p h) (λ g. leaves p h)
 
-  for-does : (w : World) (v x y z : ℕ) → isAmong vs v ≡ true → Does e vs w (forHere e w v x y z)
+  for-does : (w : World) (v x y z : ℕ) → isAmong vs v ≡ true → Does e vs W w (forHere e w v x y z)
   unfolding forHere
   for-does w v x y z l =
       choice-does (pushFor (w .session .fors) (record { var = v; limit = y; step = z; place = place (e .here) }) .ok) w _ _ (begins v x y z l) (λ g. refuses refl)
 
-  next-does : (w : World) (v : ℕ) (t : TopFor) → popFor (w .session .fors) .top ≡ t → Does e vs w (nextBy w v t)
+  next-does : (w : World) (v : ℕ) (t : TopFor) → popFor (w .session .fors) .top ≡ t → Does e vs W w (nextBy w v t)
   unfolding nextBy
   next-does w v topf.Empty h = refuses refl
   next-does w v (topf.Entry f) h =
@@ -225,20 +225,20 @@ module _ (e : Env) (vs : List ℕ) where
 
   -- a line is asked for, and taken unless there is none
   gathered-does : (w : World) (o : Option Gathered) (k : World → List ℕ → Done) → gather (e .lim) (drop (w .inpos) (e .input)) ≡ o
-      → ((u : World) (bs : List ℕ) → Does e vs u (k u bs)) → Does e vs w (gathered w o k)
+      → ((u : World) (bs : List ℕ) → Does e vs W u (k u bs)) → Does e vs W w (gathered w o k)
   unfolding gathered
   gathered-does w none k h f = refuses refl
   gathered-does w (some g) k h f = takes g h (by (g .line .long)) where
     u : World
     u = withInpos w (w .inpos + g .taken)
 
-    by : (b : Bool) → Does e vs u (elim b [ true ↦ done (stop 6) u | false ↦ k u (g .line .bytes) ])
+    by : (b : Bool) → Does e vs W u (elim b [ true ↦ done (stop 6) u | false ↦ k u (g .line .bytes) ])
     by true = refuses refl
     by false = f u (g .line .bytes)
 
-  asked-does : (w : World) (k : World → List ℕ → Done) → ((u : World) (bs : List ℕ) → Does e vs u (k u bs)) → Does e vs w (asked e w k)
+  asked-does : W (bytes "?") → (w : World) (k : World → List ℕ → Done) → ((u : World) (bs : List ℕ) → Does e vs W u (k u bs)) → Does e vs W w (asked e w k)
   unfolding asked
-  asked-does w k f = put-does (bytes "?") w _ (λ u. gathered-does u (gather (e .lim) (drop (u .inpos) (e .input))) k refl f)
+  asked-does n w k f = put-does (bytes "?") n w _ (λ u. gathered-does u (gather (e .lim) (drop (u .inpos) (e .input))) k refl f)
 
   assign-gives : (us : List ℕ) (es : List Expr) (w : World) → Gives w (assign e us es w)
   unfolding assign
@@ -250,55 +250,58 @@ module _ (e : Env) (vs : List ℕ) where
     by f (is x) h = gives v x (f _)
     by f (no n) (refused′ h) = refused (value-refusal n h)
 
-  reply-does : (us : List ℕ) (w : World) (o : Option (List Expr)) → Does e vs w (assignReply e us w o)
+  reply-does : (us : List ℕ) (w : World) (o : Option (List Expr)) → Does e vs W w (assignReply e us w o)
   reply-does us w none = refuses refl
   reply-does us w (some es) = inputs (assign-gives us es w)
 
   among : (v : ℕ) → v ∷ [] ≡ vs → isAmong vs v ≡ true
   among v h = rw (← h) (rw (eq-eqb v v refl) refl)
 
-  exec-in : (q : Stmt) → forVars q ≡ vs → (w : World) → Does e vs w (exec e q w)
+  exec-in : (q : Stmt) → forVars q ≡ vs → ((bs : List ℕ) → ItemOf e q bs → W bs) → (w : World) → Does e vs W w (exec e q w)
   unfolding exec
-  exec-in (letVar v a) l w = given-does (eval e w a) w _ (eval-known e w a) (λ x h. assigns v x)
-  exec-in (letStat a) l w = given-does (eval e w a) w _ (eval-known e w a) (λ x h. assignsFlags x)
-  exec-in (letByte a b) l w =
+  exec-in (letVar v a) l n w = given-does (eval e w a) w _ (eval-known e w a) (λ x h. assigns v x)
+  exec-in (letStat a) l n w = given-does (eval e w a) w _ (eval-known e w a) (λ x h. assignsFlags x)
+  exec-in (letByte a b) l n w =
       given-does (eval e w a) w _ (eval-known e w a) (λ p h. given-does (eval e w b) w _ (eval-known e w b) (λ x g.
       keep-does w _ (store-known (w .memory) p _) (kept-length (w .memory) p _)))
-  exec-in (letCopy a b) l w =
+  exec-in (letCopy a b) l n w =
       given-does (eval e w a) w _ (eval-known e w a) (λ p h. given-does (eval e w b) w _ (eval-known e w b) (λ q g.
       keep-does w _ (bind-known (stringAt (w .memory) q) _ (string-known (w .memory) q) (λ bs. store-known (w .memory) p _)) (copy-length (w .memory) (stringAt (w .memory) q) p)))
-  exec-in (letText a bs) l w =
+  exec-in (letText a bs) l n w =
       given-does (eval e w a) w _ (eval-known e w a) (λ p h. keep-does w _ (store-known (w .memory) p _) (kept-length (w .memory) p _))
-  exec-in (goto a) l w = to-line (eval e w a) w _ (eval-known e w a) (λ n q h. goesTo n h)
-  exec-in (gosub a) l w = to-line (eval e w a) w _ (eval-known e w a) (gosub-does w)
-  exec-in (until a) l w = given-does (eval e w a) w _ (eval-known e w a) (λ x h. until-does w x _ refl)
-  exec-in return l w = return-does w _ refl
-  exec-in loop l w = do-does w
-  exec-in remark l w = passes
-  exec-in end l w = refuses refl
-  exec-in (print is′ b) l w = items-do is′ w _ (end-does b)
-  exec-in (ifThen a q) l w = given-does (eval e w a) w _ (eval-known e w a) (λ x h. by (exec-in q l w) (eqb x 0)) where
-    by : Does e vs w (exec e q w) → (b : Bool) → Does e vs w (elim b [ true ↦ done skip w | false ↦ exec e q w ])
+  exec-in (goto a) l n w = to-line (eval e w a) w _ (eval-known e w a) (λ n q h. goesTo n h)
+  exec-in (gosub a) l n w = to-line (eval e w a) w _ (eval-known e w a) (gosub-does w)
+  exec-in (until a) l n w = given-does (eval e w a) w _ (eval-known e w a) (λ x h. until-does w x _ refl)
+  exec-in return l n w = return-does w _ refl
+  exec-in loop l n w = do-does w
+  exec-in remark l n w = passes
+  exec-in end l n w = refuses refl
+  exec-in (print is′ b) l n w = items-do is′ (λ i m u bs h. n bs (ofPrint i u m h)) w _ (end-does b (λ h. n _ (endOfPrint h)))
+  exec-in (ifThen a q) l n w = given-does (eval e w a) w _ (eval-known e w a) (λ x h. by (exec-in q l (λ bs m. n bs (ofIf m)) w) (eqb x 0)) where
+    by : Does e vs W w (exec e q w) → (b : Bool) → Does e vs W w (elim b [ true ↦ done skip w | false ↦ exec e q w ])
     by f true = skips
     by f false = f
-  exec-in (for v a b c) l w =
+  exec-in (for v a b c) l n w =
       given-does (eval e w a) w _ (eval-known e w a) (λ x h. given-does (eval e w b) w _ (eval-known e w b) (λ y g.
       given-does (eval e w c) w _ (eval-known e w c) (λ z f. for-does w v x y z (among v l))))
-  exec-in (next v) l w = next-does w v _ refl
-  exec-in (input us) l w = asked-does w _ (λ u bs. reply-does us u (replied (length us) bs))
-  exec-in (inputText a) l w =
-      given-does (eval e w a) w _ (eval-known e w a) (λ p h. asked-does w _ (λ u bs. keep-does u _ (store-known (u .memory) p _) (kept-length (u .memory) p _)))
+  exec-in (next v) l n w = next-does w v _ refl
+  exec-in (input us) l n w = asked-does (n _ ofInput) w _ (λ u bs. reply-does us u (replied (length us) bs))
+  exec-in (inputText a) l n w =
+      given-does (eval e w a) w _ (eval-known e w a) (λ p h. asked-does (n _ ofInputText) w _ (λ u bs. keep-does u _ (store-known (u .memory) p _) (kept-length (u .memory) p _)))
 
--- LIST writes items
-pub list-does : (e : Env) (vs : List ℕ) (n : ℕ) (rs : List Stored) (w : World) → Does e vs w (listFrom n rs w)
+-- LIST writes its lines
+list-in : (e : Env) (vs : List ℕ) (W : List ℕ → Type 0) (n : ℕ) (rs : List Stored) → ((r : Stored) → In r rs → n ≤ r .line → W (listed r)) → (w : World) → Does e vs W w (listFrom n rs w)
 unfolding listFrom
-list-does e vs n [] w = passes
-list-does e vs n (r ∷ rs) w = by (λ u. list-does e vs n rs u) (leb n (r .line)) where
-  by : ((u : World) → Does e vs u (listFrom n rs u)) → (b : Bool)
-      → Does e vs w (elim b [ true ↦ went (put (listed r) w) (listFrom n rs) | false ↦ listFrom n rs w ])
-  by f true = put-does e vs (listed r) w (listFrom n rs) f
-  by f false = f w
+list-in e vs W n [] m w = passes
+list-in e vs W n (r ∷ rs) m w = by (λ u. list-in e vs W n rs (λ q i. m q (further i)) u) (leb n (r .line)) refl where
+  by : ((u : World) → Does e vs W u (listFrom n rs u)) → (b : Bool) → leb n (r .line) ≡ b
+      → Does e vs W w (elim b [ true ↦ went (put (listed r) w) (listFrom n rs) | false ↦ listFrom n rs w ])
+  by f true h = put-does e vs W (listed r) (m r first (leb-true _ _ h)) w (listFrom n rs) f
+  by f false h = f w
 
--- with the variable that its FOR names
-pub exec-does : (e : Env) (q : Stmt) (w : World) → Does e (forVars q) w (exec e q w)
-exec-does e q w = exec-in e (forVars q) q refl w
+pub list-does : (e : Env) (vs : List ℕ) (n : ℕ) (rs : List Stored) (w : World) → Does e vs (ListItem n rs) w (listFrom n rs w)
+list-does e vs n rs w = list-in e vs (ListItem n rs) n rs (λ r i h. ofRecord r i h) w
+
+-- with the variable that its FOR names, and the items that it may write
+pub exec-does : (e : Env) (q : Stmt) (w : World) → Does e (forVars q) (ItemOf e q) w (exec e q w)
+exec-does e q w = exec-in e (forVars q) (ItemOf e q) q refl (λ bs i. i) w

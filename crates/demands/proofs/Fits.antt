@@ -193,8 +193,8 @@ module _ (g d : Place → Bool) (f : ForEntry → Bool) (ps : List ℕ) where
 
   module _ (e : Env) (vs : List ℕ) (saved : g (place (e .here)) ≡ true) (looped : d (place (e .here)) ≡ true)
       (begun : (v l s : ℕ) → isAmong vs v ≡ true → f (record { var = v; limit = l; step = s; place = place (e .here) }) ≡ true) where
-    pub does-fits : {w : World} {r : Done} → Does e vs w r → Fits w → Fits (worldAfter r)
-    does-fits (writes bs l k) h = does-fits k h
+    pub does-fits : {W : List ℕ → Type 0} {w : World} {r : Done} → Does e vs W w r → Fits w → Fits (worldAfter r)
+    does-fits (writes bs i l k) h = does-fits k h
     does-fits (takes y l k) h = does-fits k h
     does-fits (refuses n) h = h
     does-fits passes h = h
@@ -238,8 +238,8 @@ module _ (lim : ℕ) (e : Env) (vs : List ℕ) (short : lim ≤ 251) (good : isG
     by true h = toEnd
     by false h = toPlace (or-cases (isAmong (placesOf (e .page)) (p .0)) false h (λ i. i) (λ i. absurd (false≢true i)))
 
-  pub does-goes : {w : World} {r : Done} → Does e vs w r → Fit (placesOf (e .page)) (w .session) → Goes (e .page) r
-  does-goes (writes bs l k) h = does-goes k h
+  pub does-goes : {W : List ℕ → Type 0} {w : World} {r : Done} → Does e vs W w r → Fit (placesOf (e .page)) (w .session) → Goes (e .page) r
+  does-goes (writes bs i l k) h = does-goes k h
   does-goes (takes y l k) h = does-goes k h
   does-goes (refuses n) h = toEnd
   does-goes passes h = toNext

@@ -1,10 +1,9 @@
 -- The first refusals are forced: "a length, position or budget outside the above" is 1, a bad page 18, a record that does not fit 19, and no CR left 7.
 -- Assumes nothing.
 use Prim.Native.Nat.{ℕ, suc}
-use mathlib.Core.Path.{_≡_, refl}
+use mathlib.Core.Path.{_≡_}
 use mathlib.Core.Bool.{true, false}
 use mathlib.Core.Option.{none}
-use Rattle.nibl.specs.Bytes.{if_then_else_}
 use Rattle.nibl.specs.Page.{isGood, fits}
 use Rattle.nibl.specs.Calls.{Lent, inRange, firstRefusal, takeLine, takeLineIn, continueRun, continueRunIn, limit}
 use Rattle.page.proofs.Walk.{by-cases}

@@ -1,14 +1,12 @@
 -- "14 exactly when the budget is spent and a statement is left to run", at any budget. Assumes nothing.
-use Prim.Native.Nat.{ℕ, suc, _-_, _≤_}
+use Prim.Native.Nat.{ℕ, _-_, _≤_}
 use mathlib.Core.Path.{_≡_, refl, sym, ap, _∙_}
-use mathlib.Core.Bool.{true, false}
 use mathlib.Core.Logic.{_↔_}
-use mathlib.Core.Option.{none, some}
 use native.Mathlib.Omega.{arith}
 use lib.Dec.{eqb}
 use borrow.Author.Tests.{eqb-true, eqb-false}
-use Rattle.nibl.specs.Meaning.{World, Env, Next, on, skip, go, stop}
-use Rattle.nibl.specs.Calls.{Lent, Outcome, runFrom, textFrom, firstRefusal, envOf, takeLine, continueRun, limit}
+use Rattle.nibl.specs.Meaning.{World, Env, Next, stop}
+use Rattle.nibl.specs.Calls.{Lent, Outcome, runFrom, firstRefusal, envOf, takeLine, continueRun, limit}
 use Rattle.page.proofs.Walk.{by-cases}
 use Rattle.demands.specs.Sound.{Sized, Answered, byLine, byRun, budgeted}
 use Rattle.demands.specs.Starts.{StartsTyped, StartsPaused}

@@ -20,6 +20,7 @@ use Rattle.nibl.specs.declared.Session.{Session}
 use Rattle.nibl.specs.declared.Top.the-variants as top
 use Rattle.demands.specs.Effects.{refusals, Gives, gave, refused, gives, Does, writes, takes, refuses, passes, skips, assigns, assignsFlags, stores, goesTo, saves, returns, loops, repeats, leaves, begins, again, finishes, inputs}
 use Rattle.demands.specs.Asks.{inputVars}
+use Rattle.demands.specs.Items.{ItemOf, ListItem}
 use Rattle.demands.specs.Leaves.{Items, noItem, item, Lines, noLine, line, SameButVars, Refused, Returned, Grown}
 use Rattle.demands.proofs.Effects.{exec-does, list-does}
 use Rattle.demands.proofs.Runs.{endOf, crOf, every-run}
@@ -27,46 +28,46 @@ use Rattle.demands.proofs.Refusing.{Refusing, exec-refuses, list-refuse
 use Rattle.demands.proofs.Refusing as refusing
 
 -- memory, output and input
-record Around (e : Env) (w u : World) : Type 0 where
+record Around (e : Env) (W : List ℕ → Type 0) (w u : World) : Type 0 where
   memory : u .memory ≡ w .memory
-  items : Items (w .output) (w .outpos) (u .output) (u .outpos)
+  items : Items W (w .output) (w .outpos) (u .output) (u .outpos)
   lines : Lines (e .lim) (e .input) (w .inpos) (u .inpos)
 
-data Leaves (e : Env) (w : World) : Done → Type 0 where
-  onward : {u : World} → Leaves e w (done on u)
-  skipped : {u : World} → Leaves e w (done skip u)
-  jumped : {u : World} {q : ℕ} → Leaves e w (done (go q) u)
-  returned : {u : World} → Returned (w .session) (u .session) → Around e w u → Leaves e w (done (stop 0) u)
-  stopped : {u : World} {n : ℕ} → isAmong refusals n ≡ true → SameButVars (w .session) (u .session) → Around e w u → Leaves e w (done (stop n) u)
+data Leaves (e : Env) (W : List ℕ → Type 0) (w : World) : Done → Type 0 where
+  onward : {u : World} → Leaves e W w (done on u)
+  skipped : {u : World} → Leaves e W w (done skip u)
+  jumped : {u : World} {q : ℕ} → Leaves e W w (done (go q) u)
+  returned : {u : World} → Returned (w .session) (u .session) → Around e W w u → Leaves e W w (done (stop 0) u)
+  stopped : {u : World} {n : ℕ} → isAmong refusals n ≡ true → SameButVars (w .session) (u .session) → Around e W w u → Leaves e W w (done (stop n) u)
 
-module _ (e : Env) where
-  still : (w : World) → Around e w w
+module _ (e : Env) (W : List ℕ → Type 0) where
+  still : (w : World) → Around e W w w
   still w = record { memory = refl; items = noItem; lines = noLine }
 
   same : (s : Session) → SameButVars s s
   same s = record { flags = refl; gosubs = refl; dos = refl; fors = refl; paused = refl }
 
   -- after a change that is not of the record
-  behind : {v w : World} → w .session ≡ v .session → ((u : World) → Around e w u → Around e v u) → {d : Done} → Leaves e w d → Leaves e v d
+  behind : {v w : World} → w .session ≡ v .session → ((u : World) → Around e W w u → Around e W v u) → {d : Done} → Leaves e W w d → Leaves e W v d
   behind h f onward = onward
   behind h f skipped = skipped
   behind h f jumped = jumped
   behind h f (returned {u = u} r a) = returned (subst (λ s. Returned s (u .session)) h r) (f u a)
   behind h f (stopped {u = u} n k a) = stopped n (subst (λ s. SameButVars s (u .session)) h k) (f u a)
 
-  gives-leave : (v : World) {w : World} {d : Done} → SameButVars (v .session) (w .session) → Around e v w → Gives w d → Leaves e v d
+  gives-leave : (v : World) {w : World} {d : Done} → SameButVars (v .session) (w .session) → Around e W v w → Gives w d → Leaves e W v d
   gives-leave v k a gave = onward
   gives-leave v k a (refused h) = stopped h k a
   gives-leave v k a (gives x y g) =
       gives-leave v (record { flags = k .flags; gosubs = k .gosubs; dos = k .dos; fors = k .fors; paused = k .paused }) (record { memory = a .memory; items = a .items; lines = a .lines }) g
 
   return-leaves : (w : World) (p : Place) → popOf (w .session .gosubs) .top ≡ top.At p → (b : Bool) → eqb (p .0) mark ≡ b
-      → Leaves e w (done (if b then stop 0 else go (suc (p .0))) (withSession w (withGosubs (w .session) (popOf (w .session .gosubs) .stack))))
+      → Leaves e W w (done (if b then stop 0 else go (suc (p .0))) (withSession w (withGosubs (w .session) (popOf (w .session .gosubs) .stack))))
   return-leaves w p h true m = returned (record { place = p; top = h; mark = eqb-true (p .0) mark m; rest = refl }) (record { memory = refl; items = noItem; lines = noLine })
   return-leaves w p h false m = jumped
 
-  does-leave : {vs : List ℕ} {w : World} {d : Done} → Does e vs w d → Leaves e w d
-  does-leave (writes bs h d) = behind refl (λ u a. record { memory = a .memory; items = item bs h (a .items); lines = a .lines }) (does-leave d)
+  does-leave : {vs : List ℕ} {w : World} {d : Done} → Does e vs W w d → Leaves e W w d
+  does-leave (writes bs n h d) = behind refl (λ u a. record { memory = a .memory; items = item bs n h (a .items); lines = a .lines }) (does-leave d)
   does-leave (takes g h d) = behind refl (λ u a. record { memory = a .memory; items = a .items; lines = line g h (a .lines) }) (does-leave d)
   does-leave (refuses {w = w} h) = stopped h (same (w .session)) (still w)
   does-leave passes = onward
@@ -85,26 +86,34 @@ module _ (e : Env) where
   does-leave (finishes v f h g) = onward
   does-leave {w = w} (inputs g) = gives-leave w (same (w .session)) (still w) g
 
-refused-by : {e : Env} {us : List ℕ} {b : Bool} {w u : World} {n : ℕ} → Leaves e w (done (stop n) u) → Refusing us b (w .session .vars) (done (stop n) u) → (n ≡ 0 → ⊥)
-    → Refused e us w u
+refused-by : {e : Env} {W : List ℕ → Type 0} {us : List ℕ} {b : Bool} {w u : World} {n : ℕ} → Leaves e W w (done (stop n) u) → Refusing us b (w .session .vars) (done (stop n) u) → (n ≡ 0 → ⊥)
+    → Refused e us W w u
 refused-by (returned r a) g z = absurd (z refl)
 refused-by (stopped m k a) refusing.ends z = absurd (z refl)
 refused-by (stopped m k a) (refusing.refuses i g) z = record { given = g; rest = k; memory = a .memory; items = a .items; lines = a .lines }
 
 -- "A refusing statement leaves variables, flags, stacks, memory as before it, but .." INPUT's given variables; "No stop clears the stacks"
-pub refusing-statement : (e : Env) (q : Stmt) (w u : World) (n : ℕ) → exec e q w ≡ done (stop n) u → (n ≡ 0 → ⊥) → Refused e (inputVars q) w u
-refusing-statement e q w u n h z = refused-by (rw h at (does-leave e (exec-does e q w))) (rw h at (exec-refuses e q w)) z
+pub refusing-statement : (e : Env) (q : Stmt) (w u : World) (n : ℕ) → exec e q w ≡ done (stop n) u → (n ≡ 0 → ⊥) → Refused e (inputVars q) (ItemOf e q) w u
+refusing-statement e q w u n h z = refused-by (rw h at (does-leave e (ItemOf e q) (exec-does e q w))) (rw h at (exec-refuses e q w)) z
 
 -- and a statement that stops with 0 is a RETURN to the mark
 pub returning-statement : (e : Env) (q : Stmt) (w u : World) → exec e q w ≡ done (stop 0) u → Returned (w .session) (u .session)
-returning-statement e q w u h = by (rw h at (does-leave e (exec-does e q w))) where
-  by : {u : World} → Leaves e w (done (stop 0) u) → Returned (w .session) (u .session)
+returning-statement e q w u h = by (rw h at (does-leave e (ItemOf e q) (exec-does e q w))) where
+  by : {u : World} → Leaves e (ItemOf e q) w (done (stop 0) u) → Returned (w .session) (u .session)
   by (returned r a) = r
   by (stopped m k a) = absurd (false≢true m)
 
 -- LIST: "lines already out stay"
-pub refusing-list : (e : Env) (n : ℕ) (rs : List Stored) (w u : World) (m : ℕ) → listFrom n rs w ≡ done (stop m) u → (m ≡ 0 → ⊥) → Refused e [] w u
-refusing-list e n rs w u m h z = refused-by (rw h at (does-leave e (list-does e [] n rs w))) (rw h at (list-refuses [] false n rs w)) z
+pub refusing-list : (e : Env) (n : ℕ) (rs : List Stored) (w u : World) (m : ℕ) → listFrom n rs w ≡ done (stop m) u → (m ≡ 0 → ⊥) → Refused e [] (ListItem n rs) w u
+refusing-list e n rs w u m h z = refused-by (rw h at (does-leave e (ListItem n rs) (list-does e [] n rs w))) (rw h at (list-refuses [] false n rs w)) z
+
+-- items of one kind are items of another
+pub items-as : {Y W : List ℕ → Type 0} {out out' : List ℕ} {at at' : ℕ} → ((bs : List ℕ) → Y bs → W bs) → Items Y out at out' at' → Items W out at out' at'
+items-as f noItem = noItem
+items-as f (item bs n h r) = item bs (f bs n) h (items-as f r)
+
+pub refused-as : {e : Env} {us : List ℕ} {Y W : List ℕ → Type 0} {w u : World} → ((bs : List ℕ) → Y bs → W bs) → Refused e us Y w u → Refused e us W w u
+refused-as f r = record { given = r .given; rest = r .rest; memory = r .memory; items = items-as f (r .items); lines = r .lines }
 
 -- "output only grows by whole items"
 sets-before : (out : List ℕ) (at : ℕ) (bs : List ℕ) → at + length bs ≤ length out → take at (sets out at bs) ≡ take at out
@@ -123,9 +132,9 @@ sets-behind out at bs k h i =
     ∙ drop-drop (k - (at + length bs)) (at + length bs) out
     ∙ ap (λ (j : ℕ). drop j out) n)
 
-pub items-grow : {out out' : List ℕ} {at at' : ℕ} → Items out at out' at' → Grown out at out' at'
+pub items-grow : {W : List ℕ → Type 0} {out out' : List ℕ} {at at' : ℕ} → Items W out at out' at' → Grown out at out' at'
 items-grow noItem = record { forward = omega arith; long = refl; before = refl; behind = refl }
-items-grow (item {out = out} {out' = out'} {at = at} {at' = at'} bs h r) =
+items-grow (item {out = out} {out' = out'} {at = at} {at' = at'} bs n h r) =
     let g = items-grow r in
     let m : at ≤ at + length bs = omega arith in
     record {
@@ -174,8 +183,8 @@ gives-steady gave = steady
 gives-steady (refused h) = steady
 gives-steady (gives v x g) = then-steady (recorded _ refl) (gives-steady g)
 
-pub does-steady : {e : Env} {vs : List ℕ} {w : World} {d : Done} → Does e vs w d → Steady w (worldAfter d)
-does-steady (writes {w = w} bs h d) =
+pub does-steady : {e : Env} {vs : List ℕ} {W : List ℕ → Type 0} {w : World} {d : Done} → Does e vs W w d → Steady w (worldAfter d)
+does-steady (writes {w = w} bs n h d) =
     then-steady (record { lengths = record { memory = refl; output = length-sets (w .output) (w .outpos) bs }; paused = refl }) (does-steady d)
 does-steady (takes g h d) = then-steady (record { lengths = record { memory = refl; output = refl }; paused = refl }) (does-steady d)
 does-steady (refuses h) = steady

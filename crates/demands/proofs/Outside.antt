@@ -149,7 +149,7 @@ module _ (x : Lent) where
       let r = runFrom k e q w in
       as-lent (then-lengths (then-lengths s (run-steady k e q w .lengths)) (pausing-same (eqb (r .stop) 14) (r .world) _)) _ _ _ page
 
-  immediate-held : {vs : List ℕ} {w : World} (k : ℕ) (e : Env) {d : Done} → SameLengths (worldOf x) w → Does e vs w d → L (immediately k e d)
+  immediate-held : {vs : List ℕ} {W : List ℕ → Type 0} {w : World} (k : ℕ) (e : Env) {d : Done} → SameLengths (worldOf x) w → Does e vs W w d → L (immediately k e d)
   immediate-held k e {d = d} s h = by d (then-lengths s (does-steady h .lengths)) where
     by : (d : Done) → SameLengths (worldOf x) (worldAfter d) → L (immediately k e d)
     by (done on u) t = as-lent t _ _ _ _

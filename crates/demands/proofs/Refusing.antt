@@ -79,16 +79,16 @@ module _ (us : List ℕ) (b : Bool) where
   unfolding putItem
   item-refuses e (text bs) w k f = put-refuses bs w k f
   item-refuses e (stored a) w k f =
-      rw (given-went e us (bind (eval e w a) (stringAt (w .memory))) w (λ bs. put bs w) k)
+      rw (given-went (bind (eval e w a) (stringAt (w .memory))) w (λ bs. put bs w) k)
       (given-refuses _ w _ (bind-known (eval e w a) _ (eval-known e w a) (string-known (w .memory))) (λ bs. put-refuses bs w k f))
   item-refuses e (value a) w k f =
-      rw (given-went e us (eval e w a) w (λ x. put (printed x) w) k) (given-refuses _ w _ (eval-known e w a) (λ x. put-refuses (printed x) w k f))
+      rw (given-went (eval e w a) w (λ x. put (printed x) w) k) (given-refuses _ w _ (eval-known e w a) (λ x. put-refuses (printed x) w k f))
 
   items-refuse : (e : Env) (is′ : List Item) (w : World) (k : World → Done) → ((u : World) → u .session ≡ w .session → R (w .session .vars) (k u)) → R (w .session .vars) (went (putItems e is′ w) k)
   unfolding putItems
   items-refuse e [] w k f = f w refl
   items-refuse e (i ∷ is′) w k f =
-      rw (went-went e us (putItem e i w) (putItems e is′) k)
+      rw (went-went (putItem e i w) (putItems e is′) k)
       (item-refuses e i w (λ u. went (putItems e is′ u) k) (λ u h. again w u _ h (items-refuse e is′ u k (λ v g. again u w _ (sym h) (f v (g ∙ h))))))
 
   went-on : (d : Done) → went d (λ w. done on w) ≡ d
@@ -107,7 +107,7 @@ module _ (us : List ℕ) (b : Bool) where
 
   line-refuses : (e : Env) (a : Expr) (w : World) (k : ℕ → Done) → ((q : ℕ) → R (w .session .vars) (k q))
       → R (w .session .vars) (given (bind (eval e w a) (λ n. lineThere (find (e .page) n))) w k)
-  line-refuses e a w k f = given-refuses _ w k (bind-known (eval e w a) _ (eval-known e w a) (λ n. line-known e us (find (e .page) n))) f
+  line-refuses e a w k f = given-refuses _ w k (bind-known (eval e w a) _ (eval-known e w a) (λ n. line-known (find (e .page) n))) f
 
   gosub-refuses : (e : Env) (w : World) (q : ℕ) → R (w .session .vars) (gosubTo e w q)
   unfolding gosubTo
@@ -186,11 +186,11 @@ exec-refuses e (letVar v a) w = given-refuses [] false (eval e w a) w _ (eval-kn
 exec-refuses e (letStat a) w = given-refuses [] false (eval e w a) w _ (eval-known e w a) (λ x. goes)
 exec-refuses e (letByte a b) w =
     given-refuses [] false (eval e w a) w _ (eval-known e w a) (λ p. given-refuses [] false (eval e w b) w _ (eval-known e w b) (λ x.
-    keep-refuses [] false w _ (store-known e [] (w .memory) p _)))
+    keep-refuses [] false w _ (store-known (w .memory) p _)))
 exec-refuses e (letCopy a b) w =
     given-refuses [] false (eval e w a) w _ (eval-known e w a) (λ p. given-refuses [] false (eval e w b) w _ (eval-known e w b) (λ q.
-    keep-refuses [] false w _ (bind-known (stringAt (w .memory) q) _ (string-known (w .memory) q) (λ bs. store-known e [] (w .memory) p _))))
-exec-refuses e (letText a bs) w = given-refuses [] false (eval e w a) w _ (eval-known e w a) (λ p. keep-refuses [] false w _ (store-known e [] (w .memory) p _))
+    keep-refuses [] false w _ (bind-known (stringAt (w .memory) q) _ (string-known (w .memory) q) (λ bs. store-known (w .memory) p _))))
+exec-refuses e (letText a bs) w = given-refuses [] false (eval e w a) w _ (eval-known e w a) (λ p. keep-refuses [] false w _ (store-known (w .memory) p _))
 exec-refuses e (goto a) w = line-refuses [] false e a w _ (λ q. jumps)
 exec-refuses e (gosub a) w = line-refuses [] false e a w _ (gosub-refuses [] false e w)
 exec-refuses e (until a) w = given-refuses [] false (eval e w a) w _ (eval-known e w a) (λ x. until-refuses [] false w x _)
@@ -212,7 +212,7 @@ exec-refuses e (input us) w =
     asked-refuses us true refl refl e w _ (λ u bs h. again us true w u _ h (reply-refuses true refl e us u (replied (length us) bs)))
 exec-refuses e (inputText a) w =
     given-refuses [] true (eval e w a) w _ (eval-known e w a) (λ p. asked-refuses [] true refl refl e w _ (λ u bs h.
-    again [] true w u _ h (keep-refuses [] true u _ (store-known e [] (u .memory) p _))))
+    again [] true w u _ h (keep-refuses [] true u _ (store-known (u .memory) p _))))
 
 -- LIST
 pub list-refuses : (us : List ℕ) (b : Bool) (n : ℕ) (rs : List Stored) (w : World) → Refusing us b (w .session .vars) (listFrom n rs w)

@@ -86,7 +86,7 @@ module _ (lim : ℕ) (e : Env) (short : lim ≤ 251) (good : isGood lim (e .page
       }
 
   -- LIST and an immediate statement, which leave the stacks of DO and FOR alone
-  immediate-left : (vs : List ℕ) (w : World) (d : Done) → e .here ≡ mark → Does e vs w d → Keeps w d → Fit ps (w .session) → Left (e .page) d
+  immediate-left : (vs : List ℕ) {W : List ℕ → Type 0} (w : World) (d : Done) → e .here ≡ mark → Does e vs W w d → Keeps w d → Fit ps (w .session) → Left (e .page) d
   immediate-left vs w d h x k f =
       let saved : savedIn ps (record { 0 = e .here }) ≡ true = rw h (or-right (isAmong ps mark) true refl) in
       let g = does-fits (savedIn ps) (λ p. true) (λ y. true) ps e vs saved refl (λ v l s i. refl) x

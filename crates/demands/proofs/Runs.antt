@@ -1,13 +1,12 @@
 -- A run, step by step: its ways out, and what holds of every run. Assumes nothing.
-use Prim.Native.Nat.{ℕ, zero, suc, _+_, _-_, _≤_}
+use Prim.Native.Nat.{ℕ, zero, suc}
 use mathlib.Core.Path.{_≡_, refl, subst, sym}
 use mathlib.Core.List.{List}
 use mathlib.Core.Option.{Option, none, some}
-use lib.ListN.{length}
-use Rattle.nibl.specs.Tree.{Member, Stmt}
+use Rattle.nibl.specs.Tree.{Member}
 use Rattle.nibl.specs.Read.{Found, nothing, found, member}
 use Rattle.nibl.specs.Page.{lineOf}
-use Rattle.nibl.specs.Meaning.{World, Env, Next, on, skip, go, stop, Done, done, exec}
+use Rattle.nibl.specs.Meaning.{World, Env, on, skip, go, stop, Done, done, exec}
 use Rattle.nibl.specs.Calls.{Ran, ran, stepped, textFrom, lineFrom, envAt, onward, step, runFrom}
 pub use Rattle.demands.specs.Steps.{endOf, crOf}
 

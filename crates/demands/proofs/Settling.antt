@@ -1,12 +1,13 @@
--- Typed lines that run nothing: blank, CLEAR, a statement that needs a program, and an immediate statement that ends the line. Assumes nothing.
+-- Typed lines that run nothing: blank, CLEAR, LIST, a statement that needs a program, and an immediate statement that ends the line. Assumes nothing.
 use Prim.Native.Nat.{ℕ}
 use mathlib.Core.Path.{_≡_, refl, _∙_}
 use mathlib.Core.Bool.{true, false}
-use Rattle.nibl.specs.Tree.{Stmt, blank, clear, immediate}
+use Rattle.nibl.specs.Tree.{Stmt, blank, clear, list, immediate}
+use Rattle.nibl.specs.Page.{recordsOf}
 use Rattle.nibl.specs.Readings.{LineReading}
 use Rattle.nibl.specs.Typing.{Gathered}
-use Rattle.nibl.specs.Meaning.{World, Next, on, skip, stop, Done, done, exec}
-use Rattle.nibl.specs.Calls.{Lent, stops, begun, envOf, immediately, needsProgram, obey, takeLine, limit}
+use Rattle.nibl.specs.Meaning.{World, Next, on, skip, stop, done, exec}
+use Rattle.nibl.specs.Calls.{Lent, stops, begun, envOf, listFrom, immediately, needsProgram, obey, takeLine, limit}
 use Rattle.nibl.proofs.Whole.{typed-complete}
 use Rattle.demands.specs.Leaves.{lineTaken, lineCleared}
 use Rattle.demands.specs.Starts.{Settles, goesOn, skips, gives}
@@ -29,12 +30,19 @@ module _ (x : Lent) (g : Gathered) (h : Typing limit x g) where
   unfolding obey
   needing-a-program-is-3 s r n = line-read x g (immediate s) h (typed-complete r) ∙ rw (n, obey)
 
+  at-once : (how : Next) (n : ℕ) (w : World) → Settles how n → immediately (x .call .budget) (envOf limit x) (done how w) ≡ stops n w (x .page)
+  at-once on n w goesOn = refl
+  at-once skip n w skips = refl
+  at-once (stop m) n w gives = refl
+
   -- any other immediate statement is done at once, and so is the line, unless it goes to the program
   pub an-immediate-statement-is-done : (s : Stmt) (how : Next) (n : ℕ) (w : World) → LineReading (g .line .bytes) (immediate s) → needsProgram s ≡ false
       → exec (envOf limit x) s (begun x (g .taken)) ≡ done how w → Settles how n → takeLine x ≡ stops n w (x .page)
   unfolding obey
-  an-immediate-statement-is-done s how n w r p e c = line-read x g (immediate s) h (typed-complete r) ∙ rw (p, obey) (rw e (by c)) where
-    by : {how : Next} {n : ℕ} → Settles how n → immediately (x .call .budget) (envOf limit x) (done how w) ≡ stops n w (x .page)
-    by goesOn = refl
-    by skips = refl
-    by gives = refl
+  an-immediate-statement-is-done s how n w r p e c = line-read x g (immediate s) h (typed-complete r) ∙ rw (p, obey) (rw e (at-once how n w c))
+
+  -- LIST writes from its number on, and the line is done
+  pub list-is-done : (n : ℕ) (how : Next) (m : ℕ) (w : World) → LineReading (g .line .bytes) (list n) → listFrom n (recordsOf (x .page)) (begun x (g .taken)) ≡ done how w
+      → Settles how m → takeLine x ≡ stops m w (x .page)
+  unfolding obey
+  list-is-done n how m w r e c = line-read x g (list n) h (typed-complete r) ∙ rw e (at-once how m w c)

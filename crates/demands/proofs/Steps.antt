@@ -1,6 +1,6 @@
 -- "No stop clears the stacks", and what a refusing statement leaves, of the calls: what a call of one or more steps leaves is what its last
 -- statement made of what the same call with one step less left. Assumes nothing.
-use Prim.Native.Nat.{ℕ, suc, _-_, _≤_}
+use Prim.Native.Nat.{ℕ, _-_, _≤_}
 use mathlib.Core.Path.{_≡_, refl, ap, _∙_}
 use mathlib.Core.Bool.{Bool, true, false, false≢true}
 use mathlib.Core.List.{List, []}
@@ -15,14 +15,15 @@ use Rattle.nibl.specs.Tree.{Typed, blank, new, clear, run, delete, list, store,
 use Rattle.nibl.specs.Read.{typed}
 use Rattle.nibl.specs.Page.{Stored, isGood, recordsOf, usedBy, hasLine, with, without}
 use Rattle.nibl.specs.Meaning.{World, Env, Next, on, skip, go, stop, Done, done, withSession, exec}
-use Rattle.nibl.specs.Calls.{Lent, Outcome, Ran, envAt, runFrom, withPaused, pausedAt, ended, stops, firstRefusal, begun, envOf, edited, listFrom, immediately, needsProgram, obey, takeLine, continueFrom, continueRun, continueRunIn, limit}
+use Rattle.nibl.specs.Calls.{Lent, Outcome, Ran, envAt, runFrom, withPaused, pausedAt, ended, stops, firstRefusal, begun, envOf, edited, listFrom, immediately, needsProgram, obey, takeLine, continueFrom, continueRun, limit}
 use Rattle.nibl.specs.declared.StopLine.the-variants as stopLine
 use Rattle.nibl.specs.Typing.{Gathered}
 use Rattle.nibl.specs.Readings.{LineReading}
 use Rattle.nibl.specs.declared.Paused.{Paused}
-use Rattle.nibl.specs.declared.Paused.the-variants.{Nowhere, Start, At}
+use Rattle.nibl.specs.declared.Paused.the-variants.{Nowhere}
 use Rattle.nibl.proofs.Whole.{typed-complete}
 use Rattle.demands.specs.Asks.{inputVars, GivenIn, stay}
+use Rattle.demands.specs.Items.{ItemOf, TypedItem, ofList, ofStatement}
 use Rattle.demands.specs.Leaves.{unpaused, noItem, noLine, Refused}
 use Rattle.demands.specs.Sound.{Sized, Sound, Stands, budgeted}
 use Rattle.demands.specs.Steps.{worldLeft, Ends, halts, runsOut, pauses, OneMore, RefusedLine}
@@ -35,7 +36,7 @@ use Rattle.demands.proofs.Retyping.{edited-fits, edited-full, line-read
 use Rattle.demands.proofs.Refusing.{needs-asks}
 use Rattle.demands.proofs.Fixed.{unsaid, run-named}
 use Rattle.demands.proofs.Five.{no-grammar-refusal-while-running, exactly-5}
-use Rattle.demands.proofs.Held.{worldAfter, run-steady, refusing-statement, refusing-list}
+use Rattle.demands.proofs.Held.{worldAfter, run-steady, refusing-statement, refusing-list, refused-as}
 use Rattle.demands.proofs.Fits.{sound-fit, fit-sound, exec-keeps}
 use Rattle.demands.proofs.Running.{list-keeps}
 use Rattle.demands.proofs.LastStep.{LastStep, RunEnds, last-step, resumes-at, unpaused-same}
@@ -123,9 +124,9 @@ module _ (e : Env) (k q : ℕ) (w : World) (sound : Sound limit (e .page) (w .se
 data Kind (e : Env) (w : World) (y : Typed) : Type 0 where
   runs : (q : ℕ) (u : World) → ((k : ℕ) → obey k e w y ≡ ended (runFrom k e q u) (e .page)) → Kind e w y
   settles : ((k : ℕ) → obey k e w y .answer .stop ≡ 0) → ((k : ℕ) → obey k e w y .answer .steps ≡ 0) → Kind e w y
-  refuses : (n : ℕ) (u : World) → ((k : ℕ) → obey k e w y ≡ stops n u (e .page)) → Refused e [] w u → u .inpos ≡ w .inpos → Kind e w y
+  refuses : (n : ℕ) (u : World) → ((k : ℕ) → obey k e w y ≡ stops n u (e .page)) → Refused e [] (TypedItem e y) w u → u .inpos ≡ w .inpos → Kind e w y
 
-nothing-done : (e : Env) (w : World) → Refused e [] w w
+nothing-done : {W : List ℕ → Type 0} (e : Env) (w : World) → Refused e [] W w w
 nothing-done e w =
     record {
       given = stay;
@@ -137,7 +138,7 @@ nothing-done e w =
 
 module _ (e : Env) (w : World) (y : Typed) where
   immediate-kind : (d : Done) → ((k : ℕ) → obey k e w y ≡ immediately k e d) → worldAfter d .inpos ≡ w .inpos
-      → ((n : ℕ) (u : World) → d ≡ done (stop n) u → (n ≡ 0 → ⊥) → Refused e [] w u) → Kind e w y
+      → ((n : ℕ) (u : World) → d ≡ done (stop n) u → (n ≡ 0 → ⊥) → Refused e [] (TypedItem e y) w u) → Kind e w y
   immediate-kind (done on u) f i g = settles (λ k. rw (f k)) (λ k. rw (f k))
   immediate-kind (done skip u) f i g = settles (λ k. rw (f k)) (λ k. rw (f k))
   immediate-kind (done (go q) u) f i g = runs q u f
@@ -160,12 +161,12 @@ kind e w (delete n) =
     by-cases (hasLine n (recordsOf (e .page)))
     (λ h. edit-kind e w (delete n) (without n (recordsOf (e .page))) (λ k. rw (h, obey)))
     (λ h. settles (λ k. rw (h, obey)) (λ k. rw (h, obey)))
-kind e w (list n) = immediate-kind e w (list n) (listFrom n (recordsOf (e .page)) w) (λ k. refl) (ap (λ y. y .1) (list-keeps n (recordsOf (e .page)) w .same)) (λ m u h z. refusing-list e n (recordsOf (e .page)) w u m h z)
+kind e w (list n) = immediate-kind e w (list n) (listFrom n (recordsOf (e .page)) w) (λ k. refl) (ap (λ y. y .1) (list-keeps n (recordsOf (e .page)) w .same)) (λ m u h z. refused-as (λ bs i. ofList i) (refusing-list e n (recordsOf (e .page)) w u m h z))
 kind e w (store n t ms) = edit-kind e w (store n t ms) (with (record { line = n; text = t }) (recordsOf (e .page))) (λ k. refl)
 kind e w (immediate q) =
     by-cases (needsProgram q)
     (λ h. refuses 3 w (λ k. rw (h, obey)) (nothing-done e w) refl)
-    (λ h. immediate-kind e w (immediate q) (exec e q w) (λ k. rw (h, obey)) (ap (λ y. y .1) (exec-keeps e q w h .same)) (λ m u f z. rw (needs-asks q h .1) at (refusing-statement e q w u m f z)))
+    (λ h. immediate-kind e w (immediate q) (exec e q w) (λ k. rw (h, obey)) (ap (λ y. y .1) (exec-keeps e q w h .same)) (λ m u f z. refused-as (λ bs i. ofStatement i) (rw (needs-asks q h .1) at (refusing-statement e q w u m f z))))
 
 some-steps : {n : ℕ} → n ≡ 0 → 1 ≤ n → ⊥
 some-steps h n = omega arith
@@ -219,7 +220,7 @@ module _ (x : Lent) where
 
 -- and if it refused, it left all but INPUT's given variables as the call with one step less left it
 pub refused-last : {e : Env} {k : ℕ} {o' o : Outcome} (m : OneMore e k o' o) → (o .answer .stop ≡ 0 → ⊥) → (o .answer .stop ≡ 14 → ⊥)
-    → Refused (envAt e (endOf e (m .start) (m .last))) (inputVars (m .last .statement)) (worldLeft o') (m .after)
+    → Refused (envAt e (endOf e (m .start) (m .last))) (inputVars (m .last .statement)) (ItemOf (envAt e (endOf e (m .start) (m .last))) (m .last .statement)) (worldLeft o') (m .after)
 refused-last {e = e} {o' = o'} {o = o} m a b =
     refusing-statement (envAt e (endOf e (m .start) (m .last))) (m .last .statement) (worldLeft o') (m .after) (o .answer .stop)
     (m .runs ∙ ap (λ (n : Next). done n (m .after)) (m .stops a b)) a
@@ -229,7 +230,7 @@ none-given : {vars after : List ℕ} → GivenIn [] vars after → after ≡ var
 none-given stay = refl
 
 pub refusing-line : (x : Lent) → Sized (x .session) → (g : Gathered) (y : Typed) → Typing limit x g → LineReading (g .line .bytes) y
-    → takeLine x .answer .line ≡ stopLine.NoLine → (takeLine x .answer .stop ≡ 0 → ⊥) → (takeLine x .answer .stop ≡ 14 → ⊥) → RefusedLine x g (takeLine x)
+    → takeLine x .answer .line ≡ stopLine.NoLine → (takeLine x .answer .stop ≡ 0 → ⊥) → (takeLine x .answer .stop ≡ 14 → ⊥) → RefusedLine x g y (takeLine x)
 refusing-line x sized g y h r n ended′ paused = by (kind (envOf limit x) (begun x (g .taken)) y) where
   o : takeLine x ≡ obey (x .call .budget) (envOf limit x) (begun x (g .taken)) y
   o = line-read x g y h (typed-complete r)
@@ -237,7 +238,7 @@ refusing-line x sized g y h r n ended′ paused = by (kind (envOf limit x) (begu
   m : OneOf unsaid (takeLine x .answer .stop) → ⊥
   m i = of-unsaid (takeLine x .answer .stop) i ended′ (λ e. exactly-5 x g sized (h .sound) (h .line) (h .short) .0 e y r) paused
 
-  by : Kind (envOf limit x) (begun x (g .taken)) y → RefusedLine x g (takeLine x)
+  by : Kind (envOf limit x) (begun x (g .taken)) y → RefusedLine x g y (takeLine x)
   by (runs q u f) =
       let i = o ∙ f (x .call .budget) in
       absurd (m (rw i (run-named (x .call .budget) (envOf limit x) q u (rw i at n))))

@@ -9,16 +9,19 @@ use native.Mathlib.Omega.{arith}
 use lib.ListN.{length}
 use lib.Seq.{length-sets}
 use lib.Dec.{leb, eqb}
-use Rattle.nibl.specs.Bytes.{if_then_else_}
 use Rattle.nibl.specs.Tree.{Typed, blank, new, clear, run, delete, list, store, immediate}
+use Rattle.nibl.specs.Read.{typed}
 use Rattle.nibl.specs.Typing.{Gathered}
 use Rattle.nibl.specs.Page.{Stored, recordsOf, programBytes, hasLine, without, with}
 use Rattle.nibl.specs.Meaning.{World, Env, on, skip, go, stop, Done, done, exec}
-use Rattle.nibl.specs.Calls.{Lent, Outcome, Ran, runFrom, envAt, onward, ended, pausing, stops, worldOf, begun, envOf, edited, listFrom, immediately, needsProgram, obey, takeLine, continueFrom, continueRun, limit}
+use Rattle.nibl.specs.Calls.{Lent, Outcome, Ran, runFrom, envAt, onward, ended, stops, worldOf, begun, envOf, edited, listFrom, immediately, needsProgram, obey, takeLine, continueFrom, continueRun, limit}
 use Rattle.nibl.specs.declared.Paused.{Paused}
 use Rattle.nibl.specs.declared.Paused.the-variants.{Nowhere, Start, At}
 use Rattle.nibl.proofs.Words.{if-split}
+use Rattle.nibl.proofs.Lines.{typed-sound}
 use Rattle.demands.specs.Effects.{Gives, gave, refused, gives, Does, writes, takes, refuses, passes, skips, assigns, assignsFlags, stores, goesTo, saves, returns, loops, repeats, leaves, begins, again, finishes, inputs}
+use Rattle.demands.specs.Items.{TypedItem, ofList, ofStatement}
+use Rattle.demands.specs.Steps.{ProgramItem, ofMember, LineItem, ofTyped, ofProgram}
 use Rattle.demands.specs.Leaves.{Items, noItem, item, Lines, noLine, line, Wrote}
 use Rattle.demands.proofs.Effects.{exec-does, list-does}
 use Rattle.demands.proofs.Runs.{endOf, crOf, every-run}
@@ -29,23 +32,23 @@ use Rattle.demands.proofs.Held.{worldAfter}
 use Rattle.demands.proofs.Carried.{gathered-inside}
 
 -- one after the other
-items-then : {a b c : List ℕ} {i j k : ℕ} → Items a i b j → Items b j c k → Items a i c k
+items-then : {W : List ℕ → Type 0} {a b c : List ℕ} {i j k : ℕ} → Items W a i b j → Items W b j c k → Items W a i c k
 items-then noItem t = t
-items-then (item bs h s) t = item bs h (items-then s t)
+items-then (item bs n h s) t = item bs n h (items-then s t)
 
-module _ (lim : ℕ) (input : List ℕ) where
+module _ (W : List ℕ → Type 0) (lim : ℕ) (input : List ℕ) where
   lines-then : {i j k : ℕ} → Lines lim input i j → Lines lim input j k → Lines lim input i k
   lines-then noLine t = t
   lines-then (line g h s) t = line g h (lines-then s t)
 
   -- from one world to the next
   abbrev Grew : World → World → Type 0
-  Grew w u = Wrote lim input (w .output) (w .outpos) (w .inpos) (u .output) (u .outpos) (u .inpos)
+  Grew w u = Wrote W lim input (w .output) (w .outpos) (w .inpos) (u .output) (u .outpos) (u .inpos)
 
-  nothing-new : {out : List ℕ} {at from : ℕ} → Wrote lim input out at from out at from
+  nothing-new : {out : List ℕ} {at from : ℕ} → Wrote W lim input out at from out at from
   nothing-new = record { items = noItem; lines = noLine }
 
-  grew-then : {a b c : List ℕ} {i j k m n o : ℕ} → Wrote lim input a i m b j n → Wrote lim input b j n c k o → Wrote lim input a i m c k o
+  grew-then : {a b c : List ℕ} {i j k m n o : ℕ} → Wrote W lim input a i m b j n → Wrote W lim input b j n c k o → Wrote W lim input a i m c k o
   grew-then a b = record { items = items-then (a .items) (b .items); lines = lines-then (a .lines) (b .lines) }
 
   gives-grew : {w : World} {d : Done} → Gives w d → Grew w (worldAfter d)
@@ -53,25 +56,25 @@ module _ (lim : ℕ) (input : List ℕ) where
   gives-grew (refused h) = nothing-new
   gives-grew (gives v x g) = let r = gives-grew g in record { items = r .items; lines = r .lines }
 
-  does-grew : {e : Env} {vs : List ℕ} {w : World} {d : Done} → e .lim ≡ lim → e .input ≡ input → Does e vs w d → Grew w (worldAfter d)
-  does-grew l i (writes bs h d) = let r = does-grew l i d in record { items = item bs h (r .items); lines = r .lines }
-  does-grew l i (takes g h d) = let r = does-grew l i d in record { items = r .items; lines = line g (rw (l, i) at h) (r .lines) }
-  does-grew l i (refuses h) = nothing-new
-  does-grew l i passes = nothing-new
-  does-grew l i skips = nothing-new
-  does-grew l i (assigns v x) = nothing-new
-  does-grew l i (assignsFlags x) = nothing-new
-  does-grew l i (stores m h) = nothing-new
-  does-grew l i (goesTo n h) = nothing-new
-  does-grew l i (saves n h g) = nothing-new
-  does-grew l i (returns p h) = nothing-new
-  does-grew l i (loops h) = nothing-new
-  does-grew l i (repeats p h) = nothing-new
-  does-grew l i (leaves p h) = nothing-new
-  does-grew l i (begins v x y z k h) = nothing-new
-  does-grew l i (again v f h g) = nothing-new
-  does-grew l i (finishes v f h g) = nothing-new
-  does-grew l i (inputs g) = gives-grew g
+  does-grew : {e : Env} {vs : List ℕ} {Y : List ℕ → Type 0} {w : World} {d : Done} → ((bs : List ℕ) → Y bs → W bs) → e .lim ≡ lim → e .input ≡ input → Does e vs Y w d → Grew w (worldAfter d)
+  does-grew f l i (writes bs n h d) = let r = does-grew f l i d in record { items = item bs (f bs n) h (r .items); lines = r .lines }
+  does-grew f l i (takes g h d) = let r = does-grew f l i d in record { items = r .items; lines = line g (rw (l, i) at h) (r .lines) }
+  does-grew c l i (refuses h) = nothing-new
+  does-grew c l i passes = nothing-new
+  does-grew c l i skips = nothing-new
+  does-grew c l i (assigns v x) = nothing-new
+  does-grew c l i (assignsFlags x) = nothing-new
+  does-grew c l i (stores m h) = nothing-new
+  does-grew c l i (goesTo n h) = nothing-new
+  does-grew c l i (saves n h g) = nothing-new
+  does-grew c l i (returns p h) = nothing-new
+  does-grew c l i (loops h) = nothing-new
+  does-grew c l i (repeats p h) = nothing-new
+  does-grew c l i (leaves p h) = nothing-new
+  does-grew c l i (begins v x y z k h) = nothing-new
+  does-grew c l i (again v f h g) = nothing-new
+  does-grew c l i (finishes v f h g) = nothing-new
+  does-grew c l i (inputs g) = gives-grew g
 
   onward-grew : (w : World) (d : Done) (p cr : ℕ) (k : ℕ → World → Ran) → Grew w (worldAfter d) → ((q : ℕ) (u : World) → Grew u (k q u .world)) → Grew w (onward d p cr k .world)
   onward-grew w (done on u) p cr k r f = grew-then r (f (suc p) u)
@@ -81,14 +84,14 @@ module _ (lim : ℕ) (input : List ℕ) where
 
   -- up to what a call leaves
   abbrev Came : World → Outcome → Type 0
-  Came w o = Wrote lim input (w .output) (w .outpos) (w .inpos) (o .output) (o .answer .outpos) (o .answer .inpos)
+  Came w o = Wrote W lim input (w .output) (w .outpos) (w .inpos) (o .output) (o .answer .outpos) (o .answer .inpos)
 
-  module _ (e : Env) (l : e .lim ≡ lim) (i : e .input ≡ input) where
+  module _ (e : Env) (l : e .lim ≡ lim) (i : e .input ≡ input) (c : (bs : List ℕ) → ProgramItem e bs → W bs) where
     run-grew : (k q : ℕ) (w : World) → Grew w (runFrom k e q w .world)
     run-grew k q w =
         every-run e (λ k q w r. Grew w (r .world)) (λ k q w h. nothing-new) (λ q w a h. nothing-new) (λ k q w a h g. nothing-new)
         (λ k q w a m s h g f. onward-grew w (exec (envAt e (endOf e a m)) (m .statement) w) (endOf e a m) (crOf e a) (runFrom k e)
-        (does-grew l i (exec-does (envAt e (endOf e a m)) (m .statement) w)) f) k q w
+        (does-grew (λ bs n. c bs (ofMember a m s g n)) l i (exec-does (envAt e (endOf e a m)) (m .statement) w)) f) k q w
 
     pub ended-came : (k q : ℕ) (w v : World) → Grew v w → Came v (ended (runFrom k e q w) (e .page))
     ended-came k q w v g =
@@ -106,70 +109,70 @@ module _ (lim : ℕ) (input : List ℕ) where
     unfolding edited
     edit-came w rs = if-split (Came w) (leb (length (programBytes rs)) (length (e .page))) (λ _. nothing-new) (λ _. nothing-new)
 
-    pub obey-came : (k : ℕ) (w : World) (t : Typed) → Came w (obey k e w t)
+    pub obey-came : (k : ℕ) (w : World) (t : Typed) → ((bs : List ℕ) → TypedItem e t bs → W bs) → Came w (obey k e w t)
     unfolding obey
-    obey-came k w blank = nothing-new
-    obey-came k w new = edit-came w []
-    obey-came k w clear = nothing-new
-    obey-came k w run = ended-came k 0 _ w nothing-new
-    obey-came k w (delete n) = by (hasLine n (recordsOf (e .page))) where
+    obey-came k w blank o = nothing-new
+    obey-came k w new o = edit-came w []
+    obey-came k w clear o = nothing-new
+    obey-came k w run o = ended-came k 0 _ w nothing-new
+    obey-came k w (delete n) o = by (hasLine n (recordsOf (e .page))) where
       by : (b : Bool) → Came w (elim b [ true ↦ edited (e .page) w (without n (recordsOf (e .page))) | false ↦ stops 0 w (e .page) ])
       by true = edit-came w (without n (recordsOf (e .page)))
       by false = nothing-new
-    obey-came k w (list n) = done-came k w (listFrom n (recordsOf (e .page)) w) (does-grew l i (list-does e [] n (recordsOf (e .page)) w))
-    obey-came k w (store n t ms) = edit-came w (with (record { line = n; text = t }) (recordsOf (e .page)))
-    obey-came k w (immediate q) = by (needsProgram q) where
+    obey-came k w (list n) o = done-came k w (listFrom n (recordsOf (e .page)) w) (does-grew (λ bs n. o bs (ofList n)) l i (list-does e [] n (recordsOf (e .page)) w))
+    obey-came k w (store n t ms) o = edit-came w (with (record { line = n; text = t }) (recordsOf (e .page)))
+    obey-came k w (immediate q) o = by (needsProgram q) where
       by : (b : Bool) → Came w (elim b [ true ↦ stops 3 w (e .page) | false ↦ immediately k e (exec e q w) ])
       by true = nothing-new
-      by false = done-came k w (exec e q w) (does-grew l i (exec-does e q w))
+      by false = done-came k w (exec e q w) (does-grew (λ bs n. o bs (ofStatement n)) l i (exec-does e q w))
 
 module _ (x : Lent) where
+  abbrev env : Env
+  env = envOf limit x
+
   -- from a position of the input on
-  abbrev From : ℕ → Outcome → Type 0
-  From at o = Wrote limit (x .input) (x .output) (x .call .outpos) at (o .output) (o .answer .outpos) (o .answer .inpos)
+  abbrev From : (List ℕ → Type 0) → ℕ → Outcome → Type 0
+  From W at o = Wrote W limit (x .input) (x .output) (x .call .outpos) at (o .output) (o .answer .outpos) (o .answer .inpos)
 
-  read-came : (g : Gathered) (t : Typed) → From (x .call .inpos + g .taken) (obey (x .call .budget) (envOf limit x) (begun x (g .taken)) t)
-  read-came g t = obey-came limit (x .input) (envOf limit x) refl refl (x .call .budget) (begun x (g .taken)) t
+  still : {W : List ℕ → Type 0} {out : List ℕ} {at from : ℕ} → Wrote W limit (x .input) out at from out at from
+  still = record { items = noItem; lines = noLine }
 
-  typed-came : (g : Gathered) → Typing limit x g → {o : Outcome} → Takes limit x o → From (x .call .inpos + g .taken) o
+  read-came : (g : Gathered) (t : Typed) → typed (g .line .bytes) ≡ some t → From (LineItem env g) (x .call .inpos + g .taken) (obey (x .call .budget) env (begun x (g .taken)) t)
+  read-came g t r =
+      obey-came (LineItem env g) limit (x .input) env refl refl (λ bs i. ofProgram i) (x .call .budget) (begun x (g .taken)) t (λ bs i. ofTyped t (typed-sound (g .line .bytes) t r) i)
+
+  typed-came : (g : Gathered) → Typing limit x g → {o : Outcome} → Takes limit x o → From (LineItem env g) (x .call .inpos + g .taken) o
   typed-came g h (ways.refused e) = let z = h .sound in absurd (omega arith)
   typed-came g h (noCR z e) = let l = h .line in let c : _≡_ {A = ℕ} 0 1 = cc in absurd (omega arith)
   typed-came g h (overlong f z e l) = let i = h .line in let c : f ≡ g = cc in let s : f .line .long ≡ false = rw c (h .short) in absurd (true≢false (rw l at s))
-  typed-came g h (unread f y e) = let i = h .line in let j = y .line in let c : f ≡ g = cc in rw c (nothing-new limit (x .input))
-  typed-came g h (reads f t y e) = let i = h .line in let j = y .line in let c : f ≡ g = cc in rw (← c) (read-came f t)
+  typed-came g h (unread f y e) = let i = h .line in let j = y .line in let c : f ≡ g = cc in rw c still
+  typed-came g h (reads f t y e) = let i = h .line in let j = y .line in let c : f ≡ g = cc in rw (← c) (read-came f t e)
 
-  any-came : {o : Outcome} → Takes limit x o → From (x .call .inpos) o
-  any-came (ways.refused e) = nothing-new limit (x .input)
-  any-came (noCR z e) = nothing-new limit (x .input)
-  any-came (overlong g z e l) = record { items = noItem; lines = line g e noLine }
-  any-came (unread g y e) = record { items = noItem; lines = line g (y .line) noLine }
-  any-came (reads g t y e) = let r = read-came g t in record { items = r .items; lines = line g (y .line) (r .lines) }
+  begun-grew : {W : List ℕ → Type 0} → Grew W limit (x .input) (worldOf x) (begun x 0)
+  begun-grew = rw (add-zero (x .call .inpos)) still
 
-  begun-grew : Grew limit (x .input) (worldOf x) (begun x 0)
-  begun-grew = rw (add-zero (x .call .inpos)) (nothing-new limit (x .input))
-
-  continue-came : {o : Outcome} → Continues limit x o → From (x .call .inpos) o
-  continue-came (refused′ e) = nothing-new limit (x .input)
+  continue-came : {o : Outcome} → Continues limit x o → From (ProgramItem env) (x .call .inpos) o
+  continue-came (refused′ e) = still
   continue-came (continues e) = by (x .session .paused) where
-    by : (p : Paused) → From (x .call .inpos) (continueFrom limit x p)
+    by : (p : Paused) → From (ProgramItem env) (x .call .inpos) (continueFrom limit x p)
     by Nowhere = begun-grew
-    by Start = ended-came limit (x .input) (envOf limit x) refl refl (x .call .budget) 0 (begun x 0) (worldOf x) begun-grew
-    by (At p) = ended-came limit (x .input) (envOf limit x) refl refl (x .call .budget) (suc (p .0)) (begun x 0) (worldOf x) begun-grew
+    by Start = ended-came (ProgramItem env) limit (x .input) env refl refl (λ bs i. i) (x .call .budget) 0 (begun x 0) (worldOf x) begun-grew
+    by (At p) = ended-came (ProgramItem env) limit (x .input) env refl refl (λ bs i. i) (x .call .budget) (suc (p .0)) (begun x 0) (worldOf x) begun-grew
 
-  -- after the typed line, which is taken whole
-  pub a-line-writes-whole-items : (g : Gathered) → Typing limit x g → From (x .call .inpos + g .taken) (takeLine x)
+  -- after the typed line, which is taken whole: the line's own items, and those of the run that it begins
+  pub a-line-writes-whole-items : (g : Gathered) → Typing limit x g → From (LineItem (envOf limit x) g) (x .call .inpos + g .taken) (takeLine x)
   unfolding takeLine
   a-line-writes-whole-items g h = typed-came g h (every-line limit x)
 
   -- whatever is lent
-  pub calls-write-whole-items : From (x .call .inpos) (takeLine x) × From (x .call .inpos) (continueRun x)
-  unfolding takeLine continueRun
-  calls-write-whole-items = (any-came (every-line limit x), continue-came (every-continue limit x))
+  pub continue-writes-whole-items : From (ProgramItem (envOf limit x)) (x .call .inpos) (continueRun x)
+  unfolding continueRun
+  continue-writes-whole-items = continue-came (every-continue limit x)
 
 -- so positions stay in range
-items-inside : {a b : List ℕ} {i j : ℕ} → Items a i b j → i ≤ length a → j ≤ length b
+items-inside : {W : List ℕ → Type 0} {a b : List ℕ} {i j : ℕ} → Items W a i b j → i ≤ length a → j ≤ length b
 items-inside noItem h = h
-items-inside (item {out = out} {at = at} bs l s) h = items-inside s (omega (arith, length-sets out at bs))
+items-inside (item {out = out} {at = at} bs n l s) h = items-inside s (omega (arith, length-sets out at bs))
 
 lines-inside : {lim : ℕ} {input : List ℕ} {i j : ℕ} → Lines lim input i j → i ≤ length input → j ≤ length input
 lines-inside noLine h = h
@@ -178,9 +181,17 @@ lines-inside {lim = lim} {input = input} (line {at = at} g e s) h = lines-inside
 abbrev Inside : Lent → Outcome → Type 0
 Inside x o = (o .answer .inpos ≤ length (x .input)) × (o .answer .outpos ≤ length (o .output))
 
+wrote-inside : {W : List ℕ → Type 0} {input out out' : List ℕ} {at from at' from' : ℕ} → Wrote W limit input out at from out' at' from' → from ≤ length input → at ≤ length out
+    → (from' ≤ length input) × (at' ≤ length out')
+wrote-inside r h i = (lines-inside (r .lines) h, items-inside (r .items) i)
+
+take-inside : {x : Lent} {o : Outcome} → InRange x → Takes limit x o → Inside x o
+take-inside r (ways.refused e) = (r .inpos, r .outpos)
+take-inside r (noCR z e) = (r .inpos, r .outpos)
+take-inside {x = x} r (overlong g z e l) = (gathered-inside limit (x .input) (x .call .inpos) g (r .inpos) e, r .outpos)
+take-inside {x = x} r (unread g y e) = (gathered-inside limit (x .input) (x .call .inpos) g (r .inpos) (y .line), r .outpos)
+take-inside {x = x} r (reads g t y e) = wrote-inside (read-came x g t e) (gathered-inside limit (x .input) (x .call .inpos) g (r .inpos) (y .line)) (r .outpos)
+
 pub positions-stay-in-range : (x : Lent) → InRange x → Inside x (takeLine x) × Inside x (continueRun x)
-positions-stay-in-range x r =
-    let c = calls-write-whole-items x in (
-      (lines-inside (c .0 .lines) (r .inpos), items-inside (c .0 .items) (r .outpos)),
-      (lines-inside (c .1 .lines) (r .inpos), items-inside (c .1 .items) (r .outpos)),
-    )
+unfolding takeLine
+positions-stay-in-range x r = (take-inside r (every-line limit x), wrote-inside (continue-writes-whole-items x) (r .inpos) (r .outpos))

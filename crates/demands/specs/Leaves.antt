@@ -109,10 +109,10 @@ pub record Deletes (x : Lent) (n : ℕ) (o : Outcome) : Type 0 where
   pub gone : ofLine n (recordsOf (o .page)) ≡ []
   pub rest : recordsOf (o .page) ≡ others n (recordsOf (x .page))
 
--- Whole items from a position of the output on, one after the other: the output then, and the position
-pub data Items : List ℕ → ℕ → List ℕ → ℕ → Type 0 where
-  noItem : {out : List ℕ} {at : ℕ} → Items out at out at
-  item : {out out' : List ℕ} {at at' : ℕ} (bs : List ℕ) → at + length bs ≤ length out → Items (sets out at bs) (at + length bs) out' at' → Items out at out' at'
+-- Whole items from a position of the output on, one after the other: the output then, and the position. W says what an item is
+pub data Items (W : List ℕ → Type 0) : List ℕ → ℕ → List ℕ → ℕ → Type 0 where
+  noItem : {out : List ℕ} {at : ℕ} → Items W out at out at
+  item : {out out' : List ℕ} {at at' : ℕ} (bs : List ℕ) → W bs → at + length bs ≤ length out → Items W (sets out at bs) (at + length bs) out' at' → Items W out at out' at'
 
 -- whole lines of the input, as they are gathered, from a position on
 pub data Lines (lim : ℕ) (input : List ℕ) : ℕ → ℕ → Type 0 where
@@ -120,8 +120,8 @@ pub data Lines (lim : ℕ) (input : List ℕ) : ℕ → ℕ → Type 0 where
   line : {at at' : ℕ} (g : Gathered) → gather lim (drop at input) ≡ some g → Lines lim input (at + g .taken) at' → Lines lim input at at'
 
 -- whole items written and whole lines taken, from these positions to those
-pub record Wrote (lim : ℕ) (input out : List ℕ) (at from : ℕ) (out' : List ℕ) (at' from' : ℕ) : Type 0 where
-  pub items : Items out at out' at'
+pub record Wrote (W : List ℕ → Type 0) (lim : ℕ) (input out : List ℕ) (at from : ℕ) (out' : List ℕ) (at' from' : ℕ) : Type 0 where
+  pub items : Items W out at out' at'
   pub lines : Lines lim input from from'
 
 -- all of the record but its variables
@@ -132,12 +132,12 @@ pub record SameButVars (s t : Session) : Type 0 where
   pub fors : t .fors ≡ s .fors
   pub paused : t .paused ≡ s .paused
 
--- what a refusing statement leaves, from w to u: us are the variables that its INPUT names
-pub record Refused (e : Env) (us : List ℕ) (w u : World) : Type 0 where
+-- what a refusing statement leaves, from w to u: us are the variables that its INPUT names, W says what its items are
+pub record Refused (e : Env) (us : List ℕ) (W : List ℕ → Type 0) (w u : World) : Type 0 where
   pub given : GivenIn us (w .session .vars) (u .session .vars)
   pub rest : SameButVars (w .session) (u .session)
   pub memory : u .memory ≡ w .memory
-  pub items : Items (w .output) (w .outpos) (u .output) (u .outpos)
+  pub items : Items W (w .output) (w .outpos) (u .output) (u .outpos)
   pub lines : Lines (e .lim) (e .input) (w .inpos) (u .inpos)
 
 -- "RETURN to the immediate mark" pops one place, the mark, and changes nothing else of the record

@@ -1,3 +1,4 @@
+pub mod Items
 pub mod Effects
 pub mod Asks
 pub mod Leaves

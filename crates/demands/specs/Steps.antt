@@ -4,15 +4,17 @@ use mathlib.Core.Path.{_≡_}
 use mathlib.Core.List.{List}
 use mathlib.Core.Option.{none, some}
 use lib.ListN.{length}
-use Rattle.nibl.specs.Tree.{Member}
+use Rattle.nibl.specs.Tree.{Member, Typed}
+use Rattle.nibl.specs.Readings.{LineReading}
 use Rattle.nibl.specs.Typing.{Gathered}
 use Rattle.nibl.specs.Read.{found, member}
 use Rattle.nibl.specs.Page.{lineOf}
 use Rattle.nibl.specs.Meaning.{World, Env, Next, on, skip, go, stop, done, exec}
-use Rattle.nibl.specs.Calls.{Lent, Outcome, textFrom, lineFrom, envAt, withPaused, pausedAt}
+use Rattle.nibl.specs.Calls.{Lent, Outcome, textFrom, lineFrom, envAt, envOf, withPaused, pausedAt, limit}
 use Rattle.nibl.specs.declared.Paused.the-variants.{Nowhere}
 use Rattle.nibl.specs.declared.StopLine.the-variants as stopLine
 use Rattle.demands.specs.Leaves.{unpaused, Items}
+use Rattle.demands.specs.Items.{ItemOf, TypedItem}
 use Rattle.demands.specs.Sound.{LiesIn}
 use Rattle.demands.specs.Starts.{resumes}
 
@@ -71,13 +73,13 @@ pub record OneMore (e : Env) (budget : ℕ) (o' o : Outcome) : Type 0 where
   pub outpos : o .answer .outpos ≡ after .outpos
   pub inpos : o .answer .inpos ≡ after .inpos
 
--- A typed line's own refusal: the record but for its pause, the page and the memory are as before; the output only grows by whole items; of
+-- A typed line's own refusal: the record but for its pause, the page and the memory are as before; the output only grows by whole items of the line's own; of
 -- the input the line is taken, and no more
-pub record RefusedLine (x : Lent) (g : Gathered) (o : Outcome) : Type 0 where
+pub record RefusedLine (x : Lent) (g : Gathered) (y : Typed) (o : Outcome) : Type 0 where
   pub session : o .session ≡ unpaused (x .session)
   pub page : o .page ≡ x .page
   pub memory : o .memory ≡ x .memory
-  pub items : Items (x .output) (x .call .outpos) (o .output) (o .answer .outpos)
+  pub items : Items (TypedItem (envOf limit x) y) (x .output) (x .call .outpos) (o .output) (o .answer .outpos)
   pub inpos : o .answer .inpos ≡ x .call .inpos + g .taken
   pub steps : o .answer .steps ≡ 0
 
@@ -93,3 +95,12 @@ pub record LeftToRun (From : ℕ → World → Type 0) (e : Env) (budget : ℕ) 
   pub start : ℕ
   pub stands : StandsAt From e budget o' o at
   pub follows : textFrom (e .page) at ≡ some start
+
+-- an item that a run may write: one of a member that stands in the page
+pub data ProgramItem (e : Env) : List ℕ → Type 0 where
+  ofMember : {bs : List ℕ} (a : ℕ) (m : Member) (s : List ℕ) → member (lineFrom (e .page) a) ≡ found m s → ItemOf (envAt e (endOf e a m)) (m .statement) bs → ProgramItem e bs
+
+-- an item that the typed line g may write, of its own or by the run that it begins
+pub data LineItem (e : Env) (g : Gathered) : List ℕ → Type 0 where
+  ofTyped : {bs : List ℕ} (y : Typed) → LineReading (g .line .bytes) y → TypedItem e y bs → LineItem e g bs
+  ofProgram : {bs : List ℕ} → ProgramItem e bs → LineItem e g bs
