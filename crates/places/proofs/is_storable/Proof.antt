@@ -32,7 +32,7 @@ same-length : tie.Need-same-length
 same-length c = search needs
 
 returns-3 : tie.Need-returns-3
-returns-3 c = 
+returns-3 c =
     let a = c .before .before .before .before .before .before .before .before .before .before .args in
     let h : length (a .text .now) + length (digits (a .line)) ≤ a .lim = omega (arith, c .before .before .before .before .before .before .before .digit-count .ensures, c .before .before .before .before .before .before .if1 .left) in
     c .before .before .reads .ensures ∙ sym (storable-short (a .lim) (a .line) (a .text .now) h (sym (c .before .before .before .before .before .starts-digit .ensures) ∙ c .before .before .before .before .if2 .left))

@@ -39,13 +39,13 @@ shared-slice-read-if4 : tie.Need-shared-slice-read-if4
 shared-slice-read-if4 c = search needs
 
 returns-4 : tie.Need-returns-4
-returns-4 c = 
+returns-4 c =
     let a = c .before .before .before .before .before .before .args in
     let e = byte-last (a .page .now) (a .at) (omega (arith, c .before .before .before .if2 .left)) in
     sym (whole-open (drop (a .at) (a .page .now)) (λ f. c .if4 .taken (sym e ∙ f)))
 
 returns-5 : tie.Need-returns-5
-returns-5 c = 
+returns-5 c =
     let a = c .before .before .before .before .before .before .args in
     let q = drop (a .at) (a .page .now) in
     let l = byte-length (a .page .now) (a .at) in
