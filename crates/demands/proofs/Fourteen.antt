@@ -5,16 +5,20 @@ use mathlib.Core.Logic.{_↔_}
 use native.Mathlib.Omega.{arith}
 use lib.Dec.{eqb}
 use borrow.Author.Tests.{eqb-true, eqb-false}
+use Rattle.nibl.specs.Tree.{Typed, run, immediate}
+use Rattle.nibl.specs.Typing.{Gathered}
+use Rattle.nibl.specs.Readings.{LineReading}
 use Rattle.nibl.specs.Meaning.{World, Env, Next, stop}
 use Rattle.nibl.specs.Calls.{Lent, Outcome, runFrom, firstRefusal, envOf, takeLine, continueRun, limit}
 use Rattle.page.proofs.Walk.{by-cases}
 use Rattle.demands.specs.Sound.{Sized, Answered, byLine, byRun, budgeted}
-use Rattle.demands.specs.Starts.{StartsTyped, StartsPaused}
-use Rattle.demands.specs.Steps.{endOf, crOf, GoesTo, afterIt, afterRecord, jumps, Ends, halts, runsOut, pauses, OneMore, StandsAt, begun, later, LeftToRun}
+use Rattle.demands.specs.Starts.{Starts, byRUN, byStatement, StartsTyped, typed, StartsPaused}
+use Rattle.demands.specs.Steps.{endOf, crOf, GoesTo, afterIt, afterRecord, jumps, Ends, halts, runsOut, pauses, OneMore, StandsAt, begun, later, LeftToRun, NoStepMade, nothingLeft, pausedAtOnce}
 use Rattle.demands.proofs.Sound.{unrefused}
 use Rattle.demands.proofs.LastStep.{Still, over, waits, unread, no-step}
 use Rattle.demands.proofs.Line.{the-answers-line}
-use Rattle.demands.proofs.Beginning.{ranFrom, a-run-begins, a-paused-run-goes-on, no-budget-pauses-at-once}
+use Rattle.demands.proofs.Beginning.{ranFrom, a-run-begins, a-paused-run-goes-on, nothing-to-run-is-0, no-budget-pauses-at-once}
+use Rattle.demands.proofs.Five.{exactly-5, continuing-never-answers-5}
 use Rattle.demands.proofs.Steps.{the-last-statement, the-last-statement-of-continue}
 
 -- a member goes to one position, or stops the run
@@ -91,3 +95,25 @@ pub fourteen-exactly-of-continue : (x : Lent) → Sized (x .session) → firstRe
 fourteen-exactly-of-continue x sized z =
     exactly x (StartsPaused limit x) (continueRun (budgeted (continueRun x .answer .steps - 1) x)) (continueRun x) (the-answers-line x (unrefused limit x sized z) .1)
     (λ q w b. a-paused-run-goes-on x b) (the-last-statement-of-continue x sized)
+
+-- The first step of a run is missing only where nothing is left to run, or at a budget of 0
+no-step-made : (x : Lent) (q : ℕ) (w : World) (o : Outcome) → o ≡ ranFrom x q w → o .answer .steps ≡ 0 → (o .answer .stop ≡ 5 → ⊥) → NoStepMade (x .page) (x .call .budget) q w o
+no-step-made x q w o e z five = by (no-step (x .call .budget) (envOf limit x) q w (sym (ap (λ o. o .answer .steps) e) ∙ z) .still) where
+  by : Still (x .page) (x .call .budget) q (runFrom (x .call .budget) (envOf limit x) q w) → NoStepMade (x .page) (x .call .budget) q w o
+  by (over h n) = nothingLeft h (e ∙ nothing-to-run-is-0 x q w h)
+  by (waits a h n k at) = pausedAtOnce a h k (e ∙ no-budget-pauses-at-once x q a w k h)
+  by (unread n) = absurd (five (ap (λ o. o .answer .stop) e ∙ n))
+
+pub a-run-of-no-steps : (x : Lent) → Sized (x .session) → {q : ℕ} {w : World} → StartsTyped limit x q w → takeLine x .answer .steps ≡ 0
+    → NoStepMade (x .page) (x .call .budget) q w (takeLine x)
+a-run-of-no-steps x sized {q = q} {w = w} b z = no-step-made x q w (takeLine x) (a-run-begins x b) z (five b) where
+  read : {g : Gathered} {q : ℕ} {w : World} → Starts limit x g q w → ((y : Typed) → LineReading (g .line .bytes) y → ⊥) → ⊥
+  read (byRUN r) f = f run r
+  read (byStatement s r n e) f = f (immediate s) r
+
+  five : {q : ℕ} {w : World} → StartsTyped limit x q w → takeLine x .answer .stop ≡ 5 → ⊥
+  five (typed g i h s b) c = read b (exactly-5 x g sized i h s .0 c)
+
+pub a-continued-run-of-no-steps : (x : Lent) → Sized (x .session) → {q : ℕ} {w : World} → StartsPaused limit x q w → continueRun x .answer .steps ≡ 0
+    → NoStepMade (x .page) (x .call .budget) q w (continueRun x)
+a-continued-run-of-no-steps x sized {q = q} {w = w} b z = no-step-made x q w (continueRun x) (a-paused-run-goes-on x b) z (continuing-never-answers-5 x sized)

@@ -9,8 +9,8 @@ use Rattle.nibl.specs.Readings.{LineReading}
 use Rattle.nibl.specs.Typing.{Gathered}
 use Rattle.nibl.specs.Read.{found, member}
 use Rattle.nibl.specs.Page.{lineOf}
-use Rattle.nibl.specs.Meaning.{World, Env, Next, on, skip, go, stop, done, exec}
-use Rattle.nibl.specs.Calls.{Lent, Outcome, textFrom, lineFrom, envAt, envOf, withPaused, pausedAt, limit}
+use Rattle.nibl.specs.Meaning.{World, Env, Next, on, skip, go, stop, done, withSession, exec}
+use Rattle.nibl.specs.Calls.{Lent, Outcome, textFrom, lineFrom, envAt, envOf, withPaused, pausedAt, stops, limit}
 use Rattle.nibl.specs.declared.Paused.the-variants.{Nowhere}
 use Rattle.nibl.specs.declared.StopLine.the-variants as stopLine
 use Rattle.demands.specs.Leaves.{unpaused, Items}
@@ -72,6 +72,11 @@ pub record OneMore (e : Env) (budget : ℕ) (o' o : Outcome) : Type 0 where
   pub output : o .output ≡ after .output
   pub outpos : o .answer .outpos ≡ after .outpos
   pub inpos : o .answer .inpos ≡ after .inpos
+
+-- what a call leaves whose run, from q on in the world w, made no step: nothing was left to run, or the budget is 0
+pub data NoStepMade (page : List ℕ) (budget q : ℕ) (w : World) (o : Outcome) : Type 0 where
+  nothingLeft : textFrom page q ≡ none → o ≡ stops 0 w page → NoStepMade page budget q w o
+  pausedAtOnce : (a : ℕ) → textFrom page q ≡ some a → budget ≡ 0 → o ≡ stops 14 (withSession w (withPaused (w .session) (pausedAt q))) page → NoStepMade page budget q w o
 
 -- A typed line's own refusal: the record but for its pause, the page and the memory are as before; the output only grows by whole items of the line's own; of
 -- the input the line is taken, and no more
