@@ -98,6 +98,7 @@ abbrev pub Entries : (ForEntry → Bool) → ForStack → Type 0
 Entries f s = Held f 4 (s .depth) (s .entries)
 
 pub record FitBy (g d : Place → Bool) (f : ForEntry → Bool) (ps : List ℕ) (s : Session) : Type 0 where
+  pub vars : length (s .vars) ≡ 26
   pub gosubs : Places g (s .gosubs)
   pub dos : Places d (s .dos)
   pub fors : Entries f (s .fors)
@@ -126,6 +127,7 @@ fit-of ps s z h =
     let f = both (all (entryIn ps) (take (s .fors .depth) (s .fors .entries))) _ (e .1) in
     let g = both (ltb (s .flags) 8) _ (f .1) in
     record {
+      vars = z .vars;
       gosubs = record { deep = leb-true _ _ (a .0); room = z .gosubs; live = d .0 };
       dos = record { deep = leb-true _ _ (b .0); room = z .dos; live = e .0 };
       fors = record { deep = leb-true _ _ (c .0); room = z .fors; live = f .0 };
@@ -152,7 +154,7 @@ sound-fit {page = page} {s = s} h = fit-of (placesOf page) s (h .sized) (h .fitt
 pub fit-sound : (lim : ℕ) {page : List ℕ} {s : Session} → isGood lim page ≡ true → Fit (placesOf page) s → Sound lim page s
 unfolding fits
 fit-sound lim {page = page} {s = s} g f =
-    record { good = g; fitting = fit-fits (placesOf page) s f; sized = record { gosubs = f .gosubs .room; dos = f .dos .room; fors = f .fors .room } }
+    record { good = g; fitting = fit-fits (placesOf page) s f; sized = record { vars = f .vars; gosubs = f .gosubs .room; dos = f .dos .room; fors = f .fors .room } }
 
 -- Pushes and pops
 module _ (f : Place → Bool) (s : PlaceStack) (h : Places f s) where
@@ -177,8 +179,8 @@ module _ (f : ForEntry → Bool) (s : ForStack) (h : Entries f s) where
 
 -- What a statement leaves
 module _ {g d : Place → Bool} {f : ForEntry → Bool} {ps : List ℕ} {s : Session} (h : FitBy g d f ps s) where
-  pub fit-vars : (x : List ℕ) → FitBy g d f ps (withVars s x)
-  fit-vars x = record { gosubs = h .gosubs; dos = h .dos; fors = h .fors; flags = h .flags; paused = h .paused }
+  pub fit-vars : (x : List ℕ) → length x ≡ 26 → FitBy g d f ps (withVars s x)
+  fit-vars x n = record { vars = n; gosubs = h .gosubs; dos = h .dos; fors = h .fors; flags = h .flags; paused = h .paused }
 
 module _ (g d : Place → Bool) (f : ForEntry → Bool) (ps : List ℕ) where
   abbrev pub Fits : World → Type 0
@@ -187,7 +189,7 @@ module _ (g d : Place → Bool) (f : ForEntry → Bool) (ps : List ℕ) where
   gives-fits : {w : World} {r : Done} → Gives w r → Fits w → Fits (worldAfter r)
   gives-fits gave h = h
   gives-fits (refused n) h = h
-  gives-fits (gives v x k) h = gives-fits k (fit-vars h _)
+  gives-fits {w = w} (gives v x k) h = gives-fits k (fit-vars h _ (length-set (w .session .vars) v x ∙ h .vars))
 
   module _ (e : Env) (vs : List ℕ) (saved : g (place (e .here)) ≡ true) (looped : d (place (e .here)) ≡ true)
       (begun : (v l s : ℕ) → isAmong vs v ≡ true → f (record { var = v; limit = l; step = s; place = place (e .here) }) ≡ true) where
@@ -197,24 +199,24 @@ module _ (g d : Place → Bool) (f : ForEntry → Bool) (ps : List ℕ) where
     does-fits (refuses n) h = h
     does-fits passes h = h
     does-fits skips h = h
-    does-fits (assigns v x) h = fit-vars h _
-    does-fits (assignsFlags x) h = record { gosubs = h .gosubs; dos = h .dos; fors = h .fors; flags = lt-ltb (x % 8) 8 (omega arith); paused = h .paused }
+    does-fits {w = w} (assigns v x) h = fit-vars h _ (length-set (w .session .vars) v x ∙ h .vars)
+    does-fits (assignsFlags x) h = record { vars = h .vars; gosubs = h .gosubs; dos = h .dos; fors = h .fors; flags = lt-ltb (x % 8) 8 (omega arith); paused = h .paused }
     does-fits (stores m l) h = h
     does-fits (goesTo n l) h = h
     does-fits {w = w} (saves n l k) h =
-        record { gosubs = push-places g (w .session .gosubs) (h .gosubs) (place (e .here)) saved; dos = h .dos; fors = h .fors; flags = h .flags; paused = h .paused }
+        record { vars = h .vars; gosubs = push-places g (w .session .gosubs) (h .gosubs) (place (e .here)) saved; dos = h .dos; fors = h .fors; flags = h .flags; paused = h .paused }
     does-fits {w = w} (returns p l) h =
-        record { gosubs = pop-places g (w .session .gosubs) (h .gosubs); dos = h .dos; fors = h .fors; flags = h .flags; paused = h .paused }
+        record { vars = h .vars; gosubs = pop-places g (w .session .gosubs) (h .gosubs); dos = h .dos; fors = h .fors; flags = h .flags; paused = h .paused }
     does-fits {w = w} (loops l) h =
-        record { gosubs = h .gosubs; dos = push-places d (w .session .dos) (h .dos) (place (e .here)) looped; fors = h .fors; flags = h .flags; paused = h .paused }
+        record { vars = h .vars; gosubs = h .gosubs; dos = push-places d (w .session .dos) (h .dos) (place (e .here)) looped; fors = h .fors; flags = h .flags; paused = h .paused }
     does-fits (repeats p l) h = h
     does-fits {w = w} (leaves p l) h =
-        record { gosubs = h .gosubs; dos = pop-places d (w .session .dos) (h .dos); fors = h .fors; flags = h .flags; paused = h .paused }
+        record { vars = h .vars; gosubs = h .gosubs; dos = pop-places d (w .session .dos) (h .dos); fors = h .fors; flags = h .flags; paused = h .paused }
     does-fits {w = w} (begins v x y z l k) h =
-        record { gosubs = h .gosubs; dos = h .dos; fors = push-entries f (w .session .fors) (h .fors) _ (begun v y z l); flags = h .flags; paused = h .paused }
-    does-fits (again v x l k) h = fit-vars h _
+        record { vars = length-set (w .session .vars) v x ∙ h .vars; gosubs = h .gosubs; dos = h .dos; fors = push-entries f (w .session .fors) (h .fors) _ (begun v y z l); flags = h .flags; paused = h .paused }
+    does-fits {w = w} (again v x l k) h = fit-vars h _ (length-set (w .session .vars) v _ ∙ h .vars)
     does-fits {w = w} (finishes v x l k) h =
-        record { gosubs = h .gosubs; dos = h .dos; fors = pop-entries f (w .session .fors) (h .fors); flags = h .flags; paused = h .paused }
+        record { vars = length-set (w .session .vars) v _ ∙ h .vars; gosubs = h .gosubs; dos = h .dos; fors = pop-entries f (w .session .fors) (h .fors); flags = h .flags; paused = h .paused }
     does-fits (inputs k) h = gives-fits k h
 
 -- Where it goes on
@@ -306,14 +308,14 @@ member-lettered (atColon p k) = statement-lettered p
 pub found-lettered : (s t : List ℕ) (m : Member) → member s ≡ found m t → Lettered (forVars (m .statement))
 found-lettered s t m e = member-lettered (ok-found (rw e at (it (member-same s))))
 
--- An immediate statement leaves the stacks of DO and FOR alone
-abbrev pub loopsOf : World → PlaceStack × ForStack
-loopsOf w = (w .session .dos, w .session .fors)
+-- An immediate statement leaves the stacks of DO and FOR and the input alone
+abbrev pub aloneOf : World → (PlaceStack × ForStack) × ℕ
+aloneOf w = ((w .session .dos, w .session .fors), w .inpos)
 
 pub record Keeps (w : World) (d : Done) : Type 0 where
-  pub same : loopsOf (worldAfter d) ≡ loopsOf w
+  pub same : aloneOf (worldAfter d) ≡ aloneOf w
 
-pub kept : {w : World} {d : Done} → loopsOf (worldAfter d) ≡ loopsOf w → Keeps w d
+pub kept : {w : World} {d : Done} → aloneOf (worldAfter d) ≡ aloneOf w → Keeps w d
 kept e = record { same = e }
 
 module _ {A : Type 0} where

@@ -2,7 +2,8 @@
 use Prim.Native.Nat.{ℕ, zero, suc, _-_, _≤_}
 use mathlib.Core.Path.{_≡_, refl, sym, ap, _∙_}
 use mathlib.Core.List.{List}
-use mathlib.Core.Option.{some}
+use mathlib.Core.Bool.{true}
+use mathlib.Core.Option.{none, some}
 use native.Mathlib.Omega.{arith}
 use lib.ListN.{length}
 use lib.Dec.{eqb}
@@ -10,19 +11,28 @@ use borrow.Author.Tests.{eqb-true, eqb-false}
 use Rattle.page.proofs.Walk.{by-cases}
 use Rattle.nibl.specs.Tree.{Member}
 use Rattle.nibl.specs.Read.{Found, found, member}
-use Rattle.nibl.specs.Page.{lineOf}
+use Rattle.nibl.specs.Page.{isAmong, lineOf}
 use Rattle.nibl.specs.Meaning.{World, Env, Next, on, skip, go, stop, Done, done, exec}
 use Rattle.nibl.specs.Calls.{Ran, ran, stepped, textFrom, lineFrom, envAt, onward, step, runFrom, pausedAt, stops}
 use Rattle.nibl.specs.declared.Session.{Session}
 use Rattle.nibl.specs.declared.Paused.the-variants.{Nowhere}
 use Rattle.demands.specs.Leaves.{unpaused}
-use Rattle.demands.specs.Steps.{resumes}
+use Rattle.demands.specs.Starts.{resumes}
 use Rattle.demands.proofs.Runs.{run-zero, run-suc, oneStep, endOf, crOf, every-run}
+use Rattle.demands.specs.Steps.{GoesTo, afterIt, afterRecord, jumps}
+use Rattle.demands.proofs.Budget.{stopNumbers, StopsWith, stopped, exec-stops}
 use Rattle.demands.proofs.Numbers.{OneOf}
 use Rattle.demands.proofs.Fixed.{unsaid}
 
--- r is the run from q on that pauses one step before its end, and then one member
-pub record LastStep (e : Env) (q : ℕ) (w : World) (r : Ran) : Type 0 where
+-- how a run ends, within the budget k, whose last member ended so
+pub data RunEnds (page : List ℕ) (p cr : ℕ) (how : Next) (k : ℕ) (r : Ran) : Type 0 where
+  halts : how ≡ stop (r .stop) → isAmong stopNumbers (r .stop) ≡ true → RunEnds page p cr how k r
+  runsOut : (q : ℕ) → GoesTo p cr how q → textFrom page q ≡ none → r .stop ≡ 0 → RunEnds page p cr how k r
+  pauses : (q a : ℕ) → GoesTo p cr how q → textFrom page q ≡ some a → r .stop ≡ 14 → length (r .lines) ≡ k → r .at ≡ q → RunEnds page p cr how k r
+  breaks : r .stop ≡ 5 → RunEnds page p cr how k r
+
+-- r is the run from q on, within the budget k, that pauses one step before its end, and then one member
+pub record LastStep (e : Env) (k q : ℕ) (w : World) (r : Ran) : Type 0 where
   pub before : ℕ
   pub count : length (r .lines) ≡ suc before
   pub pauses : runFrom before e q w .stop ≡ 14
@@ -35,16 +45,27 @@ pub record LastStep (e : Env) (q : ℕ) (w : World) (r : Ran) : Type 0 where
   pub goes : exec (envAt e (endOf e start last)) (last .statement) (runFrom before e q w .world) ≡ done how (r .world)
   pub stops : (OneOf unsaid (r .stop) → ⊥) → how ≡ stop (r .stop)
   pub place : (OneOf unsaid (r .stop) → ⊥) → r .at ≡ endOf e start last
+  pub ends : RunEnds (e .page) (endOf e start last) (crOf e start) how k r
 
 -- a run of no steps
-record NoStep (w : World) (r : Ran) : Type 0 where
-  world : r .world ≡ w
-  stop : OneOf unsaid (r .stop)
+pub data Still (page : List ℕ) (k q : ℕ) (r : Ran) : Type 0 where
+  over : textFrom page q ≡ none → r .stop ≡ 0 → Still page k q r
+  waits : (a : ℕ) → textFrom page q ≡ some a → r .stop ≡ 14 → k ≡ 0 → r .at ≡ q → Still page k q r
+  unread : r .stop ≡ 5 → Still page k q r
 
-no-step : (k : ℕ) (e : Env) (q : ℕ) (w : World) → length (runFrom k e q w .lines) ≡ 0 → NoStep w (runFrom k e q w)
+pub record NoStep (page : List ℕ) (k q : ℕ) (w : World) (r : Ran) : Type 0 where
+  pub world : r .world ≡ w
+  pub stop : OneOf unsaid (r .stop)
+  pub still : Still page k q r
+
+pub no-step : (k : ℕ) (e : Env) (q : ℕ) (w : World) → length (runFrom k e q w .lines) ≡ 0 → NoStep (e .page) k q w (runFrom k e q w)
 no-step k e q w =
-    every-run e (λ k q w r. length (r .lines) ≡ 0 → NoStep w r) (λ k q w h n. record { world = refl; stop = refl }) (λ q w a h n. record { world = refl; stop = refl })
-    (λ k q w a h g n. record { world = refl; stop = refl }) (λ k q w a m s h g i n. absurd (omega arith)) k q w
+    every-run e (λ k q w r. length (r .lines) ≡ 0 → NoStep (e .page) k q w r) (λ k q w h n. record { world = refl; stop = refl; still = over h refl })
+    (λ q w a h n. record { world = refl; stop = refl; still = waits a h refl refl refl }) (λ k q w a h g n. record { world = refl; stop = refl; still = unread refl })
+    (λ k q w a m s h g i n. absurd (omega arith)) k q w
+
+stop-among : {n : ℕ} {w : World} → StopsWith (done (stop n) w) → isAmong stopNumbers n ≡ true
+stop-among (stopped h) = h
 
 module _ (e : Env) (q : ℕ) (w : World) (a : ℕ) (m : Member) (s : List ℕ) (h : textFrom (e .page) q ≡ some a) (g : member (lineFrom (e .page) a) ≡ found m s) where
   abbrev d : Done
@@ -57,9 +78,9 @@ module _ (e : Env) (q : ℕ) (w : World) (a : ℕ) (m : Member) (s : List ℕ) (
   a-step k = run-suc k e q w a h ∙ ap (λ (f : Found Member). step e a w f (runFrom k e)) g
 
   -- this step was the last
-  last-here : (r : Ran) (c : Next) → length (r .lines) ≡ 0 → d ≡ done c (r .world) → ((OneOf unsaid (r .stop) → ⊥) → c ≡ stop (r .stop)) → ((OneOf unsaid (r .stop) → ⊥) → r .at ≡ endOf e a m)
-      → LastStep e q w (stepped l r)
-  last-here r c n f i j =
+  last-here : (k : ℕ) (r : Ran) (c : Next) → length (r .lines) ≡ 0 → d ≡ done c (r .world) → ((OneOf unsaid (r .stop) → ⊥) → c ≡ stop (r .stop)) → ((OneOf unsaid (r .stop) → ⊥) → r .at ≡ endOf e a m)
+      → RunEnds (e .page) (endOf e a m) (crOf e a) c k (stepped l r) → LastStep e k q w (stepped l r)
+  last-here k r c n f i j o =
       record {
         before = 0;
         count = ap suc n;
@@ -73,11 +94,18 @@ module _ (e : Env) (q : ℕ) (w : World) (a : ℕ) (m : Member) (s : List ℕ) (
         goes = rw (run-zero e q w a h) f;
         stops = i;
         place = j;
+        ends = o;
       }
 
   -- or a later one
-  last-later : (k q' : ℕ) (u : World) → ((k : ℕ) → onward d (endOf e a m) (crOf e a) (runFrom k e) ≡ runFrom k e q' u) → LastStep e q' u (runFrom k e q' u)
-      → LastStep e q w (stepped l (runFrom k e q' u))
+  longer : (k : ℕ) (r : Ran) {p cr : ℕ} {c : Next} → RunEnds (e .page) p cr c k r → RunEnds (e .page) p cr c (suc k) (stepped l r)
+  longer k r (halts h i) = halts h i
+  longer k r (runsOut q g h i) = runsOut q g h i
+  longer k r (pauses q b g h i n j) = pauses q b g h i (ap suc n) j
+  longer k r (breaks h) = breaks h
+
+  last-later : (k q' : ℕ) (u : World) → ((k : ℕ) → onward d (endOf e a m) (crOf e a) (runFrom k e) ≡ runFrom k e q' u) → LastStep e k q' u (runFrom k e q' u)
+      → LastStep e (suc k) q w (stepped l (runFrom k e q' u))
   last-later k q' u f t =
       let b = t .before in
       let more : runFrom (suc b) e q w ≡ stepped l (runFrom b e q' u) = a-step b ∙ ap (stepped l) (f b) in
@@ -94,29 +122,36 @@ module _ (e : Env) (q : ℕ) (w : World) (a : ℕ) (m : Member) (s : List ℕ) (
         goes = rw more (t .goes);
         stops = t .stops;
         place = t .place;
+        ends = longer k (runFrom k e q' u) (t .ends);
       }
 
-  goes-on : (k : ℕ) → ((q : ℕ) (w : World) → 1 ≤ length (runFrom k e q w .lines) → LastStep e q w (runFrom k e q w)) → (c : Next) (u : World) → d ≡ done c u → (q' : ℕ)
-      → ((k : ℕ) → onward (done c u) (endOf e a m) (crOf e a) (runFrom k e) ≡ runFrom k e q' u) → LastStep e q w (oneStep e a m w (runFrom k e))
-  goes-on k i c u f q' j =
+  stood : (k q' : ℕ) (r : Ran) (c : Next) → GoesTo (endOf e a m) (crOf e a) c q' → length (r .lines) ≡ 0 → Still (e .page) k q' r
+      → RunEnds (e .page) (endOf e a m) (crOf e a) c (suc k) (stepped l r)
+  stood k q' r c to z (over h i) = runsOut q' to h i
+  stood k q' r c to z (waits b h i n j) = pauses q' b to h i (ap suc (z ∙ sym n)) j
+  stood k q' r c to z (unread i) = breaks i
+
+  goes-on : (k : ℕ) → ((q : ℕ) (w : World) → 1 ≤ length (runFrom k e q w .lines) → LastStep e k q w (runFrom k e q w)) → (c : Next) (u : World) → d ≡ done c u → (q' : ℕ) → GoesTo (endOf e a m) (crOf e a) c q'
+      → ((k : ℕ) → onward (done c u) (endOf e a m) (crOf e a) (runFrom k e) ≡ runFrom k e q' u) → LastStep e (suc k) q w (oneStep e a m w (runFrom k e))
+  goes-on k i c u f q' to j =
       let t : (k : ℕ) → onward d (endOf e a m) (crOf e a) (runFrom k e) ≡ runFrom k e q' u = λ k. ap (λ (c : Done). onward c (endOf e a m) (crOf e a) (runFrom k e)) f ∙ j k in
       rw (t k)
       (by-cases (eqb (length (runFrom k e q' u .lines)) 0)
       (λ n.
       let z = eqb-true (length (runFrom k e q' u .lines)) 0 n in
       let o = no-step k e q' u z in
-      last-here (runFrom k e q' u) c z (rw (o .world) f) (λ v. absurd (v (o .stop))) (λ v. absurd (v (o .stop))))
+      last-here (suc k) (runFrom k e q' u) c z (rw (o .world) f) (λ v. absurd (v (o .stop))) (λ v. absurd (v (o .stop))) (stood k q' (runFrom k e q' u) c to z (o .still)))
       (λ n. last-later k q' u t (i q' u (omega (arith, eqb-false (length (runFrom k e q' u .lines)) 0 n)))))
 
-  last-of : (k : ℕ) → ((q : ℕ) (w : World) → 1 ≤ length (runFrom k e q w .lines) → LastStep e q w (runFrom k e q w)) → (c : Done) → d ≡ c → LastStep e q w (oneStep e a m w (runFrom k e))
-  last-of k i (done on u) f = goes-on k i on u f (suc (endOf e a m)) (λ k. refl)
-  last-of k i (done skip u) f = goes-on k i skip u f (suc (crOf e a)) (λ k. refl)
-  last-of k i (done (go q') u) f = goes-on k i (go q') u f q' (λ k. refl)
-  last-of k i (done (stop n) u) f = rw f (last-here (ran n (endOf e a m) u) (stop n) refl f (λ v. refl) (λ v. refl))
+  last-of : (k : ℕ) → ((q : ℕ) (w : World) → 1 ≤ length (runFrom k e q w .lines) → LastStep e k q w (runFrom k e q w)) → (c : Done) → d ≡ c → LastStep e (suc k) q w (oneStep e a m w (runFrom k e))
+  last-of k i (done on u) f = goes-on k i on u f (suc (endOf e a m)) afterIt (λ k. refl)
+  last-of k i (done skip u) f = goes-on k i skip u f (suc (crOf e a)) afterRecord (λ k. refl)
+  last-of k i (done (go q') u) f = goes-on k i (go q') u f q' jumps (λ k. refl)
+  last-of k i (done (stop n) u) f = rw f (last-here (suc k) (ran n (endOf e a m) u) (stop n) refl f (λ v. refl) (λ v. refl) (halts refl (stop-among (rw f at (exec-stops (envAt e (endOf e a m)) (m .statement) w)))))
 
-pub last-step : (k : ℕ) (e : Env) (q : ℕ) (w : World) → 1 ≤ length (runFrom k e q w .lines) → LastStep e q w (runFrom k e q w)
+pub last-step : (k : ℕ) (e : Env) (q : ℕ) (w : World) → 1 ≤ length (runFrom k e q w .lines) → LastStep e k q w (runFrom k e q w)
 last-step k e q w =
-    every-run e (λ k q w r. 1 ≤ length (r .lines) → LastStep e q w r) (λ k q w h n. absurd (omega arith)) (λ q w a h n. absurd (omega arith)) (λ k q w a h g n. absurd (omega arith))
+    every-run e (λ k q w r. 1 ≤ length (r .lines) → LastStep e k q w r) (λ k q w h n. absurd (omega arith)) (λ q w a h n. absurd (omega arith)) (λ k q w a h g n. absurd (omega arith))
     (λ k q w a m s h g i n. last-of e q w a m s h g k i (exec (envAt e (endOf e a m)) (m .statement) w) refl) k q w
 
 pub resumes-at : (q : ℕ) → resumes (pausedAt q) ≡ q

@@ -4,6 +4,7 @@ pub mod Budget
 pub mod Ways
 pub mod Numbers
 pub mod Accepted
+pub mod Forced
 pub mod Places
 pub mod Fits
 pub mod Running
@@ -15,6 +16,8 @@ pub mod Line
 pub mod Paused
 pub mod Storing
 pub mod Retyping
+pub mod Settling
+pub mod Beginning
 pub mod Refusing
 pub mod Fixed
 pub mod Listing
@@ -23,4 +26,6 @@ pub mod Outside
 pub mod LastStep
 pub mod Resumed
 pub mod Steps
+pub mod Fourteen
 pub mod Within
+pub mod Written

@@ -17,6 +17,7 @@ use Rattle.nibl.specs.declared.StopLine.the-variants as stopLine
 use Rattle.page.proofs.Walk.{by-cases, or-false}
 use Rattle.nibl.proofs.Words.{or-cases}
 use Rattle.demands.specs.Sound.{Sound, Stands, LiesIn, Shows, noLine, aLine, Answered, byLine, byRun}
+use Rattle.demands.specs.Starts.{StartsTyped, StartsPaused}
 use Rattle.demands.proofs.Ways.{Takes, refused, noCR, overlong, unread, reads, every-line, Continues, refused′, continues, every-continue}
 use Rattle.demands.proofs.Runs.{endOf}
 use Rattle.demands.proofs.Numbers.{OneOf, first-numbers}
@@ -82,15 +83,17 @@ pub run-shows : (lim : ℕ) (e : Env) → lim ≤ 251 → (k q : ℕ) (w : World
 run-shows lim e short k q w h s = goings-show lim e short (h .good) (runFrom k e q w) (run-goes lim e short (h .good) k q w s (sound-fit h))
 
 -- and the last step is the one that gave the stop
-pub record StepsLine (e : Env) (q : ℕ) (w : World) (r : Ran) : Type 0 where
-  pub step : LastStep e q w r
-  pub line : stopAt (r .stop) (r .lines) ≡ stopLine.At (record { 0 = lineOf (e .page) (endOf e (step .start) (step .last)) })
-  pub lies : LiesIn (e .page) (endOf e (step .start) (step .last)) (lineOf (e .page) (endOf e (step .start) (step .last)))
+pub record LineOf {e : Env} {k q : ℕ} {w : World} {r : Ran} (t : LastStep e k q w r) : Type 0 where
+  pub line : stopAt (r .stop) (r .lines) ≡ stopLine.At (record { 0 = lineOf (e .page) (endOf e (t .start) (t .last)) })
+  pub lies : LiesIn (e .page) (endOf e (t .start) (t .last)) (lineOf (e .page) (endOf e (t .start) (t .last)))
 
-pub the-last-steps-line : (lim : ℕ) (e : Env) → lim ≤ 251 → (k q : ℕ) (w : World) → Sound lim (e .page) (w .session) → Stands (e .page) q
-    → (runFrom k e q w .stop ≡ 0 → ⊥) → (runFrom k e q w .stop ≡ 14 → ⊥) → StepsLine e q w (runFrom k e q w)
-the-last-steps-line lim e short k q w h s m n = by (run-shows lim e short k q w h s) refl where
-  r : Ran
+pub record StepsLine (e : Env) (k q : ℕ) (w : World) (r : Ran) : Type 0 where
+  pub step : LastStep e k q w r
+  pub its : LineOf step
+
+module _ (lim : ℕ) (e : Env) (short : lim ≤ 251) (k q : ℕ) (w : World) (h : Sound lim (e .page) (w .session)) (s : Stands (e .page) q)
+    (m : runFrom k e q w .stop ≡ 0 → ⊥) (n : runFrom k e q w .stop ≡ 14 → ⊥) where
+  abbrev r : Ran
   r = runFrom k e q w
 
   stopped : OneOf unsaid (r .stop) → ⊥
@@ -98,37 +101,41 @@ the-last-steps-line lim e short k q w h s m n = by (run-shows lim e short k q w 
       or-cases (eqb (r .stop) 0) _ i (λ j. m (eqb-true _ 0 j)) (λ i. or-cases (eqb (r .stop) 5) _ i
       (λ j. no-grammar-refusal-while-running lim e short k q w h s (eqb-true _ 5 j)) (λ i. or-cases (eqb (r .stop) 14) false i (λ j. n (eqb-true _ 14 j)) (λ j. false≢true j)))
 
-  by : {l : StopLine} → Shows (e .page) r l → stopAt (r .stop) (r .lines) ≡ l → StepsLine e q w r
-  by (noLine (inl i)) f = absurd (m i)
-  by (noLine (inr i)) f = absurd (n i)
-  by (aLine i j p d) f =
-      let t = last-step k e q w (some-step (run-goes lim e short (h .good) k q w s (sound-fit h)) i j) in
-      let at = t .place stopped in
-      record { step = t; line = rw (← at) f; lies = rw (← at) d }
+  pub a-last-steps-line : (t : LastStep e k q w r) → LineOf t
+  a-last-steps-line t = by (run-shows lim e short k q w h s) refl where
+    by : {l : StopLine} → Shows (e .page) r l → stopAt (r .stop) (r .lines) ≡ l → LineOf t
+    by (noLine (inl i)) f = absurd (m i)
+    by (noLine (inr i)) f = absurd (n i)
+    by (aLine i j p d) f = let at = t .place stopped in record { line = rw (← at) f; lies = rw (← at) d }
+
+  pub the-last-steps-line : StepsLine e k q w r
+  the-last-steps-line =
+      let t = last-step k e q w (some-step (run-goes lim e short (h .good) k q w s (sound-fit h)) m n) in
+      record { step = t; its = a-last-steps-line t }
 
 -- Of the calls
 module _ (lim : ℕ) (short : lim ≤ 251) (x : Lent) (sound : Sound lim (x .page) (x .session)) where
-  obeyed-answer : {v : World} {o : ℕ → Outcome} → Obeyed lim (envOf lim x) v o → Answered lim x (o (x .call .budget))
+  obeyed-answer : {v : World} {From : ℕ → World → Type 0} {o : ℕ → Outcome} → Obeyed lim (envOf lim x) v From o → Answered lim x From (o (x .call .budget))
   obeyed-answer (stands h f) = byLine refl refl (λ e. false≢true (rw e at h))
   obeyed-answer (edits p n f) = byLine refl refl (λ e. omega arith)
-  obeyed-answer (runs q w s f i j) =
+  obeyed-answer (runs q w s f i j b) =
       let h = fit-sound lim (sound .good) f in
-      byRun q w s h refl (run-shows lim (envOf lim x) short (x .call .budget) q w h s)
+      byRun q w b s h refl (run-shows lim (envOf lim x) short (x .call .budget) q w h s)
 
-  first-answer : (n : ℕ) → firstRefusal lim x ≡ suc n → Answered lim x (stops (suc n) (worldOf x) (x .page))
+  first-answer : {From : ℕ → World → Type 0} (n : ℕ) → firstRefusal lim x ≡ suc n → Answered lim x From (stops (suc n) (worldOf x) (x .page))
   first-answer n e = byLine refl refl (λ h. false≢true (rw h at (first-numbers lim x (suc n) e)))
 
-  take-answer : {o : Outcome} → Takes lim x o → Answered lim x o
+  take-answer : {o : Outcome} → Takes lim x o → Answered lim x (StartsTyped lim x) o
   take-answer (refused {n = n} e) = first-answer n e
   take-answer (noCR z e) = byLine refl refl (λ h. omega arith)
   take-answer (overlong g z e l) = byLine refl refl (λ h. omega arith)
   take-answer (unread g y e) = byLine refl refl (λ h. omega arith)
   take-answer (reads g t y e) = obeyed-answer (read-ways lim x short (sound .good) (sound-fit sound) g t y e)
 
-  continue-answer : {o : Outcome} → Continues lim x o → Answered lim x o
+  continue-answer : {o : Outcome} → Continues lim x o → Answered lim x (StartsPaused lim x) o
   continue-answer (refused′ {n = n} e) = first-answer n e
   continue-answer (continues e) = obeyed-answer (continue-ways lim x short (sound .good) (sound-fit sound) e)
 
-pub the-answers-line : (x : Lent) → Sound limit (x .page) (x .session) → Answered limit x (takeLine x) × Answered limit x (continueRun x)
+pub the-answers-line : (x : Lent) → Sound limit (x .page) (x .session) → Answered limit x (StartsTyped limit x) (takeLine x) × Answered limit x (StartsPaused limit x) (continueRun x)
 unfolding takeLine continueRun
 the-answers-line x h = (take-answer limit (omega arith) x h (every-line limit x), continue-answer limit (omega arith) x h (every-continue limit x))

@@ -85,10 +85,10 @@ abbrev pub Pausing : ℕ → (ℕ → Outcome) → Type 0
 Pausing k o = Exactly (o k .answer .stop) k (o k .answer .steps) (o (suc k) .answer .steps)
 
 module _ (lim : ℕ) (short : lim ≤ 251) (x : Lent) (h : Sound lim (x .page) (x .session)) (k : ℕ) where
-  obeyed-pauses : {v : World} {o : ℕ → Outcome} → Obeyed lim (envOf lim x) v o → Pausing k o
+  obeyed-pauses : {v : World} {From : ℕ → World → Type 0} {o : ℕ → Outcome} → Obeyed lim (envOf lim x) v From o → Pausing k o
   obeyed-pauses (stands {n = n} i f) = unpaused n k (λ e. false≢true (rw e at i))
   obeyed-pauses (edits p n f) = unpaused 0 k (λ e. omega arith)
-  obeyed-pauses (runs q w s f i j) = run-pauses-exactly lim (envOf lim x) short q w (fit-sound lim (h .good) f) s k
+  obeyed-pauses (runs q w s f i j b) = run-pauses-exactly lim (envOf lim x) short q w (fit-sound lim (h .good) f) s k
 
   read-pauses : (g : Gathered) → Typing lim x g → (t : Option Typed) → typed (g .line .bytes) ≡ t → Pausing k (λ n. obeyRead n (envOf lim x) (begun x (g .taken)) t)
   read-pauses g y none e = unpaused 5 k (λ e. omega arith)

@@ -125,10 +125,10 @@ module _ (lim : ℕ) (short : lim ≤ 251) (x : Lent) (h : Sound lim (x .page) (
   unpaused : (u : Outcome) → (u .answer .stop ≡ 14 → ⊥) → Resumes lim x b u u
   unpaused u n = record { after = λ e. absurd (n e); over = λ e. refl }
 
-  obeyed-resumes : {o : ℕ → Outcome} → Obeyed lim (envOf lim x) (begun x 0) o → Resumes lim x b (o a) (o (a + b))
+  obeyed-resumes : {From : ℕ → World → Type 0} {o : ℕ → Outcome} → Obeyed lim (envOf lim x) (begun x 0) From o → Resumes lim x b (o a) (o (a + b))
   obeyed-resumes (stands {n = n} {w = w} i f) = unpaused (stops n w (x .page)) (λ e. false≢true (rw e at i))
   obeyed-resumes (edits p n f) = unpaused _ (λ e. omega arith)
-  obeyed-resumes (runs q w s f p l) = record { after = after-pause lim short x (h .good) q w s f p l a b z; over = by } where
+  obeyed-resumes (runs q w s f p l c) = record { after = after-pause lim short x (h .good) q w s f p l a b z; over = by } where
     by : (runFrom a (envOf lim x) q w .stop ≡ 14 → ⊥) → ended (runFrom (a + b) (envOf lim x) q w) (x .page) ≡ ended (runFrom a (envOf lim x) q w) (x .page)
     by n =
         let same : runFrom (a + b) (envOf lim x) q w ≡ runFrom a (envOf lim x) q w =

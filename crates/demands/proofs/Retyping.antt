@@ -6,7 +6,7 @@ use mathlib.Core.List.{List, [], _∷_}
 use mathlib.Core.Option.{some}
 use native.Mathlib.Omega.{arith}
 use lib.ListN.{length, drop, length-append, length-drop}
-use lib.Seq.{drop-append-seam}
+use lib.Seq.{drop-append-seam, take-at}
 use lib.Dec.{ltb, eqb}
 use borrow.Author.Tests.{ltb-true, eqb-true, eqb-false, le-leb, lt-leb, eq-eqb, ne-eqb}
 use Rattle.nibl.specs.Bytes.{if_then_else_}
@@ -154,6 +154,7 @@ edit-leaves x taken {rs = rs} p h =
       output = refl;
       good = onto-good (x .page) p;
       rising = rw (onto-records (x .page) p) (program-rises p);
+      bytes = rw (onto-used (x .page) p, onto-records (x .page) p) (take-at (programBytes rs) _ (usedBy rs) (program-length rs));
       long = onto-length (x .page) rs h;
       after = rw (onto-used (x .page) p) (onto-after (x .page) rs);
     })

@@ -1,12 +1,12 @@
 -- How a run of a good page with a fitting record goes: at every step a member is read, its end is a place, and the record still fits.
 -- Assumes nothing.
-use Prim.Native.Nat.{ℕ, zero, suc, _≤_, _<_}
+use Prim.Native.Nat.{ℕ, zero, suc, _+_, _≤_, _<_}
 use mathlib.Core.Path.{_≡_, refl, ap}
 use mathlib.Core.Bool.{Bool, true, false}
 use mathlib.Core.List.{List, [], _∷_}
 use mathlib.Core.Option.{none, some}
 use native.Mathlib.Omega.{arith}
-use lib.ListN.{take}
+use lib.ListN.{take, length}
 use lib.Dec.{leb}
 use borrow.Author.Tests.{lt-ltb}
 use Rattle.nibl.specs.Bytes.{all}
@@ -14,6 +14,7 @@ use Rattle.nibl.specs.Tree.{Stmt}
 use Rattle.nibl.specs.Page.{Stored, isAmong, mark, isGood, placesOf, lineOf}
 use Rattle.nibl.specs.Meaning.{World, Env, on, skip, go, stop, Done, done, put, went, exec}
 use Rattle.nibl.specs.Calls.{Ran, ran, stepped, textFrom, lineFrom, envAt, onward, runFrom, needsProgram, listed, listFrom}
+use Rattle.nibl.proofs.Words.{if-split}
 use Rattle.page.proofs.Walk.{or-right}
 use Rattle.demands.specs.Effects.{forVars, Does}
 use Rattle.demands.specs.Sound.{Stands}
@@ -37,6 +38,38 @@ any-held {A = A} {d = d} {l = l} h = record { deep = h .deep; room = h .room; li
   every (suc d) [] = refl
   every (suc d) (x ∷ l) = every d l
 
+-- LIST goes nowhere
+data Unmoved : Done → Type 0 where
+  onward′ : {w : World} → Unmoved (done on w)
+  halted : {n : ℕ} {w : World} → Unmoved (done (stop n) w)
+
+went-unmoved : (d : Done) (k : World → Done) → Unmoved d → ((u : World) → Unmoved (k u)) → Unmoved (went d k)
+went-unmoved (done on u) k h f = f u
+went-unmoved (done (stop n) u) k h f = halted
+
+list-unmoved : (n : ℕ) (rs : List Stored) (w : World) → Unmoved (listFrom n rs w)
+unfolding listFrom put
+list-unmoved n [] w = onward′
+list-unmoved n (r ∷ rs) w = by (leb n (r .line)) (list-unmoved n rs) where
+  by : (b : Bool) → ((u : World) → Unmoved (listFrom n rs u)) → Unmoved (elim b [ true ↦ went (put (listed r) w) (listFrom n rs) | false ↦ listFrom n rs w ])
+  by true f = went-unmoved (put (listed r) w) (listFrom n rs) (if-split Unmoved (leb (w .outpos + length (listed r)) (length (w .output))) (λ _. onward′) (λ _. halted)) f
+  by false f = f w
+
+pub list-stays : (n : ℕ) (rs : List Stored) (w : World) (q : ℕ) (u : World) → listFrom n rs w ≡ done (go q) u → ⊥
+list-stays n rs w q u e = by (list-unmoved n rs w) e where
+  by : {d : Done} → Unmoved d → d ≡ done (go q) u → ⊥
+  by onward′ e = let z : _≡_ {A = ℕ} 0 1 = cc in omega arith
+  by halted e = let z : _≡_ {A = ℕ} 0 1 = cc in omega arith
+
+-- LIST leaves the stacks of DO and FOR and the input alone too
+pub list-keeps : (n : ℕ) (rs : List Stored) (w : World) → Keeps w (listFrom n rs w)
+unfolding listFrom
+list-keeps n [] w = kept refl
+list-keeps n (r ∷ rs) w = by (leb n (r .line)) (list-keeps n rs) where
+  by : (b : Bool) → ((u : World) → Keeps u (listFrom n rs u)) → Keeps w (elim b [ true ↦ went (put (listed r) w) (listFrom n rs) | false ↦ listFrom n rs w ])
+  by true f = went-keeps w (put (listed r) w) (listFrom n rs) (put-keeps (listed r) w) f
+  by false f = f w
+
 module _ (lim : ℕ) (e : Env) (short : lim ≤ 251) (good : isGood lim (e .page) ≡ true) where
   abbrev ps : List ℕ
   ps = placesOf (e .page)
@@ -57,25 +90,17 @@ module _ (lim : ℕ) (e : Env) (short : lim ≤ 251) (good : isGood lim (e .page
   immediate-left vs w d h x k f =
       let saved : savedIn ps (record { 0 = e .here }) ≡ true = rw h (or-right (isAmong ps mark) true refl) in
       let g = does-fits (savedIn ps) (λ p. true) (λ y. true) ps e vs saved refl (λ v l s i. refl) x
-      (record { gosubs = f .gosubs; dos = any-held (f .dos); fors = any-held (f .fors); flags = f .flags; paused = f .paused }) in
-      let dos = ap (λ x. x .0) (k .same) in
-      let fors = ap (λ x. x .1) (k .same) in
+      (record { vars = f .vars; gosubs = f .gosubs; dos = any-held (f .dos); fors = any-held (f .fors); flags = f .flags; paused = f .paused }) in
+      let dos = ap (λ x. x .0 .0) (k .same) in
+      let fors = ap (λ x. x .0 .1) (k .same) in
       record {
-        fit = record { gosubs = g .gosubs; dos = rw dos (f .dos); fors = rw fors (f .fors); flags = g .flags; paused = g .paused };
+        fit = record { vars = g .vars; gosubs = g .gosubs; dos = rw dos (f .dos); fors = rw fors (f .fors); flags = g .flags; paused = g .paused };
         goes = does-goes lim e vs short good x f;
         stops = does-stops x;
       }
 
   pub statement-left : (q : Stmt) (w : World) → e .here ≡ mark → needsProgram q ≡ false → Fit ps (w .session) → Left (e .page) (exec e q w)
   statement-left q w h n f = immediate-left (forVars q) w (exec e q w) h (exec-does e q w) (exec-keeps e q w n) f
-
-  list-keeps : (n : ℕ) (rs : List Stored) (w : World) → Keeps w (listFrom n rs w)
-  unfolding listFrom
-  list-keeps n [] w = kept refl
-  list-keeps n (r ∷ rs) w = by (leb n (r .line)) (list-keeps n rs) where
-    by : (b : Bool) → ((u : World) → Keeps u (listFrom n rs u)) → Keeps w (elim b [ true ↦ went (put (listed r) w) (listFrom n rs) | false ↦ listFrom n rs w ])
-    by true f = went-keeps w (put (listed r) w) (listFrom n rs) (put-keeps (listed r) w) f
-    by false f = f w
 
   pub list-left : (n : ℕ) (rs : List Stored) (w : World) → e .here ≡ mark → Fit ps (w .session) → Left (e .page) (listFrom n rs w)
   list-left n rs w h f = immediate-left [] w (listFrom n rs w) h (list-does e [] n rs w) (list-keeps n rs w) f

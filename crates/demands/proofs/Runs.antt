@@ -9,6 +9,7 @@ use Rattle.nibl.specs.Read.{Found, nothing, found, member}
 use Rattle.nibl.specs.Page.{lineOf}
 use Rattle.nibl.specs.Meaning.{World, Env, Next, on, skip, go, stop, Done, done, exec}
 use Rattle.nibl.specs.Calls.{Ran, ran, stepped, textFrom, lineFrom, envAt, onward, step, runFrom}
+pub use Rattle.demands.specs.Steps.{endOf, crOf}
 
 pub run-none : (k : ℕ) (e : Env) (q : ℕ) (w : World) → textFrom (e .page) q ≡ none → runFrom k e q w ≡ ran 0 q w
 unfolding runFrom
@@ -23,13 +24,6 @@ pub run-suc : (k : ℕ) (e : Env) (q : ℕ) (w : World) (a : ℕ) → textFrom (
     → runFrom (suc k) e q w ≡ step e a w (member (lineFrom (e .page) a)) (runFrom k e)
 unfolding runFrom
 run-suc k e q w a h = rw (h, runFrom)
-
--- the place that ends the member m of the text from a on, and the CR behind that text
-abbrev pub endOf : Env → ℕ → Member → ℕ
-endOf e a m = a + (length (lineFrom (e .page) a) - m .left)
-
-abbrev pub crOf : Env → ℕ → ℕ
-crOf e a = a + length (lineFrom (e .page) a)
 
 abbrev pub oneStep : Env → ℕ → Member → World → (ℕ → World → Ran) → Ran
 oneStep e a m w k = stepped (lineOf (e .page) (endOf e a m)) (onward (exec (envAt e (endOf e a m)) (m .statement) w) (endOf e a m) (crOf e a) k)

@@ -61,11 +61,11 @@ module _ (lim : ℕ) (e : Env) (short : lim ≤ 251) (good : isGood lim (e .page
       (λ h. paused-fit (goings-fit g) (pausedAt (r .at)) (goings-stands g (eqb-true (r .stop) 14 h))) (λ h. goings-fit g) in
       record { sound = fit-sound lim good left; number = widen goingNumbers obeyNumbers refl (r .stop) (goings-number g) }
 
-  pub settled : {v : World} {o : ℕ → Outcome} → Obeyed lim e v o → (k : ℕ) → Settled lim (o k)
+  pub settled : {v : World} {From : ℕ → World → Type 0} {o : ℕ → Outcome} → Obeyed lim e v From o → (k : ℕ) → Settled lim (o k)
   settled (stands {n = n} h f) k = record { sound = fit-sound lim good f; number = widen lineNumbers obeyNumbers refl n h }
   settled (edits {rs = rs} p n f) k =
       record { sound = fit-sound lim (onto-good (e .page) p) (cleared-fit f (placesOf (onto (e .page) rs)) n); number = refl }
-  settled (runs q w s f i j) k = run-settled k q w s f
+  settled (runs q w s f i j b) k = run-settled k q w s f
 
 -- past the first refusals page and record are sound
 pub unrefused : (lim : ℕ) (x : Lent) → Sized (x .session) → firstRefusal lim x ≡ 0 → Sound lim (x .page) (x .session)

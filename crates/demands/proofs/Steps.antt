@@ -8,14 +8,14 @@ use mathlib.Core.Option.{some}
 use native.Mathlib.Omega.{arith}
 use lib.ListN.{length}
 use lib.Dec.{leb, eqb}
-use borrow.Author.Tests.{eq-eqb, eqb-true, eqb-false, leb-true, leb-false}
+use borrow.Author.Tests.{eq-eqb, eqb-true, eqb-false, ne-eqb, leb-true, leb-false}
 use Rattle.page.proofs.Walk.{by-cases}
 use Rattle.nibl.specs.Bytes.{if_then_else_}
 use Rattle.nibl.specs.Tree.{Typed, blank, new, clear, run, delete, list, store, immediate}
 use Rattle.nibl.specs.Read.{typed}
-use Rattle.nibl.specs.Page.{Stored, recordsOf, usedBy, hasLine, with, without}
+use Rattle.nibl.specs.Page.{Stored, isGood, recordsOf, usedBy, hasLine, with, without}
 use Rattle.nibl.specs.Meaning.{World, Env, Next, on, skip, go, stop, Done, done, withSession, exec}
-use Rattle.nibl.specs.Calls.{Lent, Outcome, envAt, runFrom, withPaused, pausedAt, ended, stops, firstRefusal, begun, envOf, edited, listFrom, immediately, needsProgram, obey, takeLine, continueFrom, continueRun, continueRunIn, limit}
+use Rattle.nibl.specs.Calls.{Lent, Outcome, Ran, envAt, runFrom, withPaused, pausedAt, ended, stops, firstRefusal, begun, envOf, edited, listFrom, immediately, needsProgram, obey, takeLine, continueFrom, continueRun, continueRunIn, limit}
 use Rattle.nibl.specs.declared.StopLine.the-variants as stopLine
 use Rattle.nibl.specs.Typing.{Gathered}
 use Rattle.nibl.specs.Readings.{LineReading}
@@ -24,20 +24,25 @@ use Rattle.nibl.specs.declared.Paused.the-variants.{Nowhere, Start, At}
 use Rattle.nibl.proofs.Whole.{typed-complete}
 use Rattle.demands.specs.Asks.{inputVars, GivenIn, stay}
 use Rattle.demands.specs.Leaves.{unpaused, noItem, noLine, Refused}
-use Rattle.demands.specs.Sound.{Sized, budgeted}
-use Rattle.demands.specs.Steps.{worldLeft, OneMore, RefusedLine}
-use Rattle.demands.proofs.Effects.{exec-does, list-does}
+use Rattle.demands.specs.Sound.{Sized, Sound, Stands, budgeted}
+use Rattle.demands.specs.Steps.{worldLeft, Ends, halts, runsOut, pauses, OneMore, RefusedLine}
 use Rattle.demands.proofs.Runs.{endOf}
 use Rattle.demands.proofs.Budget.{steps-within}
 use Rattle.demands.proofs.Ways.{Typing, Takes, refused, noCR, overlong, unread, reads, every-line, Continues, refused′, continues, every-continue}
 use Rattle.demands.proofs.Numbers.{OneOf}
-use Rattle.demands.proofs.Accepted.{accepted-less}
+use Rattle.demands.proofs.Accepted.{accepted-less, continue-at}
 use Rattle.demands.proofs.Retyping.{edited-fits, edited-full, line-read}
 use Rattle.demands.proofs.Refusing.{needs-asks}
 use Rattle.demands.proofs.Fixed.{unsaid, run-named}
-use Rattle.demands.proofs.Five.{continuing-never-answers-5, exactly-5, five-takes-only-the-line}
-use Rattle.demands.proofs.Held.{worldAfter, does-steady, run-steady, refusing-statement, refusing-list}
-use Rattle.demands.proofs.LastStep.{LastStep, last-step, resumes-at, unpaused-same}
+use Rattle.demands.proofs.Five.{no-grammar-refusal-while-running, exactly-5}
+use Rattle.demands.proofs.Held.{worldAfter, run-steady, refusing-statement, refusing-list}
+use Rattle.demands.proofs.Fits.{sound-fit, fit-sound, exec-keeps}
+use Rattle.demands.proofs.Running.{list-keeps}
+use Rattle.demands.proofs.LastStep.{LastStep, RunEnds, last-step, resumes-at, unpaused-same}
+use Rattle.demands.proofs.LastStep as lastStep
+use Rattle.demands.proofs.Line.{a-last-steps-line}
+use Rattle.demands.proofs.Sound.{unrefused}
+use Rattle.demands.proofs.Obeys.{Obeyed, stands, edits, runs as runs-on, read-ways, continue-ways}
 
 of-unsaid : (n : ℕ) → OneOf unsaid n → (n ≡ 0 → ⊥) → (n ≡ 5 → ⊥) → (n ≡ 14 → ⊥) → ⊥
 of-unsaid n i a b c =
@@ -57,52 +62,68 @@ set-or-not true w p h = record { session = unpaused-same (w .session) h; memory 
 set-or-not false w p h = record { session = unpaused-same (w .session) h; memory = refl; output = refl; outpos = refl; inpos = refl }
 
 -- Of a run
-run-more : (k : ℕ) (e : Env) (q : ℕ) (w : World) → w .session .paused ≡ Nowhere → (runFrom k e q w .stop ≡ 5 → ⊥) → (t : LastStep e q w (runFrom k e q w))
-    → OneMore e (ended (runFrom (t .before) e q w) (e .page)) (ended (runFrom k e q w) (e .page))
-run-more k e q w h five t =
-    let r′ = runFrom (t .before) e q w in
-    let r = runFrom k e q w in
-    let c : eqb (r′ .stop) 14 ≡ true = eq-eqb (r′ .stop) 14 (t .pauses) in
-    let same : withSession (r′ .world) (unpaused (r′ .world .session)) ≡ r′ .world =
-    λ i. withSession (r′ .world) (unpaused-same (r′ .world .session) (run-steady (t .before) e q w .paused ∙ h) i) in
-    let p = set-or-not (eqb (r .stop) 14) (r .world) (pausedAt (r .at)) (run-steady k e q w .paused ∙ h) in
-    record {
-      paused = t .pauses;
-      start = t .start;
-      follows = rw (c, resumes-at (r′ .at)) (t .follows);
-      last = t .last;
-      rest = t .rest;
-      stands = t .stands;
-      how = t .how;
-      after = r .world;
-      runs = rw c (ap (exec (envAt e (endOf e (t .start) (t .last))) (t .last .statement)) same ∙ t .goes);
-      stops = λ a b. t .stops (λ i. of-unsaid (r .stop) i a five b);
-      session = p .session;
-      page = refl;
-      memory = p .memory;
-      output = p .output;
-      outpos = p .outpos;
-      inpos = p .inpos;
-    }
+module _ (e : Env) (k q : ℕ) (w : World) (sound : Sound limit (e .page) (w .session)) (stands : Stands (e .page) q) (h : w .session .paused ≡ Nowhere) where
+  abbrev r : Ran
+  r = runFrom k e q w
 
--- a call that runs from q on, at any budget up to its own
-more-by-one : (e : Env) (k q : ℕ) (u : World) (call : ℕ → Outcome) → ((b : ℕ) → b ≤ k → call b ≡ ended (runFrom b e q u) (e .page)) → u .session .paused ≡ Nowhere
-    → 1 ≤ call k .answer .steps → (call k .answer .stop ≡ 5 → ⊥) → OneMore e (call (call k .answer .steps - 1)) (call k)
-more-by-one e k q u call same h n five = rw o (by (rw o at n) (λ z. five (rw o z))) where
-  o : call k ≡ ended (runFrom k e q u) (e .page)
-  o = same k (omega arith)
+  five : r .stop ≡ 5 → ⊥
+  five = no-grammar-refusal-while-running limit e (omega arith) k q w sound stands
 
-  by : 1 ≤ length (runFrom k e q u .lines) → (runFrom k e q u .stop ≡ 5 → ⊥) → OneMore e (call (length (runFrom k e q u .lines) - 1)) (ended (runFrom k e q u) (e .page))
-  by n five =
-      let t = last-step k e q u n in
-      let b : length (runFrom k e q u .lines) - 1 ≡ t .before = omega (arith, t .count) in
-      rw (b, same (t .before) (omega (arith, t .count, steps-within k e q u))) (run-more k e q u h five t)
+  run-ends : {p cr : ℕ} {how : Next} → RunEnds (e .page) p cr how k r → Ends (e .page) p cr how (r .world) k (ended r (e .page))
+  run-ends (lastStep.halts i m) = halts i (λ c. false≢true (rw c at m)) (rw (ne-eqb (r .stop) 14 (λ c. false≢true (rw c at m))))
+  run-ends (lastStep.runsOut p g i c) = runsOut p g i c (rw c)
+  run-ends (lastStep.pauses p a g i c n at) = pauses p a g i c n (rw (c, at))
+  run-ends (lastStep.breaks c) = absurd (five c)
+
+  run-more : (t : LastStep e k q w r) → OneMore e k (ended (runFrom (t .before) e q w) (e .page)) (ended r (e .page))
+  run-more t =
+      let r′ = runFrom (t .before) e q w in
+      let c : eqb (r′ .stop) 14 ≡ true = eq-eqb (r′ .stop) 14 (t .pauses) in
+      let same : withSession (r′ .world) (unpaused (r′ .world .session)) ≡ r′ .world =
+      λ i. withSession (r′ .world) (unpaused-same (r′ .world .session) (run-steady (t .before) e q w .paused ∙ h) i) in
+      let clear = run-steady k e q w .paused ∙ h in
+      let p = set-or-not (eqb (r .stop) 14) (r .world) (pausedAt (r .at)) clear in
+      record {
+        paused = t .pauses;
+        start = t .start;
+        follows = rw (c, resumes-at (r′ .at)) (t .follows);
+        last = t .last;
+        rest = t .rest;
+        stands = t .stands;
+        how = t .how;
+        after = r .world;
+        runs = rw c (ap (exec (envAt e (endOf e (t .start) (t .last))) (t .last .statement)) same ∙ t .goes);
+        stops = λ a b. t .stops (λ i. of-unsaid (r .stop) i a five b);
+        line = λ a b. a-last-steps-line limit e (omega arith) k q w sound stands a b t .line;
+        lies = λ a b. a-last-steps-line limit e (omega arith) k q w sound stands a b t .lies;
+        clear = clear;
+        ends = run-ends (t .ends);
+        session = p .session;
+        page = refl;
+        memory = p .memory;
+        output = p .output;
+        outpos = p .outpos;
+        inpos = p .inpos;
+      }
+
+  -- a call that runs from q on, at any budget up to its own
+  more-by-one : (call : ℕ → Outcome) → ((b : ℕ) → b ≤ k → call b ≡ ended (runFrom b e q w) (e .page)) → 1 ≤ call k .answer .steps
+      → OneMore e k (call (call k .answer .steps - 1)) (call k)
+  more-by-one call same n = rw o (by (rw o at n)) where
+    o : call k ≡ ended r (e .page)
+    o = same k (omega arith)
+
+    by : 1 ≤ length (r .lines) → OneMore e k (call (length (r .lines) - 1)) (ended r (e .page))
+    by n =
+        let t = last-step k e q w n in
+        let b : length (r .lines) - 1 ≡ t .before = omega (arith, t .count) in
+        rw (b, same (t .before) (omega (arith, t .count, steps-within k e q w))) (run-more t)
 
 -- How a read line goes, at any budget: it runs the program, is done, or is refused
 data Kind (e : Env) (w : World) (y : Typed) : Type 0 where
-  runs : (q : ℕ) (u : World) → u .session .paused ≡ w .session .paused → ((k : ℕ) → obey k e w y ≡ ended (runFrom k e q u) (e .page)) → Kind e w y
+  runs : (q : ℕ) (u : World) → ((k : ℕ) → obey k e w y ≡ ended (runFrom k e q u) (e .page)) → Kind e w y
   settles : ((k : ℕ) → obey k e w y .answer .stop ≡ 0) → ((k : ℕ) → obey k e w y .answer .steps ≡ 0) → Kind e w y
-  refuses : (n : ℕ) (u : World) → ((k : ℕ) → obey k e w y ≡ stops n u (e .page)) → Refused e [] w u → Kind e w y
+  refuses : (n : ℕ) (u : World) → ((k : ℕ) → obey k e w y ≡ stops n u (e .page)) → Refused e [] w u → u .inpos ≡ w .inpos → Kind e w y
 
 nothing-done : (e : Env) (w : World) → Refused e [] w w
 nothing-done e w =
@@ -115,36 +136,36 @@ nothing-done e w =
     }
 
 module _ (e : Env) (w : World) (y : Typed) where
-  immediate-kind : (d : Done) → ((k : ℕ) → obey k e w y ≡ immediately k e d) → worldAfter d .session .paused ≡ w .session .paused
+  immediate-kind : (d : Done) → ((k : ℕ) → obey k e w y ≡ immediately k e d) → worldAfter d .inpos ≡ w .inpos
       → ((n : ℕ) (u : World) → d ≡ done (stop n) u → (n ≡ 0 → ⊥) → Refused e [] w u) → Kind e w y
-  immediate-kind (done on u) f p g = settles (λ k. rw (f k)) (λ k. rw (f k))
-  immediate-kind (done skip u) f p g = settles (λ k. rw (f k)) (λ k. rw (f k))
-  immediate-kind (done (go q) u) f p g = runs q u p f
-  immediate-kind (done (stop n) u) f p g =
-      by-cases (eqb n 0) (λ h. let z = eqb-true n 0 h in settles (λ k. rw (f k, z)) (λ k. rw (f k))) (λ h. refuses n u f (g n u refl (eqb-false n 0 h)))
+  immediate-kind (done on u) f i g = settles (λ k. rw (f k)) (λ k. rw (f k))
+  immediate-kind (done skip u) f i g = settles (λ k. rw (f k)) (λ k. rw (f k))
+  immediate-kind (done (go q) u) f i g = runs q u f
+  immediate-kind (done (stop n) u) f i g =
+      by-cases (eqb n 0) (λ h. let z = eqb-true n 0 h in settles (λ k. rw (f k, z)) (λ k. rw (f k))) (λ h. refuses n u f (g n u refl (eqb-false n 0 h)) i)
 
   edit-kind : (rs : List Stored) → ((k : ℕ) → obey k e w y ≡ edited (e .page) w rs) → Kind e w y
   edit-kind rs f =
       by-cases (leb (usedBy rs) (length (e .page)))
       (λ h. let j = edited-fits (e .page) w rs (leb-true _ _ h) in settles (λ k. rw (f k, j)) (λ k. rw (f k, j)))
-      (λ h. let j = edited-full (e .page) w rs (leb-false _ _ h) in refuses 2 w (λ k. f k ∙ j) (nothing-done e w))
+      (λ h. let j = edited-full (e .page) w rs (leb-false _ _ h) in refuses 2 w (λ k. f k ∙ j) (nothing-done e w) refl)
 
 kind : (e : Env) (w : World) (y : Typed) → Kind e w y
 unfolding obey
 kind e w blank = settles (λ k. refl) (λ k. refl)
 kind e w new = edit-kind e w new [] (λ k. refl)
 kind e w clear = settles (λ k. refl) (λ k. refl)
-kind e w run = runs 0 _ refl (λ k. refl)
+kind e w run = runs 0 _ (λ k. refl)
 kind e w (delete n) =
     by-cases (hasLine n (recordsOf (e .page)))
     (λ h. edit-kind e w (delete n) (without n (recordsOf (e .page))) (λ k. rw (h, obey)))
     (λ h. settles (λ k. rw (h, obey)) (λ k. rw (h, obey)))
-kind e w (list n) = immediate-kind e w (list n) (listFrom n (recordsOf (e .page)) w) (λ k. refl) (does-steady (list-does e [] n (recordsOf (e .page)) w) .paused) (λ m u h z. refusing-list e n (recordsOf (e .page)) w u m h z)
+kind e w (list n) = immediate-kind e w (list n) (listFrom n (recordsOf (e .page)) w) (λ k. refl) (ap (λ y. y .1) (list-keeps n (recordsOf (e .page)) w .same)) (λ m u h z. refusing-list e n (recordsOf (e .page)) w u m h z)
 kind e w (store n t ms) = edit-kind e w (store n t ms) (with (record { line = n; text = t }) (recordsOf (e .page))) (λ k. refl)
 kind e w (immediate q) =
     by-cases (needsProgram q)
-    (λ h. refuses 3 w (λ k. rw (h, obey)) (nothing-done e w))
-    (λ h. immediate-kind e w (immediate q) (exec e q w) (λ k. rw (h, obey)) (does-steady (exec-does e q w) .paused) (λ m u f z. rw (needs-asks q h .1) at (refusing-statement e q w u m f z)))
+    (λ h. refuses 3 w (λ k. rw (h, obey)) (nothing-done e w) refl)
+    (λ h. immediate-kind e w (immediate q) (exec e q w) (λ k. rw (h, obey)) (ap (λ y. y .1) (exec-keeps e q w h .same)) (λ m u f z. rw (needs-asks q h .1) at (refusing-statement e q w u m f z)))
 
 some-steps : {n : ℕ} → n ≡ 0 → 1 ≤ n → ⊥
 some-steps h n = omega arith
@@ -154,50 +175,50 @@ module _ (x : Lent) where
   env = envOf limit x
 
   abbrev More : (Lent → Outcome) → Outcome → Type 0
-  More call o = OneMore env (call (budgeted (o .answer .steps - 1) x)) o
+  More call o = OneMore env (x .call .budget) (call (budgeted (o .answer .steps - 1) x)) o
 
   -- the call on the same line with another budget
   read-again : (g : Gathered) (y : Typed) → Typing limit x g → typed (g .line .bytes) ≡ some y → (b : ℕ) → b ≤ x .call .budget
       → takeLine (budgeted b x) ≡ obey b env (begun x (g .taken)) y
   read-again g y h r b l = line-read (budgeted b x) g y (record { sound = accepted-less limit x b (x .call .budget) l (h .sound); line = h .line; short = h .short }) r
 
-  by-kind : (g : Gathered) (y : Typed) → Typing limit x g → typed (g .line .bytes) ≡ some y → Kind env (begun x (g .taken)) y
-      → 1 ≤ takeLine x .answer .steps → (takeLine x .answer .stop ≡ 5 → ⊥) → More takeLine (takeLine x)
-  by-kind g y h r (runs q u p f) n m = more-by-one env (x .call .budget) q u (λ b. takeLine (budgeted b x)) (λ b i. read-again g y h r b i ∙ f b) p n m
-  by-kind g y h r (settles f j) n m = absurd (some-steps (ap (λ o. o .answer .steps) (line-read x g y h r) ∙ j (x .call .budget)) n)
-  by-kind g y h r (refuses i u f j) n m = absurd (some-steps (ap (λ o. o .answer .steps) (line-read x g y h r ∙ f (x .call .budget))) n)
+  continue-again : firstRefusal limit x ≡ 0 → (b : ℕ) → b ≤ x .call .budget → continueRun (budgeted b x) ≡ continueFrom limit (budgeted b x) (x .session .paused)
+  unfolding continueRun
+  continue-again h b l = continue-at limit (budgeted b x) (accepted-less limit x b (x .call .budget) l h)
 
-  take-more : {o : Outcome} → o ≡ takeLine x → Takes limit x o → 1 ≤ o .answer .steps → (o .answer .stop ≡ 5 → ⊥) → More takeLine o
-  take-more e (refused h) n m = absurd (omega arith)
-  take-more e (noCR z h) n m = absurd (omega arith)
-  take-more e (overlong g z h j) n m = absurd (omega arith)
-  take-more e (unread g h r) n m = absurd (omega arith)
-  take-more e (reads g y h r) n m = rw e (by-kind g y h r (kind env (begun x (g .taken)) y) (rw e at n) (λ z. m (rw e z)))
-
-  continue-again : (p : Paused) → x .session .paused ≡ p → firstRefusal limit x ≡ 0 → (b : ℕ) → b ≤ x .call .budget → continueRun (budgeted b x) ≡ continueFrom limit (budgeted b x) p
-  unfolding continueRun continueRunIn
-  continue-again p e h b l = rw (accepted-less limit x b (x .call .budget) l h, continueRunIn) (rw e)
-
-  continue-more : {o : Outcome} → o ≡ continueRun x → Continues limit x o → 1 ≤ o .answer .steps → (o .answer .stop ≡ 5 → ⊥) → More continueRun o
-  continue-more e (refused′ h) n m = absurd (omega arith)
-  continue-more e (continues h) n m = rw e (by (x .session .paused) refl (rw e at n) (λ z. m (rw e z))) where
-    by : (p : Paused) → x .session .paused ≡ p → 1 ≤ continueRun x .answer .steps → (continueRun x .answer .stop ≡ 5 → ⊥) → More continueRun (continueRun x)
-    by Nowhere f n m = absurd (some-steps (ap (λ o. o .answer .steps) (continue-again Nowhere f h (x .call .budget) (omega arith))) n)
-    by Start f n m = more-by-one env (x .call .budget) 0 (begun x 0) (λ b. continueRun (budgeted b x)) (λ b i. continue-again Start f h b i) refl n m
-    by (At p) f n m = more-by-one env (x .call .budget) (suc (p .0)) (begun x 0) (λ b. continueRun (budgeted b x)) (λ b i. continue-again (At p) f h b i) refl n m
+  obeyed-more : isGood limit (x .page) ≡ true → {From : ℕ → World → Type 0} {o : ℕ → Outcome} → Obeyed limit env (begun x 0) From o → (call : Lent → Outcome)
+      → ((b : ℕ) → b ≤ x .call .budget → call (budgeted b x) ≡ o b) → 1 ≤ call x .answer .steps → More call (call x)
+  obeyed-more good (stands i f) call same n = absurd (some-steps (ap (λ o. o .answer .steps) (same (x .call .budget) (omega arith))) n)
+  obeyed-more good (edits p i f) call same n = absurd (some-steps (ap (λ o. o .answer .steps) (same (x .call .budget) (omega arith))) n)
+  obeyed-more good (runs-on q w s f i j b) call same n = more-by-one env (x .call .budget) q w (fit-sound limit good f) s (j .paused) (λ b. call (budgeted b x)) same n
 
   module _ (sized : Sized (x .session)) where
-    pub the-last-statement : 1 ≤ takeLine x .answer .steps → OneMore (envOf limit x) (takeLine (budgeted (takeLine x .answer .steps - 1) x)) (takeLine x)
-    unfolding takeLine
-    the-last-statement n =
-        take-more refl (every-line limit x) n (λ m. some-steps (ap (λ o. o .answer .steps) (five-takes-only-the-line x sized m .leaves)) n)
+    take-more : {o : Outcome} → o ≡ takeLine x → Takes limit x o → 1 ≤ o .answer .steps → More takeLine o
+    take-more e (refused h) n = absurd (omega arith)
+    take-more e (noCR z h) n = absurd (omega arith)
+    take-more e (overlong g z h j) n = absurd (omega arith)
+    take-more e (unread g h r) n = absurd (omega arith)
+    take-more e (reads g y h r) n =
+        let s = unrefused limit x sized (h .sound) in
+        rw e (obeyed-more (s .good) (read-ways limit x (omega arith) (s .good) (sound-fit s) g y h r) takeLine (read-again g y h r) (rw e at n))
 
-    pub the-last-statement-of-continue : 1 ≤ continueRun x .answer .steps → OneMore (envOf limit x) (continueRun (budgeted (continueRun x .answer .steps - 1) x)) (continueRun x)
+    continue-more : {o : Outcome} → o ≡ continueRun x → Continues limit x o → 1 ≤ o .answer .steps → More continueRun o
+    continue-more e (refused′ h) n = absurd (omega arith)
+    continue-more e (continues h) n =
+        let s = unrefused limit x sized h in
+        rw e (obeyed-more (s .good) (continue-ways limit x (omega arith) (s .good) (sound-fit s) h) continueRun (continue-again h) (rw e at n))
+
+    pub the-last-statement : 1 ≤ takeLine x .answer .steps → OneMore (envOf limit x) (x .call .budget) (takeLine (budgeted (takeLine x .answer .steps - 1) x)) (takeLine x)
+    unfolding takeLine
+    the-last-statement n = take-more refl (every-line limit x) n
+
+    pub the-last-statement-of-continue : 1 ≤ continueRun x .answer .steps
+        → OneMore (envOf limit x) (x .call .budget) (continueRun (budgeted (continueRun x .answer .steps - 1) x)) (continueRun x)
     unfolding continueRun
-    the-last-statement-of-continue n = continue-more refl (every-continue limit x) n (continuing-never-answers-5 x sized)
+    the-last-statement-of-continue n = continue-more refl (every-continue limit x) n
 
 -- and if it refused, it left all but INPUT's given variables as the call with one step less left it
-pub refused-last : {e : Env} {o' o : Outcome} (m : OneMore e o' o) → (o .answer .stop ≡ 0 → ⊥) → (o .answer .stop ≡ 14 → ⊥)
+pub refused-last : {e : Env} {k : ℕ} {o' o : Outcome} (m : OneMore e k o' o) → (o .answer .stop ≡ 0 → ⊥) → (o .answer .stop ≡ 14 → ⊥)
     → Refused (envAt e (endOf e (m .start) (m .last))) (inputVars (m .last .statement)) (worldLeft o') (m .after)
 refused-last {e = e} {o' = o'} {o = o} m a b =
     refusing-statement (envAt e (endOf e (m .start) (m .last))) (m .last .statement) (worldLeft o') (m .after) (o .answer .stop)
@@ -217,11 +238,11 @@ refusing-line x sized g y h r n ended′ paused = by (kind (envOf limit x) (begu
   m i = of-unsaid (takeLine x .answer .stop) i ended′ (λ e. exactly-5 x g sized (h .sound) (h .line) (h .short) .0 e y r) paused
 
   by : Kind (envOf limit x) (begun x (g .taken)) y → RefusedLine x g (takeLine x)
-  by (runs q u p f) =
+  by (runs q u f) =
       let i = o ∙ f (x .call .budget) in
       absurd (m (rw i (run-named (x .call .budget) (envOf limit x) q u (rw i at n))))
   by (settles f j) = absurd (ended′ (rw (o, f (x .call .budget)) refl))
-  by (refuses k u f j) =
+  by (refuses k u f j l) =
       let s = j .rest in
       rw (o, f (x .call .budget))
       (record {
@@ -229,6 +250,6 @@ refusing-line x sized g y h r n ended′ paused = by (kind (envOf limit x) (begu
         page = refl;
         memory = j .memory;
         items = j .items;
-        lines = j .lines;
+        inpos = l;
         steps = refl;
       })

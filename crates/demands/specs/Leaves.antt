@@ -4,14 +4,14 @@ use mathlib.Core.Path.{_≡_}
 use mathlib.Core.Bool.{Bool, true, false}
 use mathlib.Core.List.{List, [], _∷_}
 use mathlib.Core.Option.{some}
-use lib.ListN.{length, take, drop}
+use lib.ListN.{length, take, drop, replicate}
 use lib.Seq.{sets}
 use lib.Dec.{eqb}
 use Rattle.nibl.specs.Bytes.{if_then_else_}
 use Rattle.nibl.specs.Typing.{Gathered, gather}
 use Rattle.nibl.specs.Stack.{popOf}
 use Rattle.nibl.specs.Tree.{Typed, blank, new, clear, run, delete, list, store, immediate}
-use Rattle.nibl.specs.Page.{Stored, isGood, recordsOf, mark, used}
+use Rattle.nibl.specs.Page.{Stored, isGood, recordsOf, programBytes, mark, used}
 use Rattle.nibl.specs.Meaning.{World, Env, withGosubs}
 use Rattle.nibl.specs.Calls.{Lent, Outcome, limit}
 use Rattle.nibl.specs.declared.Paused.the-variants.{Nowhere}
@@ -56,6 +56,18 @@ stackless s =
       paused = Nowhere;
     }
 
+-- the record as CLEAR leaves it: variables zero, stacks empty, the pause ended
+abbrev pub blanked : Session → Session
+blanked s =
+    record {
+      vars = replicate 26 0;
+      flags = s .flags;
+      gosubs = record { depth = 0; places = s .gosubs .places };
+      dos = record { depth = 0; places = s .dos .places };
+      fors = record { depth = 0; entries = s .fors .entries };
+      paused = Nowhere;
+    }
+
 -- everything back as it came, the positions too
 abbrev pub unchanged : Lent → ℕ → Outcome
 unchanged x n =
@@ -71,8 +83,12 @@ unchanged x n =
 abbrev pub lineTaken : Lent → ℕ → ℕ → Outcome
 lineTaken x n taken = record { answer = answered x n taken; session = unpaused (x .session); page = x .page; memory = x .memory; output = x .output }
 
--- What an edit leaves: stop 0, no line, 0 steps; "stacks cleared, variables and flags kept"; a good page whose records rise, of the same
--- length, and what lies after its end mark as it was
+-- the line is taken, the record cleared, and nothing else changed
+abbrev pub lineCleared : Lent → ℕ → Outcome
+lineCleared x taken = record { answer = answered x 0 taken; session = blanked (x .session); page = x .page; memory = x .memory; output = x .output }
+
+-- What an edit leaves: stop 0, no line, 0 steps; "stacks cleared, variables and flags kept"; a good page whose records rise and stand
+-- there byte for byte, of the same length, and what lies after its end mark as it was
 pub record Edits (x : Lent) (taken : ℕ) (o : Outcome) : Type 0 where
   pub answer : o .answer ≡ answered x 0 taken
   pub session : o .session ≡ stackless (x .session)
@@ -80,6 +96,7 @@ pub record Edits (x : Lent) (taken : ℕ) (o : Outcome) : Type 0 where
   pub output : o .output ≡ x .output
   pub good : isGood limit (o .page) ≡ true
   pub rising : Rising 0 (recordsOf (o .page))
+  pub bytes : take (used (o .page)) (o .page) ≡ programBytes (recordsOf (o .page))
   pub long : length (o .page) ≡ length (x .page)
   pub after : drop (used (o .page)) (o .page) ≡ drop (used (o .page)) (x .page)
 
@@ -101,6 +118,11 @@ pub data Items : List ℕ → ℕ → List ℕ → ℕ → Type 0 where
 pub data Lines (lim : ℕ) (input : List ℕ) : ℕ → ℕ → Type 0 where
   noLine : {at : ℕ} → Lines lim input at at
   line : {at at' : ℕ} (g : Gathered) → gather lim (drop at input) ≡ some g → Lines lim input (at + g .taken) at' → Lines lim input at at'
+
+-- whole items written and whole lines taken, from these positions to those
+pub record Wrote (lim : ℕ) (input out : List ℕ) (at from : ℕ) (out' : List ℕ) (at' from' : ℕ) : Type 0 where
+  pub items : Items out at out' at'
+  pub lines : Lines lim input from from'
 
 -- all of the record but its variables
 pub record SameButVars (s t : Session) : Type 0 where

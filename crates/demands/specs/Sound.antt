@@ -16,8 +16,9 @@ use Rattle.nibl.specs.declared.Session.{Session}
 use Rattle.nibl.specs.declared.StopLine.{StopLine}
 use Rattle.nibl.specs.declared.StopLine.the-variants as stopLine
 
--- the stacks' arrays have the lengths that the record's type says
+-- the record's arrays have the lengths that its type says: 26 variables, the stacks' places and entries
 pub record Sized (s : Session) : Type 0 where
+  pub vars : length (s .vars) ≡ 26
   pub gosubs : length (s .gosubs .places) ≡ 8
   pub dos : length (s .dos .places) ≡ 8
   pub fors : length (s .fors .entries) ≡ 4
@@ -45,13 +46,13 @@ pub data Shows (page : List ℕ) (r : Ran) : StopLine → Type 0 where
   aLine : (r .stop ≡ 0 → ⊥) → (r .stop ≡ 14 → ⊥) → isAmong (placesOf page) (r .at) ≡ true → LiesIn page (r .at) (lineOf page (r .at))
       → Shows page r (stopLine.At (record { 0 = lineOf page (r .at) }))
 
--- how a call answers
-pub data Answered (lim : ℕ) (x : Lent) (o : Outcome) : Type 0 where
+-- how a call answers; From is where its run begins, if it has one
+pub data Answered (lim : ℕ) (x : Lent) (From : ℕ → World → Type 0) (o : Outcome) : Type 0 where
   -- with a stop that no program statement gave: it has no line, no step was counted, and it is no pause
-  byLine : o .answer .line ≡ stopLine.NoLine → o .answer .steps ≡ 0 → (o .answer .stop ≡ 14 → ⊥) → Answered lim x o
-  -- as a run ended
-  byRun : (q : ℕ) (w : World) → Stands (x .page) q → Sound lim (x .page) (w .session) → o ≡ ended (runFrom (x .call .budget) (envOf lim x) q w) (x .page)
-      → Shows (x .page) (runFrom (x .call .budget) (envOf lim x) q w) (o .answer .line) → Answered lim x o
+  byLine : o .answer .line ≡ stopLine.NoLine → o .answer .steps ≡ 0 → (o .answer .stop ≡ 14 → ⊥) → Answered lim x From o
+  -- as the run ended that it began
+  byRun : (q : ℕ) (w : World) → From q w → Stands (x .page) q → Sound lim (x .page) (w .session) → o ≡ ended (runFrom (x .call .budget) (envOf lim x) q w) (x .page)
+      → Shows (x .page) (runFrom (x .call .budget) (envOf lim x) q w) (o .answer .line) → Answered lim x From o
 
 -- the same call with a budget of k
 abbrev pub budgeted : ℕ → Lent → Lent

@@ -2,29 +2,49 @@
 use Prim.Native.Nat.{ℕ, suc, _+_, _-_}
 use mathlib.Core.Path.{_≡_}
 use mathlib.Core.List.{List}
-use mathlib.Core.Option.{some}
+use mathlib.Core.Option.{none, some}
 use lib.ListN.{length}
 use Rattle.nibl.specs.Tree.{Member}
 use Rattle.nibl.specs.Typing.{Gathered}
 use Rattle.nibl.specs.Read.{found, member}
-use Rattle.nibl.specs.Meaning.{World, Env, Next, stop, done, exec}
-use Rattle.nibl.specs.Calls.{Lent, Outcome, textFrom, lineFrom, envAt, limit}
-use Rattle.nibl.specs.declared.Paused.{Paused}
-use Rattle.nibl.specs.declared.Paused.the-variants.{Nowhere, Start, At}
-use Rattle.demands.specs.Leaves.{unpaused, Items, Lines}
-
--- where a paused run goes on
-abbrev pub resumes : Paused → ℕ
-resumes Nowhere = 0
-resumes Start = 0
-resumes (At p) = suc (p .0)
+use Rattle.nibl.specs.Page.{lineOf}
+use Rattle.nibl.specs.Meaning.{World, Env, Next, on, skip, go, stop, done, exec}
+use Rattle.nibl.specs.Calls.{Lent, Outcome, textFrom, lineFrom, envAt, withPaused, pausedAt}
+use Rattle.nibl.specs.declared.Paused.the-variants.{Nowhere}
+use Rattle.nibl.specs.declared.StopLine.the-variants as stopLine
+use Rattle.demands.specs.Leaves.{unpaused, Items}
+use Rattle.demands.specs.Sound.{LiesIn}
+use Rattle.demands.specs.Starts.{resumes}
 
 -- what a paused call left, as its next statement finds it
 abbrev pub worldLeft : Outcome → World
 worldLeft o = record { session = unpaused (o .session); memory = o .memory; output = o .output; outpos = o .answer .outpos; inpos = o .answer .inpos }
 
+-- the place that ends the member m of the text from a on, and the CR behind that text
+abbrev pub endOf : Env → ℕ → Member → ℕ
+endOf e a m = a + (length (lineFrom (e .page) a) - m .left)
+
+abbrev pub crOf : Env → ℕ → ℕ
+crOf e a = a + length (lineFrom (e .page) a)
+
+-- where a run goes on after a member that ended so: p is its place, cr its record's CR
+pub data GoesTo (p cr : ℕ) : Next → ℕ → Type 0 where
+  afterIt : GoesTo p cr on (suc p)
+  afterRecord : GoesTo p cr skip (suc cr)
+  jumps : {q : ℕ} → GoesTo p cr (go q) q
+
+-- how a call ends whose last member ended so, and left this world
+pub data Ends (page : List ℕ) (p cr : ℕ) (how : Next) (after : World) (budget : ℕ) (o : Outcome) : Type 0 where
+  -- the statement gave the stop
+  halts : how ≡ stop (o .answer .stop) → (o .answer .stop ≡ 14 → ⊥) → o .session ≡ after .session → Ends page p cr how after budget o
+  -- "past the last line": nothing is left where it goes on
+  runsOut : (q : ℕ) → GoesTo p cr how q → textFrom page q ≡ none → o .answer .stop ≡ 0 → o .session ≡ after .session → Ends page p cr how after budget o
+  -- "budget spent and a statement still to run: paused", there
+  pauses : (q a : ℕ) → GoesTo p cr how q → textFrom page q ≡ some a → o .answer .stop ≡ 14 → o .answer .steps ≡ budget
+      → o .session ≡ withPaused (after .session) (pausedAt q) → Ends page p cr how after budget o
+
 -- o is what one statement more makes of what o' left
-pub record OneMore (e : Env) (o' o : Outcome) : Type 0 where
+pub record OneMore (e : Env) (budget : ℕ) (o' o : Outcome) : Type 0 where
   pub paused : o' .answer .stop ≡ 14
   -- the member that stands where it paused
   pub start : ℕ
@@ -35,9 +55,15 @@ pub record OneMore (e : Env) (o' o : Outcome) : Type 0 where
   -- what it did
   pub how : Next
   pub after : World
-  pub runs : exec (envAt e (start + (length (lineFrom (e .page) start) - last .left))) (last .statement) (worldLeft o') ≡ done how after
+  pub runs : exec (envAt e (endOf e start last)) (last .statement) (worldLeft o') ≡ done how after
   pub stops : (o .answer .stop ≡ 0 → ⊥) → (o .answer .stop ≡ 14 → ⊥) → how ≡ stop (o .answer .stop)
-  -- is what the call leaves
+  -- the answer's line is that of its record
+  pub line : (o .answer .stop ≡ 0 → ⊥) → (o .answer .stop ≡ 14 → ⊥) → o .answer .line ≡ stopLine.At (record { 0 = lineOf (e .page) (endOf e start last) })
+  pub lies : (o .answer .stop ≡ 0 → ⊥) → (o .answer .stop ≡ 14 → ⊥) → LiesIn (e .page) (endOf e start last) (lineOf (e .page) (endOf e start last))
+  -- how the call ended
+  pub clear : after .session .paused ≡ Nowhere
+  pub ends : Ends (e .page) (endOf e start last) (crOf e start) how after budget o
+  -- what it did is what the call leaves
   pub session : unpaused (o .session) ≡ after .session
   pub page : o .page ≡ o' .page
   pub memory : o .memory ≡ after .memory
@@ -45,11 +71,25 @@ pub record OneMore (e : Env) (o' o : Outcome) : Type 0 where
   pub outpos : o .answer .outpos ≡ after .outpos
   pub inpos : o .answer .inpos ≡ after .inpos
 
--- A typed line's own refusal: the record but for its pause, the page and the memory are as before; the output only grows by whole items
+-- A typed line's own refusal: the record but for its pause, the page and the memory are as before; the output only grows by whole items; of
+-- the input the line is taken, and no more
 pub record RefusedLine (x : Lent) (g : Gathered) (o : Outcome) : Type 0 where
   pub session : o .session ≡ unpaused (x .session)
   pub page : o .page ≡ x .page
   pub memory : o .memory ≡ x .memory
   pub items : Items (x .output) (x .call .outpos) (o .output) (o .answer .outpos)
-  pub lines : Lines limit (x .input) (x .call .inpos + g .taken) (o .answer .inpos)
+  pub inpos : o .answer .inpos ≡ x .call .inpos + g .taken
   pub steps : o .answer .steps ≡ 0
+
+-- Where the run of a call stands at its end: where it began, if it made no step, or where its last member goes on. A run that a statement stopped stands
+-- nowhere. From is where the call begins a run, o' what it leaves with one step less
+pub data StandsAt (From : ℕ → World → Type 0) (e : Env) (budget : ℕ) (o' o : Outcome) : ℕ → Type 0 where
+  begun : {q : ℕ} {w : World} → From q w → o .answer .steps ≡ 0 → StandsAt From e budget o' o q
+  later : {q : ℕ} (m : OneMore e budget o' o) → GoesTo (endOf e (m .start) (m .last)) (crOf e (m .start)) (m .how) q → StandsAt From e budget o' o q
+
+-- a statement is left to run: a text follows there
+pub record LeftToRun (From : ℕ → World → Type 0) (e : Env) (budget : ℕ) (o' o : Outcome) : Type 0 where
+  pub at : ℕ
+  pub start : ℕ
+  pub stands : StandsAt From e budget o' o at
+  pub follows : textFrom (e .page) at ≡ some start

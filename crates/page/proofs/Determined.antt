@@ -1,11 +1,14 @@
 -- One outcome: two answers that meet a public function's promise for the same arguments are equal, and so are all lent bytes. Assumes nothing.
 use Prim.Native.Nat.{ℕ, suc}
 use mathlib.Core.Path.{_≡_, refl}
+use mathlib.Core.Bool.{Bool}
 use mathlib.Core.List.{List}
+use lib.ListN.{length, drop}
 use native.Mathlib.Omega.{arith}
 use Rattle.nibl.proofs.Determined.{determined}
 use Rattle.nibl.specs.declared.LineNumber.{LineNumber}
-use Rattle.nibl.specs.Page.{recordsOf, find, lineOf, used}
+use Rattle.nibl.specs.Page.{isEnd, lineAt, recordsOf, find, lineOf, used}
+use Rattle.nibl.specs.Values.{digits}
 use Rattle.nibl.specs.Calls.{textFrom}
 use Rattle.page.specs.declared.FoundLine.{FoundLine}
 use Rattle.page.specs.declared.FoundLine.the-variants as line
@@ -14,9 +17,21 @@ use Rattle.page.specs.declared.Begins.the-variants as begins
 use Rattle.page.specs.declared.Where.{Where}
 use Rattle.page.specs.declared.Edited.{Edited}
 use Rattle.page.specs.declared.Listed.{Listed}
-use Rattle.page.specs.Walk.{positionOf, reached, beginOf, textOf}
+use Rattle.page.specs.Walk.{sizeAt, positionOf, reached, beginOf, textOf}
 use Rattle.page.specs.Edits.{Changed, changed, storeOf, deleteOf, newOf}
 use Rattle.page.specs.Listing.{shown, listing}
+
+pub end-determined : (page : List ℕ) (at : ℕ) (a b : Bool) → a ≡ isEnd (drop at page) → b ≡ isEnd (drop at page) → a ≡ b
+end-determined page at = determined (isEnd (drop at page))
+
+pub size-determined : (page : List ℕ) (at a b : ℕ) → a ≡ sizeAt (drop at page) → b ≡ sizeAt (drop at page) → a ≡ b
+size-determined page at = determined (sizeAt (drop at page))
+
+pub number-determined : (page : List ℕ) (at a b : ℕ) → a ≡ lineAt (drop at page) → b ≡ lineAt (drop at page) → a ≡ b
+number-determined page at = determined (lineAt (drop at page))
+
+pub digits-determined : (n a b : ℕ) → a ≡ length (digits n) → b ≡ length (digits n) → a ≡ b
+digits-determined n = determined (length (digits n))
 
 pub used-determined : (page : List ℕ) (a b : ℕ) → a ≡ used page → b ≡ used page → a ≡ b
 used-determined page = determined (used page)

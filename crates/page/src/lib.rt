@@ -67,7 +67,7 @@ fn byte_at(s: &[u8], i: usize) -> u8
 }
 
 // Whether the end mark stands at `at`.
-fn is_end(page: &[u8], at: usize) -> bool
+pub fn is_end(page: &[u8], at: usize) -> bool
     ensures { λ r. ⌜ r ≡ isEnd (drop at (now (page .entry))) ⌝ }
 {
     if page.len() <= at {
@@ -80,7 +80,7 @@ fn is_end(page: &[u8], at: usize) -> bool
 }
 
 // How many bytes the record at `at` has, and 0 where none begins. One that the page's end cuts off counts as if its CR came next.
-fn size_at(page: &[u8], at: usize) -> usize
+pub fn size_at(page: &[u8], at: usize) -> usize
     ensures { λ r. ⌜ r ≡ sizeAt (drop at (now (page .entry))) ⌝ }
 {
     let n = page.len();
@@ -102,7 +102,7 @@ fn size_at(page: &[u8], at: usize) -> usize
 }
 
 // The number of the record at `at`.
-fn line_at(page: &[u8], at: usize) -> u16
+pub fn line_at(page: &[u8], at: usize) -> u16
     ensures { λ r. ⌜ r ≡ lineAt (drop at (now (page .entry))) ⌝ }
 {
     if page.len() <= at {
@@ -390,7 +390,7 @@ pub fn new_page(page: &mut [u8]) -> Edited
 }
 
 // How many digits a number has.
-fn digit_count(n: u16) -> usize
+pub fn digit_count(n: u16) -> usize
     ensures { λ r. ⌜ r ≡ length (digits n) ⌝ }
 {
     if n < 10 {

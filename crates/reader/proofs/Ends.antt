@@ -1,5 +1,5 @@
 -- How a member ends. Assumes nothing.
-use Prim.Native.Nat.{ℕ, suc, _+_, _-_, _≤_}
+use Prim.Native.Nat.{ℕ, suc, _+_, _-_}
 use mathlib.Core.Path.{_≡_, refl, sym, ap, _∙_}
 use mathlib.Core.Bool.{Bool, true, false}
 use mathlib.Core.List.{List, [], _∷_}
@@ -8,17 +8,17 @@ use borrow.Author.Tests.{ne-eqb}
 use denote.Enum.Declared.{tagOf}
 use types.Run.{OneOf, miss}
 use lib.ListN.{length, drop, length-drop}
-use Rattle.nibl.specs.Bytes.{if_then_else_, isSpace, all}
-use Rattle.nibl.specs.Words.{Token, sign, keywords}
+use Rattle.nibl.specs.Bytes.{isSpace, all}
+use Rattle.nibl.specs.Words.{keywords}
 use Rattle.nibl.specs.Tree.{Stmt, Member}
-use Rattle.nibl.specs.Read.{Step, ended, got, stepIn, Found, nothing, found, onStep, signOf, aSign, fail, key, ended?}
+use Rattle.nibl.specs.Read.{Step, ended, stepIn, nothing, found, onStep, signOf, aSign, fail, key, ended?}
 use Rattle.nibl.proofs.Words.{ended-sound, ended-complete, true-all, all-true}
 use Rattle.word.specs.declared.Cursor.{Cursor}
 use Rattle.word.specs.declared.Word.{Word}
 use Rattle.word.specs.declared.Word.the-variants.{Variable, Decimal, Hex, Text, Sign, End, Wrong}
 use Rattle.word.proofs.Word.{the-type}
 use Rattle.word.specs.Found.{stepOf, Stands}
-use Rattle.relation.specs.Makes.{Otherwise, nowhere, another}
+use Rattle.relation.specs.Makes.{nowhere, another}
 use Rattle.relation.specs.declared.Made.{Made}
 use Rattle.relation.specs.declared.Made.the-variants.{Next, NoReading}
 use Rattle.relation.proofs.Readers.{if-there, if-other}

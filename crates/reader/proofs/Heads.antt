@@ -1,7 +1,7 @@
 -- The word that stands next, for the readers of statements. Assumes nothing.
-use Prim.Native.Nat.{ℕ, suc, _+_, _-_, _≤_, _<_}
+use Prim.Native.Nat.{ℕ, _+_, _-_, _≤_}
 use mathlib.Core.Path.{_≡_, refl, sym, ap, _∙_}
-use mathlib.Core.List.{List, [], _∷_, _++_}
+use mathlib.Core.List.{List, [], _∷_}
 use native.Mathlib.Omega.{arith}
 use borrow.Author.Tests.{ne-eqb, leb-false}
 use denote.Enum.Declared.{tagOf}
@@ -9,19 +9,19 @@ use types.Run.{OneOf, miss}
 use lib.ListN.{length, drop, length-append, length-drop}
 use lib.Dec.{leb}
 use Rattle.nibl.specs.Words.{Token, variable, decimal, hex, string, sign, keywords, Word, spaced, letter, letters, digits, hexDigits, quoted, pair, symbol}
-use Rattle.nibl.specs.Read.{Step, stepIn, Found, nothing, found, Reader, onStep, byWord, variableOf, stringOf, signOf, aVariable, aString, aSign, fail}
+use Rattle.nibl.specs.Read.{Step, stepIn, nothing, Reader, onStep, byWord, variableOf, stringOf, signOf, aVariable, aString, aSign, fail}
 use Rattle.nibl.proofs.Words.{word-sound, of-pairs, no-symbol}
 use Rattle.word.specs.declared.Cursor.{Cursor}
 use Rattle.word.specs.declared.Word.{Word as Read}
 use Rattle.word.specs.declared.Word.the-variants as word
 use Rattle.word.proofs.Word.{the-type as word-type}
 use Rattle.word.specs.Found.{stepOf, Stands}
-use Rattle.relation.specs.Makes.{ahead, need, Leads, onto, only, Over, Stood, stood, Absent, stopped, absent, SignIs, Otherwise, nowhere, another}
+use Rattle.relation.specs.Makes.{need, Leads, onto, Over, Stood, stood, Absent, stopped, absent, SignIs, nowhere, another}
 use Rattle.relation.specs.declared.Made.{Made}
 use Rattle.relation.specs.declared.Made.the-variants.{Next, NoReading}
 use Rattle.relation.specs.declared.Signed.the-variants as signed
 use Rattle.relation.proofs.Signs.{over-here}
-use Rattle.reader.specs.Forms.{halted, Heads, heads, Unkind, atEnd, noWord, aDecimal, aHex, Headless, headless, KindIs, Unless, unless, KeyedIs, MayIs, gone, kept, Long}
+use Rattle.reader.specs.Forms.{halted, Heads, heads, Unkind, atEnd, noWord, aDecimal, aHex, Headless, headless, KindIs, Unless, unless, KeyedIs, Long}
 use Rattle.reader.specs.declared.Kind.{Kind}
 use Rattle.reader.specs.declared.Kind.the-variants as kind
 use Rattle.reader.specs.declared.Keyed.the-variants as keyed
@@ -125,7 +125,7 @@ module _ {text : List ℕ} where
   unfolding aString
   sign-unstring h = heads-absent stringOf refl h
 
--- What `next_is` and `past_any` answer
+  -- What `next_is` and `past_any` answer
   pub keyed-past : {r m : Made} {j k : ℕ} → j ≡ k → SignIs text r (signed.By j m) → KeyedIs k text r (keyed.Past m)
   keyed-past e h = rw e at h
 

@@ -1,7 +1,7 @@
 -- The first member of a text, from its statement and its end. Assumes nothing.
-use Prim.Native.Nat.{ℕ, suc, _+_, _-_, _≤_}
+use Prim.Native.Nat.{ℕ, _-_}
 use mathlib.Core.Path.{_≡_, refl, sym, ap, _∙_}
-use mathlib.Core.Bool.{Bool, true, false, not, _&&_}
+use mathlib.Core.Bool.{true, false}
 use mathlib.Core.List.{List, [], _∷_}
 use native.Mathlib.Omega.{arith}
 use borrow.Author.Tests.{leb-true}
@@ -11,8 +11,8 @@ use lib.ListN.{length, drop, replicate}
 use lib.Seq.{sets}
 use lib.Dec.{leb}
 use Rattle.nibl.specs.Bytes.{if_then_else_}
-use Rattle.nibl.specs.Tree.{Stmt, Member}
-use Rattle.nibl.specs.Read.{Found, nothing, found, _>>=_, statement, ended?, member}
+use Rattle.nibl.specs.Tree.{Member}
+use Rattle.nibl.specs.Read.{nothing, found, statement, ended?, member}
 use Rattle.nibl.proofs.Words.{and-left, and-right}
 use Rattle.word.specs.declared.Cursor.{Cursor}
 use Rattle.relation.specs.Makes.{Gives, stopped, refused, given, only, bare}

@@ -1,13 +1,13 @@
 -- Readers that may write more operations than they read bytes: one after another, at a sign, and the room that they need. Assumes nothing.
 use Prim.Native.Nat.{ℕ, suc, _+_, _-_, _≤_, _<_}
 use Prim.Native.String.{String}
-use mathlib.Core.Path.{_≡_, refl, sym, ap, subst, _∙_}
-use mathlib.Core.List.{List, [], _∷_, _++_, append-assoc, append-nil}
+use mathlib.Core.Path.{_≡_, refl, ap, subst, _∙_}
+use mathlib.Core.List.{List, [], _∷_, _++_, append-assoc}
 use native.Mathlib.Omega.{arith}
-use lib.ListN.{length, drop}
+use lib.ListN.{length}
 use lib.Seq.{sets}
 use Rattle.nibl.specs.Words.{number}
-use Rattle.nibl.specs.Read.{nothing, found, Reader, aSign, fail, give, ifKey, key, may, _>>=_}
+use Rattle.nibl.specs.Read.{nothing, Reader, aSign, fail, give, ifKey, key, may, _>>=_}
 use Rattle.word.specs.declared.Cursor.{Cursor}
 use Rattle.relation.specs.Makes.{ahead, need, filled, Wrote, Written, written, Gives, stopped, refused, given, Reads, Leads, onto, only, bare, Over, Stood, stood, Absent, absent, KeyIs, there}
 use Rattle.relation.specs.declared.Made.{Made}

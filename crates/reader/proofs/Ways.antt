@@ -1,5 +1,5 @@
 -- One law for each way out of the readers of statements. Assumes nothing.
-use Prim.Native.Nat.{ℕ, suc, _+_, _-_, _*_, _≤_, _<_}
+use Prim.Native.Nat.{ℕ, suc, _+_, _-_, _≤_, _<_}
 use Prim.Native.String.{String}
 use mathlib.Core.Path.{_≡_, refl, sym, ap, subst, _∙_}
 use mathlib.Core.Bool.{Bool, true, false}
@@ -15,26 +15,26 @@ use Rattle.nibl.specs.Bytes.{if_then_else_, isText, all}
 use Rattle.nibl.specs.Words.{Token, variable, decimal, hex, string, sign, number}
 use Rattle.nibl.specs.Tree.{Expr, const, Item, text as textItem, stored, value}
 use Rattle.nibl.specs.Tree.{Stmt, letVar, letStat, letByte, letCopy, letText, goto, gosub, until, return, loop, remark, end, print, ifThen, for, next, input, inputText}
-use Rattle.nibl.specs.Read.{Step, Found, nothing, found, Reader, onStep, byWord, choose, andThen, _>>=_, orElse, aVariable, aString, aSign, fail, give, ifKey, key, may, Part, read, factor, relation, aRelation, assigned, letCases, letOf, anItem, joined, printing, forTo, inputting, remarking, statement, aStatement, statementOf, statementCases}
+use Rattle.nibl.specs.Read.{Step, Found, nothing, found, Reader, onStep, byWord, choose, andThen, _>>=_, orElse, aVariable, aString, aSign, fail, give, ifKey, key, Part, read, factor, relation, aRelation, assigned, letCases, letOf, anItem, joined, printing, forTo, inputting, remarking, statement, aStatement, statementOf, statementCases}
 use Rattle.nibl.proofs.Words.{and-left, and-right}
 use Rattle.nibl.proofs.Statements.{statement-eq, joined-eq, items-join, variables-join}
 use Rattle.word.specs.declared.Cursor.{Cursor}
 use Rattle.relation.specs.Code.{op, values}
-use Rattle.relation.specs.Makes.{ahead, need, filled, Wrote, Written, written, Gives, stopped, refused, given, Reads, Makes, Leads, onto, only, bare, Over, Stood, stood, Absent, absent, KeyIs, there, SignIs}
+use Rattle.relation.specs.Makes.{ahead, need, filled, Written, written, Gives, stopped, refused, given, Makes, Leads, onto, only, bare, Over, Stood, stood, Absent, absent, KeyIs, there, SignIs}
 use Rattle.relation.specs.declared.Made.{Made}
 use Rattle.relation.specs.declared.Made.the-variants.{Next, NoReading}
 use Rattle.relation.specs.declared.Signed.the-variants as signed
 use Rattle.relation.proofs.Readers.{then-found, then-nothing}
 use Rattle.relation.proofs.Signs.{stood-over, NoneOf, noneLeft, _but_}
-use Rattle.relation.proofs.States.{filled-need, led, written-ahead, written-need}
+use Rattle.relation.proofs.States.{filled-need, written-ahead, written-need}
 use Rattle.reader.specs.Code.{texts, itemCode, itemsCode, compile}
-use Rattle.reader.specs.Forms.{halted, filledBy, Room, Spends, Heads, heads, Headless, KindIs, Unless, unless, MayIs, Puts, puts, Counted, refused as unread, counted, Countable, copying, going, ending, stepping, variablesInto, iffing, RemarkIs, FrontIs, assigns, symbol, when, keyword, other, Long}
+use Rattle.reader.specs.Forms.{halted, filledBy, Room, Spends, Heads, heads, KindIs, Unless, unless, MayIs, Puts, puts, Counted, refused as unread, counted, Countable, copying, going, ending, stepping, variablesInto, iffing, RemarkIs, FrontIs, assigns, symbol, when, keyword, other, Long}
 use Rattle.reader.specs.declared.Front.the-variants as front
 use Rattle.reader.specs.declared.Kind.{Kind}
 use Rattle.reader.specs.declared.Kind.the-variants as kind
 use Rattle.reader.proofs.Kind.{the-type}
 use Rattle.reader.proofs.Spending.{need-mono, after, then-on, renamed, added, spent, looser, same-as, led-by, led-here, led-over, failed, missing, past-key, if-past, if-not, if-may, all-put, puts-few, puts-none, puts-then, written-puts}
-use Rattle.reader.proofs.Heads.{heads-over, heads-leads, heads-absent, headless-absent, heads-string, heads-sign, heads-size, heads-long, stood-unless, absent-unless}
+use Rattle.reader.proofs.Heads.{heads-over, heads-leads, heads-absent, headless-absent, heads-string, heads-sign, heads-size, heads-long, stood-unless}
 
 -- Readers
 module _ {A B : Type 0} (name : String) (F G : Reader A) (k : A → Reader B) (q : Reader B) (h : (s : List ℕ) → q s ≡ (G >>= k) s) where
@@ -292,7 +292,7 @@ module _ {text : List ℕ} where
 
   for-step : {ops ops1 ops2 : List ℕ} {r s t : Made} {v : ℕ} (n : ℕ) → v ≡ op 33 n → Spends 1 (only stepping) bare values text ops r ops1 s → Written v ops1 s ops2 t
       → Spends 2 (λ (p : Expr × Expr). ifKey "STEP" (aRelation (for n (p .0) (p .1))) (give (for n (p .0) (p .1) (const 1)))) (λ (p : Expr × Expr). values (p .0) ++ values (p .1))
-          compile text ops r ops2 t
+      compile text ops r ops2 t
   unfolding _>>=_ compile
   for-step n e y w =
       same-as (λ p s. if-mapped "STEP" (read relation) (give (const 1)) (λ c. give (for n (p .0) (p .1) c)) (give (for n (p .0) (p .1) (const 1))) (λ t. refl) s)

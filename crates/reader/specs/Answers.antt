@@ -5,7 +5,6 @@ use mathlib.Core.List.{List}
 use lib.ListN.{length, replicate}
 use lib.Seq.{sets}
 use lib.Dec.{leb}
-use Rattle.nibl.specs.Bytes.{if_then_else_}
 use Rattle.nibl.specs.Tree.{Member}
 use Rattle.nibl.specs.Read.{Found, nothing, found}
 use Rattle.reader.specs.Code.{compile}

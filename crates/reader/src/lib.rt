@@ -4,16 +4,15 @@ use relation::Made;
 use relation::Signed;
 use word::Cursor;
 use word::Word;
-ghost use Prim.Native.Nat.{ℕ, _+_, _*_, _-_, _≤_, _<_};
+ghost use Prim.Native.Nat.{_+_, _*_, _-_, _≤_, _<_};
 ghost use mathlib.Core.Path.{_≡_};
-ghost use mathlib.Core.List.{List, [], _∷_, _++_};
+ghost use mathlib.Core.List.{[], _∷_, _++_};
 ghost use lib.ListN.{length, drop};
 ghost use lib.Seq.{sets, slice};
 ghost use Rattle.nibl.specs.Bytes.{if_then_else_, isText, all};
-ghost use Rattle.nibl.specs.Read.{read, factor, relation, give, ifKey, key, choose, fail, byWord, letOf, letCases, aVariable, anItem, joined, printing, forTo, inputting, statementCases, statement, member};
-ghost use Rattle.nibl.specs.Tree.{const};
+ghost use Rattle.nibl.specs.Read.{read, factor, relation, key, choose, fail, byWord, letOf, letCases, aVariable, anItem, joined, printing, forTo, inputting, statementCases, statement, member};
 ghost use Rattle.relation.specs.Code.{values, op};
-ghost use Rattle.relation.specs.Makes.{only, bare, Makes};
+ghost use Rattle.relation.specs.Makes.{only, bare};
 ghost use Rattle.reader.specs.Code.{texts, itemCode, itemsCode, compile};
 ghost use Rattle.reader.specs.Forms.{Room, Spends, KindIs, KeyedIs, MayIs, filledBy, Puts, Counted, Countable, copying, going, ending, stepping, variablesInto, RemarkIs, FrontIs, EndsIs};
 ghost use Rattle.reader.specs.Answers.{hasRoom, zeros, memberOf, memberOps};
@@ -158,7 +157,15 @@ fn put_text(text: &[u8], from: usize, to: usize, ops: &mut [u32], o: usize, code
 }
 
 // An operation, and those of a part of the text.
-fn with_text(text: &[u8], from: usize, to: usize, r: Made, ops: &mut [u32], v: u32, code: u32) -> Made
+fn with_text(
+    text: &[u8],
+    from: usize,
+    to: usize,
+    r: Made,
+    ops: &mut [u32],
+    v: u32,
+    code: u32,
+) -> Made
     requires { ⌜ (from ≤ to) × (to ≤ length (now text)) × (filledBy (1 + (to - from)) r ≤ length (now ops)) × (code < 64) ⌝ }
     ensures { λ s. ⌜ Puts (v ∷ texts code (slice from to (now (text .entry)))) (now (ops .entry)) r (now (ops .exit)) s ⌝ }
 {
@@ -324,11 +331,11 @@ fn variables(text: &[u8], r: Made, ops: &mut [u32]) -> Made
     requires { ⌜ Room 0 (now text) (now ops) r ⌝ }
     ensures { λ s. ⌜ Spends 0 (only (joined aVariable)) bare (texts 36) (now (text .entry)) (now (ops .entry)) r (now (ops .exit)) s ⌝ }
 {
-    let a = with_variable(text, r, ops, 36);
-    let n = next_is(text, a, 44);
+    let v = with_variable(text, r, ops, 36);
+    let n = next_is(text, v, 44);
     match n {
         Keyed::Past(m) => variables(text, m, ops),
-        Keyed::Not => a,
+        Keyed::Not => v,
     }
 }
 

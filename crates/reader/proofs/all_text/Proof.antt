@@ -1,8 +1,8 @@
 -- `reader::all_text` meets its contract: what is left decides. Assumes nothing.
-use Prim.Native.Nat.{ℕ, suc, _≤_, _<_, _-_, _+_}
+use Prim.Native.Nat.{ℕ, suc, _≤_, _<_, _-_}
 use mathlib.Core.Path.{_≡_, _∙_, refl, sym, ap}
 use mathlib.Core.Bool.{Bool, true, false, not, _&&_}
-use mathlib.Core.List.{List, [], _∷_}
+use mathlib.Core.List.{List}
 use native.Mathlib.Numerals.{add-one}
 use native.Mathlib.Omega.{arith}
 use borrow.Author.Needs.{needs}
@@ -11,9 +11,6 @@ use lib.Seq.{drop-cons}
 use Rattle.nibl.specs.Bytes.{isText, all}
 use Rattle.reader.proofs.all_text.Statement.{statement}
 use Rattle.reader.proofs.all_text.Tie as tie
-use Rattle.reader.proofs.all_text.Reads as reads
-use Rattle.reader.proofs.all_text.Lts as lts
-use Rattle.letter.proofs.is_text.Reads as is-text-reads
 
 not-true : (b : Bool) → not b ≡ true → b ≡ false
 not-true true h = sym h

@@ -1,3 +1,4 @@
+-- `reader::assigned` meets its contract. Assumes nothing.
 use Rattle.reader.proofs.Spending.{room-key}
 use Rattle.reader.proofs.Ways.{assigned-is}
 use borrow.Author.Needs.{needs}

@@ -1,16 +1,14 @@
 -- `reader::clear` meets its contract: what lies before i are zeros. Assumes nothing.
-use Prim.Native.Nat.{ℕ, _≤_, _-_, _+_}
+use Prim.Native.Nat.{ℕ, _≤_, _-_}
 use mathlib.Core.Path.{_≡_, _∙_, refl, sym}
 use mathlib.Core.List.{List, []}
 use native.Mathlib.Omega.{arith}
 use borrow.Author.Needs.{needs}
-use lib.ListN.{length, take, set, replicate, length-set}
+use lib.ListN.{length, take, replicate, length-set}
 use lib.Seq.{take-all}
 use Rattle.letter.proofs.Keeping.{zero-more}
 use Rattle.reader.proofs.clear.Statement.{statement}
 use Rattle.reader.proofs.clear.Tie as tie
-use Rattle.reader.proofs.clear.Reads as reads
-use Rattle.reader.proofs.clear.Lts as lts
 
 abbrev Inv-loop : tie.InvT-loop
 Inv-loop ops₀ i₀ ops i = (i ≤ length ops₀) × (length ops ≡ length ops₀) × (take i ops ≡ replicate (i - 0) 0)

@@ -1,3 +1,4 @@
+-- `reader::copied` meets its contract. Assumes nothing.
 use mathlib.Core.Path.{subst}
 use native.Mathlib.Omega.{arith}
 use Rattle.reader.specs.Forms.{KindIs}
@@ -16,23 +17,31 @@ enum-known-w c = search needs
 
 sub-count : tie.Need-sub-count
 sub-count c =
-    let h = (subst (KindIs _ _) (c .before .before .w .given .1) (c .before .before .before .before .kind-at .ensures)) in omega (arith, h .1)
+    let h = (subst (KindIs _ _) (c .before .before .w .given .1) (c .before .before .before .before .kind-at .ensures)) in
+    omega (arith, h .1)
 
 add-count : tie.Need-add-count
 add-count c =
-    let h = (subst (KindIs _ _) (c .before .before .w .given .1) (c .before .before .before .before .kind-at .ensures)) in let s = c .before .before .before .before .before .before .before .pre .small in let g = c .before .before .before .before .before .before .before .good in omega (arith, h .1, h .2)
+    let h = (subst (KindIs _ _) (c .before .before .w .given .1) (c .before .before .before .before .kind-at .ensures)) in
+    let s = c .before .before .before .before .before .before .before .pre .small in
+    let g = c .before .before .before .before .before .before .before .good in
+    omega (arith, h .1, h .2)
 
 count-requires : tie.Need-count-requires
 count-requires c κs =
-    let h = (subst (KindIs _ _) (c .before .before .w .given .1) (c .before .before .before .before .kind-at .ensures)) in let s = c .before .before .before .before .before .before .before .pre .small in (omega (arith, h .1, h .2), omega arith)
+    let h = (subst (KindIs _ _) (c .before .before .w .given .1) (c .before .before .before .before .kind-at .ensures)) in
+    let s = c .before .before .before .before .before .before .before .pre .small in
+    (omega (arith, h .1, h .2), omega arith)
 
 with-text-requires : tie.Need-with-text-requires
 with-text-requires c κs =
-    let h = (subst (KindIs _ _) (c .before .before .before .w .given .1) (c .before .before .before .before .before .kind-at .ensures)) in (h .1, h .2, slice-fits (c .before .before .before .before .before .before .before .before .pre) h, omega arith)
+    let h = (subst (KindIs _ _) (c .before .before .before .w .given .1) (c .before .before .before .before .before .kind-at .ensures)) in
+    (h .1, h .2, slice-fits (c .before .before .before .before .before .before .before .before .pre) h, omega arith)
 
 write-requires : tie.Need-write-requires
 write-requires c κs =
-    let h = (subst (KindIs _ _) (c .before .before .before .before .before .before .before .w .given .1) (c .before .before .before .before .before .before .before .before .before .kind-at .ensures)) in slice-more 20 (c .before .before .before .before .before .before .before .before .before .before .before .before .pre) h (c .before .before .before .with-text .ensures) (c .before .before .before .with-text .kept .1 .1 .1 .1 .0)
+    let h = (subst (KindIs _ _) (c .before .before .before .before .before .before .before .w .given .1) (c .before .before .before .before .before .before .before .before .before .kind-at .ensures)) in
+    slice-more 20 (c .before .before .before .before .before .before .before .before .before .before .before .before .pre) h (c .before .before .before .with-text .ensures) (c .before .before .before .with-text .kept .1 .1 .1 .1 .0)
 
 past-sign-requires : tie.Need-past-sign-requires
 past-sign-requires c κs = search needs

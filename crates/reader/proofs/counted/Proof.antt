@@ -1,3 +1,4 @@
+-- `reader::counted` meets its contract. Assumes nothing.
 use native.Mathlib.Omega.{arith}
 use Rattle.reader.proofs.Ways.{counted-none, counted-unread, counted-next, countable-at}
 use borrow.Author.Needs.{needs}
@@ -26,23 +27,33 @@ returns-2 c =
 
 sub-count : tie.Need-sub-count
 sub-count c =
-    let h = countable-at _ (c .before .before .before .before .r .given .1) (c .before .s .given .1) (c .before .before .before .before .before .before .before .pre) in let g = c .before .before .before .before .before .before .before .good in omega arith
+    let h = countable-at _ (c .before .before .before .before .r .given .1) (c .before .s .given .1) (c .before .before .before .before .before .before .before .pre) in
+    let g = c .before .before .before .before .before .before .before .good in
+    omega arith
 
 sub-count-2 : tie.Need-sub-count-2
 sub-count-2 c =
-    let h = countable-at _ (c .before .before .before .before .r .given .1) (c .before .s .given .1) (c .before .before .before .before .before .before .before .pre) in let g = c .before .before .before .before .before .before .before .good in omega arith
+    let h = countable-at _ (c .before .before .before .before .r .given .1) (c .before .s .given .1) (c .before .before .before .before .before .before .before .pre) in
+    let g = c .before .before .before .before .before .before .before .good in
+    omega arith
 
 count-requires : tie.Need-count-requires
 count-requires c κs =
-    let h = countable-at _ (c .before .before .before .before .r .given .1) (c .before .s .given .1) (c .before .before .before .before .before .before .before .pre) in let g = c .before .before .before .before .before .before .before .good in (omega arith, omega arith)
+    let h = countable-at _ (c .before .before .before .before .r .given .1) (c .before .s .given .1) (c .before .before .before .before .before .before .before .pre) in
+    let g = c .before .before .before .before .before .before .before .good in
+    (omega arith, omega arith)
 
 mul-ops : tie.Need-mul-ops
 mul-ops c =
-    let h = countable-at _ (c .before .before .before .before .before .r .given .1) (c .before .before .s .given .1) (c .before .before .before .before .before .before .before .before .pre) in let g = c .before .before .before .before .before .before .before .before .good in omega arith
+    let h = countable-at _ (c .before .before .before .before .before .r .given .1) (c .before .before .s .given .1) (c .before .before .before .before .before .before .before .before .pre) in
+    let g = c .before .before .before .before .before .before .before .before .good in
+    omega arith
 
 slice-write-ops : tie.Need-slice-write-ops
 slice-write-ops c =
-    let h = countable-at _ (c .before .before .before .before .before .r .given .1) (c .before .before .s .given .1) (c .before .before .before .before .before .before .before .before .pre) in let g = c .before .before .before .before .before .before .before .before .good in omega arith
+    let h = countable-at _ (c .before .before .before .before .before .r .given .1) (c .before .before .s .given .1) (c .before .before .before .before .before .before .before .before .pre) in
+    let g = c .before .before .before .before .before .before .before .before .good in
+    omega arith
 
 same-length : tie.Need-same-length
 same-length c = search needs

@@ -1,3 +1,4 @@
+-- `reader::counted_variables` meets its contract. Assumes nothing.
 use mathlib.Core.Path.{_∙_}
 use Rattle.reader.proofs.Spending.{room-write, room-written}
 use Rattle.reader.proofs.Ways.{countable, variables-are}

@@ -1,3 +1,4 @@
+-- `reader::ended` meets its contract. Assumes nothing.
 use mathlib.Core.Path.{subst, refl}
 use native.Mathlib.Omega.{arith}
 use Rattle.nibl.specs.Words.{keywords}
@@ -29,11 +30,14 @@ enum-known-w c = search needs
 
 sub-t12 : tie.Need-sub-t12
 sub-t12 c =
-    let h = (subst (Stands (stepIn keywords) _ _) (c .before .before .w .given .1) (c .before .before .before .before .word-at .ensures)) in omega (arith, h .inside .1)
+    let h = (subst (Stands (stepIn keywords) _ _) (c .before .before .w .given .1) (c .before .before .before .before .word-at .ensures)) in
+    omega (arith, h .inside .1)
 
 add-t13 : tie.Need-add-t13
 add-t13 c =
-    let h = (subst (Stands (stepIn keywords) _ _) (c .before .before .w .given .1) (c .before .before .before .before .word-at .ensures)) in let g = c .before .before .before .before .before .before .before .before .before .good in omega (arith, h .inside .1, h .inside .0)
+    let h = (subst (Stands (stepIn keywords) _ _) (c .before .before .w .given .1) (c .before .before .before .before .word-at .ensures)) in
+    let g = c .before .before .before .before .before .before .before .before .before .good in
+    omega (arith, h .inside .1, h .inside .0)
 
 returns-2 : tie.Need-returns-2
 returns-2 c =

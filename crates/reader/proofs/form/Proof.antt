@@ -1,3 +1,4 @@
+-- `reader::form` meets its contract. Assumes nothing.
 use native.Mathlib.Omega.{arith}
 use Rattle.nibl.specs.Read.{statementCases, statement as aStatement}
 use Rattle.relation.proofs.Signs.{_but_, noneLeft}
@@ -166,7 +167,8 @@ same-length-14 c = search needs
 
 returns-15 : tie.Need-returns-15
 returns-15 c =
-    let h = c .before .before .before .before .match .rest in form-let ((h .0 .0 .0 .0 .0 .0 .0 .0 .0 .0 .0 .0 .0 .1) but (h .0 .0 .0 .0 .0 .0 .0 .0 .0 .0 .0 .0 .1) but (h .0 .0 .0 .0 .0 .0 .0 .0 .0 .0 .0 .1) but (h .0 .0 .0 .0 .0 .0 .0 .0 .0 .0 .1) but (h .0 .0 .0 .0 .0 .0 .0 .0 .0 .1) but (h .0 .0 .0 .0 .0 .0 .0 .0 .1) but (h .0 .0 .0 .0 .0 .0 .0 .1) but (c .before .before .before .before .before .before .before .pre .1) but (h .0 .0 .0 .0 .0 .0 .1) but (h .0 .0 .0 .0 .0 .1) but (h .0 .0 .0 .0 .1) but (h .0 .0 .0 .1) but (h .0 .0 .1) but (h .0 .1) but (h .1) but noneLeft) (c .before .before .let-form .ensures)
+    let h = c .before .before .before .before .match .rest in
+    form-let ((h .0 .0 .0 .0 .0 .0 .0 .0 .0 .0 .0 .0 .0 .1) but (h .0 .0 .0 .0 .0 .0 .0 .0 .0 .0 .0 .0 .1) but (h .0 .0 .0 .0 .0 .0 .0 .0 .0 .0 .0 .1) but (h .0 .0 .0 .0 .0 .0 .0 .0 .0 .0 .1) but (h .0 .0 .0 .0 .0 .0 .0 .0 .0 .1) but (h .0 .0 .0 .0 .0 .0 .0 .0 .1) but (h .0 .0 .0 .0 .0 .0 .0 .1) but (c .before .before .before .before .before .before .before .pre .1) but (h .0 .0 .0 .0 .0 .0 .1) but (h .0 .0 .0 .0 .0 .1) but (h .0 .0 .0 .0 .1) but (h .0 .0 .0 .1) but (h .0 .0 .1) but (h .0 .1) but (h .1) but noneLeft) (c .before .before .let-form .ensures)
 
 pub form-spec : {M : Type 1} → statement M
 form-spec =

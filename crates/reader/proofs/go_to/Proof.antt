@@ -1,3 +1,4 @@
+-- `reader::go_to` meets its contract. Assumes nothing.
 use mathlib.Core.Path.{subst}
 use Rattle.relation.specs.Makes.{SignIs}
 use Rattle.relation.proofs.Signs.{stood-over}
@@ -19,7 +20,8 @@ enum-told c = search needs
 
 returns : tie.Need-returns
 returns c =
-    let h = (subst (SignIs _ _) (c .enum-told .given .1) (c .before .before .sign-at .ensures)) in go-none (absent-unless 130 h) (absent-unless 131 h)
+    let h = (subst (SignIs _ _) (c .enum-told .given .1) (c .before .before .sign-at .ensures)) in
+    go-none (absent-unless 130 h) (absent-unless 131 h)
 
 with-relation-requires : tie.Need-with-relation-requires
 with-relation-requires c κs =
@@ -45,7 +47,9 @@ returns-3 c =
 
 returns-4 : tie.Need-returns-4
 returns-4 c =
-    let h = (subst (SignIs _ _) (c .before .before .w .given .1) (c .before .before .before .before .sign-at .ensures)) in let d = c .match2 .rest in go-none (stood-unless 130 (d .0 .1) h) (stood-unless 131 (d .1) h)
+    let h = (subst (SignIs _ _) (c .before .before .w .given .1) (c .before .before .before .before .sign-at .ensures)) in
+    let d = c .match2 .rest in
+    go-none (stood-unless 130 (d .0 .1) h) (stood-unless 131 (d .1) h)
 
 pub go-to-spec : {M : Type 1} → statement M
 go-to-spec =

@@ -2,8 +2,6 @@
 use borrow.Author.Tests.{le-leb, lt-leb}
 use Rattle.reader.proofs.has_room.Statement.{statement}
 use Rattle.reader.proofs.has_room.Tie as tie
-use Rattle.reader.proofs.has_room.Reads as reads
-use Rattle.reader.proofs.has_room.Lts as lts
 
 returns : tie.Need-returns
 returns c = rw (le-leb _ _ (c .if1 .taken))

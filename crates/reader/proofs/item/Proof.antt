@@ -1,3 +1,4 @@
+-- `reader::item` meets its contract. Assumes nothing.
 use mathlib.Core.Path.{subst}
 use native.Mathlib.Omega.{arith}
 use Rattle.reader.specs.Forms.{KindIs}
@@ -16,15 +17,19 @@ enum-known-w c = search needs
 
 sub-count : tie.Need-sub-count
 sub-count c =
-    let h = (subst (KindIs _ _) (c .before .before .w .given .1) (c .before .before .before .before .kind-at .ensures)) in omega (arith, h .1)
+    let h = (subst (KindIs _ _) (c .before .before .w .given .1) (c .before .before .before .before .kind-at .ensures)) in
+    omega (arith, h .1)
 
 count-requires : tie.Need-count-requires
 count-requires c κs =
-    let h = (subst (KindIs _ _) (c .before .before .w .given .1) (c .before .before .before .before .kind-at .ensures)) in let s = c .before .before .before .before .before .before .before .pre .small in (omega (arith, h .1, h .2), omega arith)
+    let h = (subst (KindIs _ _) (c .before .before .w .given .1) (c .before .before .before .before .kind-at .ensures)) in
+    let s = c .before .before .before .before .before .before .before .pre .small in
+    (omega (arith, h .1, h .2), omega arith)
 
 with-text-requires : tie.Need-with-text-requires
 with-text-requires c κs =
-    let h = (subst (KindIs _ _) (c .before .before .before .w .given .1) (c .before .before .before .before .before .kind-at .ensures)) in (h .1, h .2, slice-fits (c .before .before .before .before .before .before .before .before .pre) h, omega arith)
+    let h = (subst (KindIs _ _) (c .before .before .before .w .given .1) (c .before .before .before .before .before .kind-at .ensures)) in
+    (h .1, h .2, slice-fits (c .before .before .before .before .before .before .before .before .pre) h, omega arith)
 
 enum-known-w-2 : tie.Need-enum-known-w-2
 enum-known-w-2 c = search needs
@@ -38,7 +43,8 @@ same-length c = search needs
 
 returns : tie.Need-returns
 returns c =
-    let h = (subst (KindIs _ _) (c .before .before .before .before .before .before .w2 .given .1) (c .before .before .before .before .before .before .before .before .kind-at .ensures)) in item-stored (c .before .before .before .before .if1 .taken) (sign-unstring h) h (c .before .before .with-factor .ensures)
+    let h = (subst (KindIs _ _) (c .before .before .before .before .before .before .w2 .given .1) (c .before .before .before .before .before .before .before .before .kind-at .ensures)) in
+    item-stored (c .before .before .before .before .if1 .taken) (sign-unstring h) h (c .before .before .with-factor .ensures)
 
 with-relation-requires : tie.Need-with-relation-requires
 with-relation-requires c κs =
@@ -60,14 +66,16 @@ same-length-3 c = search needs
 
 returns-3 : tie.Need-returns-3
 returns-3 c =
-    let h = (subst (KindIs _ _) (c .before .before .before .before .before .before .w2 .given .1) (c .before .before .before .before .before .before .before .before .kind-at .ensures)) in item-value (sign-unstring h) (stood-unless 36 (c .before .before .before .before .if1 .left) (heads-sign h)) (c .before .before .with-relation .ensures)
+    let h = (subst (KindIs _ _) (c .before .before .before .before .before .before .w2 .given .1) (c .before .before .before .before .before .before .before .before .kind-at .ensures)) in
+    item-value (sign-unstring h) (stood-unless 36 (c .before .before .before .before .if1 .left) (heads-sign h)) (c .before .before .with-relation .ensures)
 
 same-length-4 : tie.Need-same-length-4
 same-length-4 c = search needs
 
 returns-4 : tie.Need-returns-4
 returns-4 c =
-    let h = plain 36 (c .before .before .before .before .before .kind-at .result) (c .before .before .before .before .before .kind-at .ensures) (c .before .before .before .before .match .keys3) in item-value (h .0) (h .1) (c .before .before .with-relation2 .ensures)
+    let h = plain 36 (c .before .before .before .before .before .kind-at .result) (c .before .before .before .before .before .kind-at .ensures) (c .before .before .before .before .match .keys3) in
+    item-value (h .0) (h .1) (c .before .before .with-relation2 .ensures)
 
 pub item-spec : {M : Type 1} → statement M
 item-spec =

@@ -1,3 +1,4 @@
+-- `reader::kind_at` meets its contract. Assumes nothing.
 use mathlib.Core.Path.{subst}
 use Rattle.nibl.specs.Words.{keywords}
 use Rattle.nibl.specs.Read.{stepIn}

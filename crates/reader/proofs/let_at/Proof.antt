@@ -1,3 +1,4 @@
+-- `reader::let_at` meets its contract. Assumes nothing.
 use mathlib.Core.Path.{subst}
 use native.Mathlib.Omega.{arith}
 use Rattle.reader.specs.Forms.{KindIs}

@@ -1,3 +1,4 @@
+-- `reader::let_form` meets its contract. Assumes nothing.
 use native.Mathlib.Omega.{arith}
 use Rattle.nibl.specs.Read.{letCases}
 use Rattle.relation.proofs.Signs.{_but_, noneLeft}
@@ -53,7 +54,8 @@ returns-3 c =
 
 returns-4 : tie.Need-returns-4
 returns-4 c =
-    let h = c .match .rest in case-none _ ((h .0 .0 .1) but (h .0 .1) but (h .1) but noneLeft)
+    let h = c .match .rest in
+    case-none _ ((h .0 .0 .1) but (h .0 .1) but (h .1) but noneLeft)
 
 pub let-form-spec : {M : Type 1} → statement M
 let-form-spec =

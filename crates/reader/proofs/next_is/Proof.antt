@@ -1,3 +1,4 @@
+-- `reader::next_is` meets its contract. Assumes nothing.
 use mathlib.Core.Path.{subst}
 use Rattle.relation.specs.Makes.{SignIs}
 use Rattle.reader.proofs.Heads.{keyed-none, keyed-past, keyed-other}

@@ -1,3 +1,4 @@
+-- `reader::past_any` meets its contract. Assumes nothing.
 use mathlib.Core.Path.{subst}
 use Rattle.reader.specs.Forms.{KeyedIs, gone, kept}
 use borrow.Author.Needs.{needs}

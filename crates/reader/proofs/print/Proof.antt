@@ -1,3 +1,4 @@
+-- `reader::print` meets its contract. Assumes nothing.
 use native.Mathlib.Omega.{arith}
 use Rattle.reader.proofs.Spending.{room-low, room-spent}
 use Rattle.reader.proofs.Ways.{print-is}

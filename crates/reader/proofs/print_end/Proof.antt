@@ -1,3 +1,4 @@
+-- `reader::print_end` meets its contract. Assumes nothing.
 use mathlib.Core.Path.{subst}
 use Rattle.reader.specs.Forms.{KeyedIs}
 use Rattle.reader.proofs.Spending.{room-write}

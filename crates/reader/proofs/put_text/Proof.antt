@@ -1,18 +1,15 @@
 -- `reader::put_text` meets its contract: what is still to be written makes it the whole. Assumes nothing.
-use Prim.Native.Nat.{ℕ, suc, _≤_, _-_, _+_, _*_}
+use Prim.Native.Nat.{_≤_, _-_, _+_}
 use mathlib.Core.Path.{_≡_, _∙_, refl, sym, ap}
-use mathlib.Core.List.{List, [], _∷_}
+use mathlib.Core.List.{[]}
 use native.Mathlib.Numerals.{add-one}
 use native.Mathlib.Omega.{arith}
 use borrow.Author.Needs.{needs}
-use lib.ListN.{length, getD, set, length-set}
+use lib.ListN.{length, length-set}
 use lib.Seq.{sets, slice, slice-cons, slice-empty}
 use Rattle.reader.specs.Code.{texts}
 use Rattle.reader.proofs.put_text.Statement.{statement}
 use Rattle.reader.proofs.put_text.Tie as tie
-use Rattle.reader.proofs.put_text.Reads as reads
-use Rattle.reader.proofs.put_text.Lts as lts
-use Rattle.reader.proofs.wide.Reads as wide-reads
 
 abbrev Inv-loop : tie.InvT-loop
 Inv-loop text from to ops₀ o code i₀ n₀ ops i n =
@@ -56,9 +53,13 @@ loop-again : tie.Need-loop-again Inv-loop μ-loop
 loop-again c =
     let a = c .before .before .before .before .before .before .args in
     let l = c .before .before .before .loop in
-    let cons = slice-cons (l .i) (a .to) (a .text .now) 0 (omega arith) (omega arith) in
-    (omega arith, omega arith, length-set (l .ops) (l .n) _ ∙ l .inv .2, omega arith,
-      rw (add-one (l .n), add-one (l .i), c .wide .ensures) (sym (ap (λ s. sets (l .ops) (l .n) (texts (a .code) s)) cons) ∙ l .inv .4))
+    let cons = slice-cons (l .i) (a .to) (a .text .now) 0 (omega arith) (omega arith) in (
+      omega arith,
+      omega arith,
+      length-set (l .ops) (l .n) _ ∙ l .inv .2,
+      omega arith,
+      rw (add-one (l .n), add-one (l .i), c .wide .ensures) (sym (ap (λ s. sets (l .ops) (l .n) (texts (a .code) s)) cons) ∙ l .inv .4),
+    )
 
 same-length : tie.Need-same-length Inv-loop μ-loop
 same-length c = search needs

@@ -1,3 +1,4 @@
+-- `reader::remark` meets its contract. Assumes nothing.
 use mathlib.Core.Path.{refl, sym, _∙_}
 use Rattle.reader.proofs.Ways.{remark-none, remark-rest, remark-not}
 use borrow.Author.Needs.{needs}

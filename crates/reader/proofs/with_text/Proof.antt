@@ -1,3 +1,4 @@
+-- `reader::with_text` meets its contract. Assumes nothing.
 use Prim.Native.Nat.{_+_, _-_, _≤_}
 use mathlib.Core.Path.{subst, _∙_}
 use native.Mathlib.Omega.{arith}
@@ -22,27 +23,38 @@ returns c =
 
 mul-ops : tie.Need-mul-ops
 mul-ops c =
-    let h = subst (λ r. filledBy (1 + (c .before .before .before .before .before .args .to - c .before .before .before .before .before .args .from)) r ≤ length (c .before .before .before .before .before .args .ops .now)) (c .before .r .given .1) (c .before .before .before .before .before .pre .2) in let g = c .before .before .before .before .before .good in omega arith
+    let h = subst (λ r. filledBy (1 + (c .before .before .before .before .before .args .to - c .before .before .before .before .before .args .from)) r ≤ length (c .before .before .before .before .before .args .ops .now)) (c .before .r .given .1) (c .before .before .before .before .before .pre .2) in
+    let g = c .before .before .before .before .before .good in
+    omega arith
 
 slice-write-ops : tie.Need-slice-write-ops
 slice-write-ops c =
-    let h = subst (λ r. filledBy (1 + (c .before .before .before .before .before .args .to - c .before .before .before .before .before .args .from)) r ≤ length (c .before .before .before .before .before .args .ops .now)) (c .before .r .given .1) (c .before .before .before .before .before .pre .2) in let g = c .before .before .before .before .before .good in omega arith
+    let h = subst (λ r. filledBy (1 + (c .before .before .before .before .before .args .to - c .before .before .before .before .before .args .from)) r ≤ length (c .before .before .before .before .before .args .ops .now)) (c .before .r .given .1) (c .before .before .before .before .before .pre .2) in
+    let g = c .before .before .before .before .before .good in
+    omega arith
 
 add-n : tie.Need-add-n
 add-n c =
-    let h = subst (λ r. filledBy (1 + (c .before .before .before .before .before .args .to - c .before .before .before .before .before .args .from)) r ≤ length (c .before .before .before .before .before .args .ops .now)) (c .before .r .given .1) (c .before .before .before .before .before .pre .2) in let g = c .before .before .before .before .before .good in omega arith
+    let h = subst (λ r. filledBy (1 + (c .before .before .before .before .before .args .to - c .before .before .before .before .before .args .from)) r ≤ length (c .before .before .before .before .before .args .ops .now)) (c .before .r .given .1) (c .before .before .before .before .before .pre .2) in
+    let g = c .before .before .before .before .before .good in
+    omega arith
 
 put-text-requires : tie.Need-put-text-requires
 put-text-requires c κs =
-    let h = subst (λ r. filledBy (1 + (c .before .before .before .before .before .before .args .to - c .before .before .before .before .before .before .args .from)) r ≤ length (c .before .before .before .before .before .before .args .ops .now)) (c .before .before .r .given .1) (c .before .before .before .before .before .before .pre .2) in let g = c .before .before .before .before .before .before .good in (c .before .before .before .before .before .before .pre .0, c .before .before .before .before .before .before .pre .1, omega (arith, length-set (c .before .before .before .before .before .before .args .ops .now) (c .before .before .r .given .0 .1 .0) (c .before .before .before .before .before .before .args .v)), c .before .before .before .before .before .before .pre .3)
+    let h = subst (λ r. filledBy (1 + (c .before .before .before .before .before .before .args .to - c .before .before .before .before .before .before .args .from)) r ≤ length (c .before .before .before .before .before .before .args .ops .now)) (c .before .before .r .given .1) (c .before .before .before .before .before .before .pre .2) in
+    let g = c .before .before .before .before .before .before .good in
+    (c .before .before .before .before .before .before .pre .0, c .before .before .before .before .before .before .pre .1, omega (arith, length-set (c .before .before .before .before .before .before .args .ops .now) (c .before .before .r .given .0 .1 .0) (c .before .before .before .before .before .before .args .v)), c .before .before .before .before .before .before .pre .3)
 
 sub-t11 : tie.Need-sub-t11
 sub-t11 c =
-    let h = c .before .before .before .before .before .before .before .before .before .pre in omega arith
+    let h = c .before .before .before .before .before .before .before .before .before .pre in
+    omega arith
 
 add-t16 : tie.Need-add-t16
 add-t16 c =
-    let h = subst (λ r. filledBy (1 + (c .before .before .before .before .before .before .before .before .before .args .to - c .before .before .before .before .before .before .before .before .before .args .from)) r ≤ length (c .before .before .before .before .before .before .before .before .before .args .ops .now)) (c .before .before .before .before .before .r .given .1) (c .before .before .before .before .before .before .before .before .before .pre .2) in let g = c .before .before .before .before .before .before .before .before .before .good in omega arith
+    let h = subst (λ r. filledBy (1 + (c .before .before .before .before .before .before .before .before .before .args .to - c .before .before .before .before .before .before .before .before .before .args .from)) r ≤ length (c .before .before .before .before .before .before .before .before .before .args .ops .now)) (c .before .before .before .before .before .r .given .1) (c .before .before .before .before .before .before .before .before .before .pre .2) in
+    let g = c .before .before .before .before .before .before .before .before .before .good in
+    omega arith
 
 same-length : tie.Need-same-length
 same-length c =

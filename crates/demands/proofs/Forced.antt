@@ -1,0 +1,38 @@
+-- The first refusals are forced: "a length, position or budget outside the above" is 1, a bad page 18, a record that does not fit 19, and no CR left 7.
+-- Assumes nothing.
+use Prim.Native.Nat.{ℕ, suc}
+use mathlib.Core.Path.{_≡_, refl}
+use mathlib.Core.Bool.{true, false}
+use mathlib.Core.Option.{none}
+use Rattle.nibl.specs.Bytes.{if_then_else_}
+use Rattle.nibl.specs.Page.{isGood, fits}
+use Rattle.nibl.specs.Calls.{Lent, inRange, firstRefusal, takeLine, takeLineIn, continueRun, continueRunIn, limit}
+use Rattle.page.proofs.Walk.{by-cases}
+use Rattle.demands.specs.Leaves.{unchanged}
+use Rattle.demands.proofs.Ways.{lineOf}
+use Rattle.demands.proofs.Accepted.{InRange, in-range-of, in-range-is}
+
+-- both calls give all back as it came, with the stop n
+abbrev pub BothUnchanged : Lent → ℕ → Type 0
+BothUnchanged x n = (takeLine x ≡ unchanged x n) × (continueRun x ≡ unchanged x n)
+
+module _ (x : Lent) where
+  refused-both : (n : ℕ) → firstRefusal limit x ≡ suc n → BothUnchanged x (suc n)
+  unfolding takeLine takeLineIn continueRun continueRunIn
+  refused-both n h = (rw (h, takeLineIn), rw (h, continueRunIn))
+
+  pub out-of-range-is-1 : (InRange x → ⊥) → BothUnchanged x 1
+  unfolding firstRefusal
+  out-of-range-is-1 h = by-cases (inRange x) (λ e. absurd (h (in-range-of x e))) (λ e. refused-both 0 (rw e))
+
+  pub a-bad-page-is-18 : InRange x → isGood limit (x .page) ≡ false → BothUnchanged x 18
+  unfolding firstRefusal
+  a-bad-page-is-18 r h = refused-both 17 (rw (in-range-is r, h))
+
+  pub a-record-that-does-not-fit-is-19 : InRange x → isGood limit (x .page) ≡ true → fits (x .page) (x .session) ≡ false → BothUnchanged x 19
+  unfolding firstRefusal
+  a-record-that-does-not-fit-is-19 r g h = refused-both 18 (rw (in-range-is r, g, h))
+
+  pub no-cr-is-7 : firstRefusal limit x ≡ 0 → lineOf limit x ≡ none → takeLine x ≡ unchanged x 7
+  unfolding takeLine takeLineIn
+  no-cr-is-7 z h = rw (z, takeLineIn) (rw h)

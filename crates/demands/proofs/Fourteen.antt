@@ -1,0 +1,95 @@
+-- "14 exactly when the budget is spent and a statement is left to run", at any budget. Assumes nothing.
+use Prim.Native.Nat.{ℕ, suc, _-_, _≤_}
+use mathlib.Core.Path.{_≡_, refl, sym, ap, _∙_}
+use mathlib.Core.Bool.{true, false}
+use mathlib.Core.Logic.{_↔_}
+use mathlib.Core.Option.{none, some}
+use native.Mathlib.Omega.{arith}
+use lib.Dec.{eqb}
+use borrow.Author.Tests.{eqb-true, eqb-false}
+use Rattle.nibl.specs.Meaning.{World, Env, Next, on, skip, go, stop}
+use Rattle.nibl.specs.Calls.{Lent, Outcome, runFrom, textFrom, firstRefusal, envOf, takeLine, continueRun, limit}
+use Rattle.page.proofs.Walk.{by-cases}
+use Rattle.demands.specs.Sound.{Sized, Answered, byLine, byRun, budgeted}
+use Rattle.demands.specs.Starts.{StartsTyped, StartsPaused}
+use Rattle.demands.specs.Steps.{endOf, crOf, GoesTo, afterIt, afterRecord, jumps, Ends, halts, runsOut, pauses, OneMore, StandsAt, begun, later, LeftToRun}
+use Rattle.demands.proofs.Sound.{unrefused}
+use Rattle.demands.proofs.LastStep.{Still, over, waits, unread, no-step}
+use Rattle.demands.proofs.Line.{the-answers-line}
+use Rattle.demands.proofs.Beginning.{ranFrom, a-run-begins, a-paused-run-goes-on, no-budget-pauses-at-once}
+use Rattle.demands.proofs.Steps.{the-last-statement, the-last-statement-of-continue}
+
+-- a member goes to one position, or stops the run
+goes-once : {p cr q q' : ℕ} {how : Next} → GoesTo p cr how q → GoesTo p cr how q' → q ≡ q'
+goes-once afterIt afterIt = refl
+goes-once afterRecord afterRecord = refl
+goes-once jumps jumps = refl
+
+goes-on : {p cr q n : ℕ} {how : Next} → GoesTo p cr how q → how ≡ stop n → ⊥
+goes-on afterIt e = let z : _≡_ {A = ℕ} 0 1 = cc in omega arith
+goes-on afterRecord e = let z : _≡_ {A = ℕ} 0 1 = cc in omega arith
+goes-on jumps e = let z : _≡_ {A = ℕ} 0 1 = cc in omega arith
+
+module _ (x : Lent) (From : ℕ → World → Type 0) (o' o : Outcome) where
+  abbrev env : Env
+  env = envOf limit x
+
+  abbrev budget : ℕ
+  budget = x .call .budget
+
+  abbrev Left : Type 0
+  Left = LeftToRun From env budget o' o
+
+  waiting : (q : ℕ) (w : World) → From q w → o ≡ ranFrom x q w → o .answer .steps ≡ 0 → o .answer .stop ≡ 14 → (o .answer .steps ≡ budget) × Left
+  waiting q w b e z i =
+      by (no-step budget env q w (sym (ap (λ o. o .answer .steps) e) ∙ z) .still) (sym (ap (λ o. o .answer .stop) e) ∙ i)
+    where
+      by : Still (x .page) budget q (runFrom budget env q w) → runFrom budget env q w .stop ≡ 14 → (o .answer .steps ≡ budget) × Left
+      by (over h n) c = absurd (omega arith)
+      by (waits a h n k at) c = (z ∙ sym k, record { at = q; start = a; stands = begun b z; follows = h })
+      by (unread n) c = absurd (omega arith)
+
+  paused-left : OneMore env budget o' o → o .answer .stop ≡ 14 → (o .answer .steps ≡ budget) × Left
+  paused-left m i = by (m .ends) where
+    by : Ends (x .page) (endOf env (m .start) (m .last)) (crOf env (m .start)) (m .how) (m .after) budget o → (o .answer .steps ≡ budget) × Left
+    by (halts h n s) = absurd (n i)
+    by (runsOut q g h n s) = absurd (omega arith)
+    by (pauses q a g h n k s) = (k, record { at = q; start = a; stands = later m g; follows = h })
+
+  left-paused : ((q : ℕ) (w : World) → From q w → o ≡ ranFrom x q w) → o .answer .steps ≡ budget → Left → o .answer .stop ≡ 14
+  left-paused begins n l = by (l .stands) where
+    by : StandsAt From env budget o' o (l .at) → o .answer .stop ≡ 14
+    by (begun {w = w} b z) = ap (λ o. o .answer .stop) (begins (l .at) w b ∙ no-budget-pauses-at-once x (l .at) (l .start) w (sym n ∙ z) (l .follows))
+    by (later m g) = end (m .ends) where
+      end : Ends (x .page) (endOf env (m .start) (m .last)) (crOf env (m .start)) (m .how) (m .after) budget o → o .answer .stop ≡ 14
+      end (halts h c s) = absurd (goes-on g h)
+      end (runsOut q f h c s) =
+          let same = goes-once f g in
+          let i = l .follows in
+          let z : _≡_ {A = ℕ} 0 1 = cc in
+          absurd (omega arith)
+      end (pauses q a f h c k s) = c
+
+  exactly : Answered limit x From o → ((q : ℕ) (w : World) → From q w → o ≡ ranFrom x q w) → (1 ≤ o .answer .steps → OneMore env budget o' o)
+      → (o .answer .stop ≡ 14) ↔ ((o .answer .steps ≡ budget) × Left)
+  exactly a begins more = (λ i. by-cases (eqb (o .answer .steps) 0) (λ e. by a (eqb-true _ 0 e) i) (λ e. paused-left (more (omega (arith, eqb-false (o .answer .steps) 0 e))) i), λ i. left-paused begins (i .0) (i .1)) where
+    by : Answered limit x From o → o .answer .steps ≡ 0 → o .answer .stop ≡ 14 → (o .answer .steps ≡ budget) × Left
+    by (byLine l s n) z i = absurd (n i)
+    by (byRun q w b s h e c) z i = waiting q w b e z i
+
+-- past the first refusals, a call answers 14 exactly when its steps are the budget and, where its run stands, a text follows
+pub fourteen-exactly : (x : Lent) → Sized (x .session) → firstRefusal limit x ≡ 0
+    → (takeLine x .answer .stop ≡ 14)
+    ↔ ((takeLine x .answer .steps ≡ x .call .budget)
+    × LeftToRun (StartsTyped limit x) (envOf limit x) (x .call .budget) (takeLine (budgeted (takeLine x .answer .steps - 1) x)) (takeLine x))
+fourteen-exactly x sized z =
+    exactly x (StartsTyped limit x) (takeLine (budgeted (takeLine x .answer .steps - 1) x)) (takeLine x) (the-answers-line x (unrefused limit x sized z) .0)
+    (λ q w b. a-run-begins x b) (the-last-statement x sized)
+
+pub fourteen-exactly-of-continue : (x : Lent) → Sized (x .session) → firstRefusal limit x ≡ 0
+    → (continueRun x .answer .stop ≡ 14)
+    ↔ ((continueRun x .answer .steps ≡ x .call .budget)
+    × LeftToRun (StartsPaused limit x) (envOf limit x) (x .call .budget) (continueRun (budgeted (continueRun x .answer .steps - 1) x)) (continueRun x))
+fourteen-exactly-of-continue x sized z =
+    exactly x (StartsPaused limit x) (continueRun (budgeted (continueRun x .answer .steps - 1) x)) (continueRun x) (the-answers-line x (unrefused limit x sized z) .1)
+    (λ q w b. a-paused-run-goes-on x b) (the-last-statement-of-continue x sized)

@@ -1,0 +1,5 @@
+pub mod Short
+pub mod Codes
+pub mod Lists
+pub mod Lines
+pub mod Replies
