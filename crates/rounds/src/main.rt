@@ -169,6 +169,10 @@ fn finds(page: &[u8]) -> u16 {
     sum
 }
 
+fn check(page: &[u8]) -> u16 {
+    if places::is_good(page, 72) { 1 } else { 0 }
+}
+
 fn round(work: u16, bytes: &mut [u8], ops: &mut [u32]) -> u16
     ensures { λ _. ⌜ length (now (bytes .exit)) ≡ length (now (bytes .entry)) ⌝ }
 {
@@ -177,6 +181,7 @@ fn round(work: u16, bytes: &mut [u8], ops: &mut [u32]) -> u16
         1 => members(bytes, ops),
         2..=3 => edits(bytes),
         4..=6 => finds(bytes),
+        7 => check(bytes),
         _ => 0,
     }
 }

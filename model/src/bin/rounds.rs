@@ -135,7 +135,7 @@ fn walks(page: &[u8]) -> u16 {
 fn input(work: &str) -> Option<Vec<u8>> {
     match work {
         "0" => Some(text()),
-        "1" | "2" | "3" => Some(full_page(&RULES)),
+        "1" | "2" | "3" | "7" => Some(full_page(&RULES)),
         "4" | "5" | "6" => Some(lines()),
         _ => None,
     }
@@ -174,6 +174,7 @@ fn run(input: &[u8]) -> Option<u16> {
         }
         "5" => Some(repeat(rounds, || finds(|| read(black_box(page))))),
         "6" => Some(repeat(rounds, || walks(page))),
+        "7" => Some(repeat(rounds, || read_page(black_box(page)).is_some().into())),
         _ => None,
     }
 }
