@@ -145,7 +145,10 @@ fn edits(page: &mut [u8]) -> u16
     ensures { λ _. ⌜ length (now (page .exit)) ≡ length (now (page .entry)) ⌝ }
 {
     let a = edit(page, b" A=A+1");
-    let b = edit(page, b" PRINT \"COW\",C,\" GATE \",STAT AND 3;: REM OPEN: SHUT");
+    let b = edit(
+        page,
+        b" PRINT \"COW\",C,\" GATE \",STAT AND 3;: REM OPEN: SHUT",
+    );
     add(add(0, a), b)
 }
 

@@ -165,7 +165,12 @@ fn run(input: &[u8]) -> Option<u16> {
             store(page, before, MIDDLE, EDITS[0].as_bytes());
             let between = &read(page);
             let page = &mut bytes.to_vec()[..];
-            Some(repeat(rounds, || edits(black_box(page), [before, between].map(|read| move |_: &[u8]| read))))
+            Some(repeat(rounds, || {
+                edits(
+                    black_box(page),
+                    [before, between].map(|read| move |_: &[u8]| read),
+                )
+            }))
         }
         "3" => Some(repeat(rounds, || edits(black_box(page), [read, read]))),
         "4" => {
@@ -174,7 +179,9 @@ fn run(input: &[u8]) -> Option<u16> {
         }
         "5" => Some(repeat(rounds, || finds(|| read(black_box(page))))),
         "6" => Some(repeat(rounds, || walks(page))),
-        "7" => Some(repeat(rounds, || read_page(black_box(page)).is_some().into())),
+        "7" => Some(repeat(rounds, || {
+            read_page(black_box(page)).is_some().into()
+        })),
         _ => None,
     }
 }
