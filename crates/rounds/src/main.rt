@@ -1,9 +1,13 @@
 // Does a piece of work of the proved code round after round, for its time to be held against the model's: see bench/run.
 // Standard input has the work's number, the number of rounds, LF and the bytes to work on. It writes the sum of what the
 // rounds found, which is to be the model's too.
-ghost use Prim.Native.Nat.{_<_};
+ghost use Prim.Native.Nat.{_-_, _≤_, _<_};
 ghost use lib.ListN.{length};
 ghost use mathlib.Core.Path.{_≡_};
+use nibl::LineNumber;
+use page::Edited;
+use page::FoundLine;
+use reader::MemberRead;
 use word::Cursor;
 use word::Word;
 
@@ -51,11 +55,136 @@ fn words(text: &[u8]) -> u16 {
     sum
 }
 
-fn round(work: u16, bytes: &mut [u8]) -> u16
+fn add(sum: u16, found: usize) -> u16 {
+    std::num::wrapping_add_u16(sum, (found % 65536) as u16)
+}
+
+// Where the first member from a position on ends; at the text's end where none stands.
+fn member_end(text: &[u8], from: usize, ops: &mut [u32]) -> usize
+    requires { ⌜ from < length (now text) ⌝ }
+    ensures { λ r. ⌜ (from ≤ r) × (r ≤ length (now (text .entry))) ⌝ }
+{
+    let stop = text.len();
+    let m = reader::read_member(&text[from..], ops);
+    let MemberRead::Member(_, left) = m else {
+        return stop;
+    };
+    if stop - from < left {
+        return stop;
+    }
+    stop - left
+}
+
+// The sum of where a text's members end.
+fn text_members(text: &[u8], ops: &mut [u32]) -> u16 {
+    let mut sum: u16 = 0;
+    let mut from = 0;
+    while from < text.len() {
+        let end = member_end(text, from, ops);
+        sum = add(sum, end);
+        from = end + 1;
+    }
+    sum
+}
+
+fn wide(b: u8) -> usize {
+    b as usize
+}
+
+// How many bytes a record has, and 0 where none is whole.
+fn size_at(page: &[u8], at: usize) -> usize
+    requires { ⌜ at < length (now page) ⌝ }
+    ensures { λ r. ⌜ r ≤ length (now (page .entry)) - at ⌝ }
+{
+    let left = page.len() - at;
+    if left < 5 {
+        return 0;
+    }
+    if page[at] == 255 {
+        return 0;
+    }
+    let size = wide(page[at + 2]);
+    if left < size {
+        return 0;
+    }
+    size
+}
+
+// The members of a page's texts.
+fn members(page: &[u8], ops: &mut [u32]) -> u16 {
+    let mut sum: u16 = 0;
+    let mut at = 0;
+    while at < page.len() {
+        let size = size_at(page, at);
+        if size < 5 {
+            break;
+        }
+        sum = std::num::wrapping_add_u16(sum, text_members(&page[at + 3..at + size - 1], ops));
+        at += size;
+    }
+    sum
+}
+
+// The line in the middle of a full page gets a text; a byte behind it.
+fn edit(page: &mut [u8], text: &[u8]) -> usize
+    ensures { λ _. ⌜ length (now (page .exit)) ≡ length (now (page .entry)) ⌝ }
+{
+    let answer = page::store_line(page, LineNumber(510), text);
+    match answer {
+        Edited::Done => {
+            if 2600 < page.len() {
+                return wide(page[2600]);
+            }
+            0
+        }
+        _ => 0,
+    }
+}
+
+fn edits(page: &mut [u8]) -> u16
+    ensures { λ _. ⌜ length (now (page .exit)) ≡ length (now (page .entry)) ⌝ }
+{
+    let a = edit(page, b" A=A+1");
+    let b = edit(
+        page,
+        b" PRINT \"COW\",C,\" GATE \",STAT AND 3;: REM OPEN: SHUT",
+    );
+    add(add(0, a), b)
+}
+
+fn found(f: FoundLine) -> usize {
+    match f {
+        FoundLine::Nothing => 0,
+        FoundLine::First => 1,
+        FoundLine::After(p) => p.0 as usize + 2,
+    }
+}
+
+// The places before the lines of a page of 200 lines.
+fn finds(page: &[u8]) -> u16 {
+    let mut sum: u16 = 0;
+    let mut line: u16 = 0;
+    while line < 1400 {
+        let f = page::find_line(page, LineNumber(line));
+        sum = add(sum, found(f));
+        line += 7;
+    }
+    sum
+}
+
+fn check(page: &[u8]) -> u16 {
+    if places::is_good(page, 72) { 1 } else { 0 }
+}
+
+fn round(work: u16, bytes: &mut [u8], ops: &mut [u32]) -> u16
     ensures { λ _. ⌜ length (now (bytes .exit)) ≡ length (now (bytes .entry)) ⌝ }
 {
     match work {
         0 => words(bytes),
+        1 => members(bytes, ops),
+        2..=3 => edits(bytes),
+        4..=6 => finds(bytes),
+        7 => check(bytes),
         _ => 0,
     }
 }
@@ -64,11 +193,12 @@ fn round(work: u16, bytes: &mut [u8]) -> u16
 fn rounds(work: u16, n: u16, bytes: &mut [u8]) -> u16
     requires { ⌜ 0 < length (now bytes) ⌝ }
 {
+    let mut ops = [0u32; 256];
     let mut sum: u16 = 0;
     let mut i: u16 = 0;
     while i < n {
         bytes[0] = (i % 256) as u8;
-        sum = std::num::wrapping_add_u16(sum, round(work, &mut bytes[1..]));
+        sum = std::num::wrapping_add_u16(sum, round(work, &mut bytes[1..], &mut ops));
         i += 1;
     }
     sum

@@ -10,8 +10,17 @@
 use std::hint::black_box;
 use std::io::{self, Read, Write};
 
-use model::rules::RULES;
+use model::line::LineNumber;
+use model::page::{read_page, store, Program, END_MARK};
+use model::reader::read_list;
+use model::rules::{empty_page, full_page, RULES};
+use model::tree::Tree;
 use model::words::{Word, Words};
+use model::Pause;
+
+/// A line in the middle of a full page of rule lines, and the texts that it has in turn, of which the second is its own.
+const MIDDLE: LineNumber = LineNumber(510);
+const EDITS: [&str; 2] = [RULES[0], RULES[3]];
 
 /// Rule lines without remarks, one after the other, as many as fit a page.
 fn text() -> Vec<u8> {
@@ -44,10 +53,90 @@ fn words(text: &[u8]) -> u16 {
     }
 }
 
+/// A page of 200 lines, each of one statement.
+fn lines() -> Vec<u8> {
+    let mut page = empty_page(4096);
+    for number in numbers() {
+        let program = read(&page);
+        assert!(store(&mut page, &program, number, RULES[0].as_bytes()));
+    }
+    page
+}
+
+fn numbers() -> impl Iterator<Item = LineNumber> {
+    (0..200).map(|line| LineNumber(line * 7))
+}
+
+fn read(page: &[u8]) -> Program {
+    read_page(page).expect("a good page")
+}
+
+fn add(sum: u16, found: impl Into<usize>) -> u16 {
+    sum.wrapping_add(found.into() as u16)
+}
+
+/// The position and the text of each record of a good page.
+fn records(page: &[u8]) -> impl Iterator<Item = (usize, &[u8])> {
+    let mut at = 0;
+    std::iter::from_fn(move || {
+        let start = at;
+        (page[start..start + 2] != END_MARK).then(|| {
+            at += usize::from(page[start + 2]);
+            (start, &page[start + 3..at - 1])
+        })
+    })
+}
+
+/// The sum of where the members of a page's texts end.
+fn members(page: &[u8]) -> u16 {
+    let mut tree = Tree::with_room(page.len());
+    let mut sum = 0;
+    for (_, text) in records(page) {
+        read_list(&mut tree, text, |member| sum = add(sum, member.end)).expect("a reading");
+    }
+    black_box(tree);
+    sum
+}
+
+/// The middle line gets one text and then the other; a byte behind it after each. What `read` answers is the page read.
+fn edits<P: std::borrow::Borrow<Program>>(page: &mut [u8], read: [impl Fn(&[u8]) -> P; 2]) -> u16 {
+    let mut sum = 0;
+    for (text, read) in EDITS.iter().zip(read) {
+        let program = read(page);
+        assert!(store(page, program.borrow(), MIDDLE, text.as_bytes()));
+        sum = add(sum, page[2600]);
+    }
+    sum
+}
+
+/// The place before each line of the page, by a program that is read or by one that is made anew for each.
+fn finds<P: std::borrow::Borrow<Program>>(read: impl Fn() -> P) -> u16 {
+    numbers().fold(0, |sum, number| {
+        let program = read();
+        let step = program.borrow().find(black_box(number));
+        match step.map(|step| program.borrow().pause_before(step)) {
+            None => sum,
+            Some(Pause::Start) => add(sum, 1usize),
+            Some(Pause::After(place)) => add(sum, place.0 + 2),
+        }
+    })
+}
+
+/// The same by a walk along the records.
+fn walks(page: &[u8]) -> u16 {
+    numbers().fold(0, |sum, number| {
+        let number = black_box(number).0.to_be_bytes();
+        let found = records(black_box(page)).find(|&(start, _)| page[start..start + 2] == number);
+        add(sum, found.map_or(0, |(start, _)| start + 1))
+    })
+}
+
 /// What a piece of work, by its number, works on.
 fn input(work: &str) -> Option<Vec<u8>> {
     match work {
         "0" => Some(text()),
+        "1" | "2" | "3" | "7" => Some(full_page(&RULES)),
+        "4" | "5" | "6" => Some(lines()),
         _ => None,
     }
 }
@@ -67,8 +156,32 @@ fn repeat(rounds: u16, mut round: impl FnMut() -> u16) -> u16 {
 
 fn run(input: &[u8]) -> Option<u16> {
     let (work, rounds, bytes) = parts(input)?;
+    let page = &mut bytes.to_vec()[..];
     match work {
         "0" => Some(repeat(rounds, || words(black_box(bytes)))),
+        "1" => Some(repeat(rounds, || members(black_box(bytes)))),
+        "2" => {
+            let before = &read(page);
+            store(page, before, MIDDLE, EDITS[0].as_bytes());
+            let between = &read(page);
+            let page = &mut bytes.to_vec()[..];
+            Some(repeat(rounds, || {
+                edits(
+                    black_box(page),
+                    [before, between].map(|read| move |_: &[u8]| read),
+                )
+            }))
+        }
+        "3" => Some(repeat(rounds, || edits(black_box(page), [read, read]))),
+        "4" => {
+            let program = &read(page);
+            Some(repeat(rounds, || finds(|| black_box(program))))
+        }
+        "5" => Some(repeat(rounds, || finds(|| read(black_box(page))))),
+        "6" => Some(repeat(rounds, || walks(page))),
+        "7" => Some(repeat(rounds, || {
+            read_page(black_box(page)).is_some().into()
+        })),
         _ => None,
     }
 }

@@ -9,10 +9,10 @@ use Rattle.rounds.proofs.rounds.Statement.{statement}
 use Rattle.rounds.proofs.rounds.Tie as tie
 
 abbrev Inv-loop : tie.InvT-loop
-Inv-loop work n bytes₀ sum₀ i₀ bytes sum i = (0 < length bytes) × (length bytes ≡ length bytes₀)
+Inv-loop work n bytes₀ ops₀ sum₀ i₀ bytes ops sum i = (0 < length bytes) × ((length bytes ≡ length bytes₀) × (length ops ≡ 256))
 
 abbrev μ-loop : tie.MeasureT-loop
-μ-loop work n bytes₀ sum₀ i₀ bytes sum i = n - i
+μ-loop work n bytes₀ ops₀ sum₀ i₀ bytes ops sum i = n - i
 
 loop-holds : tie.Need-loop-holds Inv-loop μ-loop
 loop-holds c = search needs
@@ -32,6 +32,9 @@ part-round-start c = search needs
 part-round-end : tie.Need-part-round-end Inv-loop μ-loop
 part-round-end c = search needs
 
+slice-aggregate-round : tie.Need-slice-aggregate-round Inv-loop μ-loop
+slice-aggregate-round c = search needs
+
 round-requires : tie.Need-round-requires Inv-loop μ-loop
 round-requires c κs = search needs
 
@@ -46,11 +49,11 @@ loop-less c = search needs
 
 loop-again : tie.Need-loop-again Inv-loop μ-loop
 loop-again c =
-    let at = c .before .before .before .before .before .before .loop in
-    let after = c .before .before .before .round in
+    let at = c .before .before .before .before .before .before .before .before .loop in
+    let after = c .before .before .before .before .round in
     let stamped = set (at .bytes) 0 (at .i % 256) in
     let kept = same-len-mid 1 (length stamped - 1) stamped (after .last .1 .0) (after .ensures) ∙ length-set (at .bytes) 0 (at .i % 256) in
-    (omega (arith, kept), kept ∙ at .inv .1)
+    (omega (arith, kept), (kept ∙ at .inv .1 .0, search needs))
 
 same-length : tie.Need-same-length Inv-loop μ-loop
 same-length c = search needs
@@ -70,6 +73,7 @@ rounds-spec =
     sub-round
     part-round-start
     part-round-end
+    slice-aggregate-round
     round-requires
     wrapping-add-u16-requires
     add-i
