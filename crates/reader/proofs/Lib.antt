@@ -3,3 +3,4 @@ pub mod Heads
 pub mod Members
 pub mod Spending
 pub mod Ways
+pub mod Depth

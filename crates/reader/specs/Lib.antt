@@ -1,3 +1,4 @@
 pub mod Code
 pub mod Forms
 pub mod Answers
+pub mod Depth
