@@ -2,16 +2,16 @@
 -- Assumes nothing.
 use Prim.Native.Nat.{ℕ, zero, suc, _+_, _-_, _≤_, _<_}
 use mathlib.Core.Path.{_≡_, refl, sym, ap, _∙_}
-use mathlib.Core.Bool.{Bool, true, false, _&&_, _||_, true≢false}
+use mathlib.Core.Bool.{Bool, true, false, not, _&&_, _||_, and-false, true≢false}
 use mathlib.Core.List.{List, [], _∷_}
 use native.Mathlib.Nat.{add-zero}
 use native.Mathlib.Omega.{arith}
 use lib.ListN.{length, getD, drop, length-drop, List·getD-eq-default, drop-of-length-le}
 use lib.Seq.{length-take-le, take-all, drop-drop, getD-drop}
 use lib.Dec.{ltb, leb, eqb}
-use borrow.Author.Tests.{ltb-true, ltb-false, leb-true, leb-false}
+use borrow.Author.Tests.{ltb-true, ltb-false, leb-true, leb-false, le-leb, lt-leb}
 use Rattle.nibl.specs.Page.{Stored, isEnd, lengthAt, recordsN, recordsOf, size}
-use Rattle.page.specs.Walk.{stopsAt, recordAt, sizeAt}
+use Rattle.page.specs.Walk.{stopsAt, recordAt, sizeAt, cut}
 
 -- a test that is neither holds in neither way
 pub by-cases : {P : Type 0} (t : Bool) → (t ≡ true → P) → (t ≡ false → P) → P
@@ -21,6 +21,14 @@ by-cases false f g = g refl
 pub or-false : (a b : Bool) → (a || b) ≡ false → (a ≡ false) × (b ≡ false)
 or-false false b e = (refl, e)
 or-false true b e = absurd (true≢false e)
+
+pub not-true : (a : Bool) → not a ≡ true → a ≡ false
+not-true false e = refl
+not-true true e = absurd (true≢false (sym e))
+
+pub not-false : (a : Bool) → not a ≡ false → a ≡ true
+not-false true e = refl
+not-false false e = absurd (true≢false e)
 
 pub or-right : (a b : Bool) → b ≡ true → (a || b) ≡ true
 or-right true b e = refl
@@ -34,12 +42,16 @@ module _ (p : List ℕ) (at : ℕ) where
   pub end-at : isEnd (drop at p) ≡ (eqb (getD p at 0) 255 && eqb (getD p (at + 1) 0) 255)
   end-at = λ i. eqb (first-at i) 255 && eqb (getD-drop at p 1 0 i) 255
 
-  pub end-past : length p ≤ at → isEnd (drop at p) ≡ false
-  end-past h = rw (drop-of-length-le p {i = at} h)
+  pub end-past : length p ≤ at + 1 → isEnd (drop at p) ≡ false
+  end-past h = end-at ∙ ap (λ (b : ℕ). eqb (getD p at 0) 255 && eqb b 255) (List·getD-eq-default p 0 {n = at + 1} h) ∙ and-false (eqb (getD p at 0) 255)
 
 -- where the number, the length byte and more are missing no record begins
 pub stops-short : (q : List ℕ) → length q ≤ 2 → stopsAt q ≡ true
 stops-short q h = or-right (isEnd q) (ltb (lengthAt q) 5) (rw (List·getD-eq-default q 0 {n = 2} h))
+
+-- where the end mark is not, the length byte decides
+pub stops-at : (q : List ℕ) → isEnd q ≡ false → not (stopsAt q) ≡ leb 5 (lengthAt q)
+stops-at q e = rw e (by-cases (ltb (lengthAt q) 5) (λ f. let g = ltb-true (lengthAt q) 5 f in rw (f, lt-leb 5 (lengthAt q) g)) (λ f. let g = ltb-false (lengthAt q) 5 f in rw (f, le-leb 5 (lengthAt q) g)))
 
 module _ (q : List ℕ) (e : stopsAt q ≡ false) where
   pub length-byte : 5 ≤ lengthAt q
@@ -152,3 +164,52 @@ met p at n e h =
 
 pub past : (p : List ℕ) (at n : ℕ) → n ≡ sizeAt (drop at p) → n ≤ 0 → recordsOf (drop at p) ≡ []
 past p at n e h = stop (drop at p) (none-size (drop at p) (omega arith))
+
+-- what a turn of the walk by the length bytes knows: a record stands at `at`, and n is its length byte
+pub record Stood (p : List ℕ) (at n : ℕ) : Type 0 where
+  pub inside : at + 3 ≤ length p
+  pub some : 5 ≤ n
+  pub here : cut p at ≡ at
+  pub next : cut p (at + n) ≡ at + size (recordAt (drop at p))
+  pub records : recordsOf (drop at p) ≡ recordAt (drop at p) ∷ recordsOf (drop (at + n) p)
+
+module _ (p : List ℕ) where
+  pub cut-in : (x : ℕ) → x ≤ length p + 1 → cut p x ≡ x
+  cut-in x h = by-cases (leb x (length p)) (λ e. rw e) (λ e. let f = leb-false x (length p) e in rw e (omega arith))
+
+  pub cut-most : (x : ℕ) → cut p x ≤ length p + 1
+  cut-most x = by-cases (leb x (length p)) (λ e. let f = leb-true x (length p) e in rw e (omega arith)) (λ e. rw e (omega arith))
+
+  pub drop-cut : (x : ℕ) → drop (cut p x) p ≡ drop x p
+  drop-cut x =
+      by-cases (leb x (length p)) (λ e. rw e)
+      (λ e.
+      let f = leb-false x (length p) e in
+      rw e (drop-of-length-le p {i = length p + 1} (omega arith) ∙ sym (drop-of-length-le p {i = x} (omega arith))))
+
+  cut-out : (x : ℕ) → length p < x → cut p x ≡ length p + 1
+  cut-out x h = rw (lt-leb x (length p) h)
+
+  pub stood : (at n : ℕ) → n ≡ lengthAt (drop at p) → not (stopsAt (drop at p)) ≡ true → Stood p at n
+  stood at n e h =
+      let q : List ℕ = drop at p in
+      let f = not-true (stopsAt q) h in
+      let d = length-drop at p in
+      let m = long q f in
+      let s = size-is q f in
+      let b = length-byte q f in
+      record {
+        inside = omega arith;
+        some = omega arith;
+        here = cut-in at (omega arith);
+        next =
+            by-cases (leb (at + n) (length p)) (λ g.
+            let i = leb-true (at + n) (length p) g in
+            cut-in (at + n) (omega arith) ∙ omega (arith, size-whole q f (omega arith)))
+            (λ g. let i = leb-false (at + n) (length p) g in cut-out (at + n) (omega arith) ∙ omega (arith, size-cut q f (omega arith)));
+        records = step q f ∙ ap (λ (r : List ℕ). recordAt q ∷ recordsOf r) (sym (drop-size q f) ∙ ap (λ (k : ℕ). drop k q) (sym e) ∙ drop-drop n at p);
+      }
+
+  -- where the walk ends there are no more records
+  pub stops : (at : ℕ) → not (stopsAt (drop at p)) ≡ false → recordsOf (drop at p) ≡ []
+  stops at h = stop (drop at p) (not-false (stopsAt (drop at p)) h)

@@ -4,7 +4,7 @@ use mathlib.Core.Bool.{Bool, _||_}
 use mathlib.Core.List.{List}
 use mathlib.Core.Option.{Option, none, some}
 use lib.ListN.{length}
-use lib.Dec.{ltb}
+use lib.Dec.{ltb, leb}
 use Rattle.nibl.specs.Bytes.{if_then_else_}
 use Rattle.nibl.specs.Page.{Stored, isEnd, lineAt, lengthAt, textAt}
 use Rattle.nibl.specs.Calls.{lineFrom}
@@ -26,6 +26,10 @@ recordAt q = record { line = lineAt q; text = textAt q }
 -- how many bytes the record here has, and 0 where none begins
 unfoldable pub sizeAt : List ℕ → ℕ
 sizeAt q = if stopsAt q then 0 else length (textAt q) + 4
+
+-- where a walk by the length bytes is: past a record that the page's end cuts off it is behind the CR that would come next
+abbrev pub cut : List ℕ → ℕ → ℕ
+cut p at = if leb at (length p) then at else length p + 1
 
 -- the position at which a line's record stands: at the program's start, or after the place that ends the record before it
 abbrev pub positionOf : FoundLine → Option ℕ

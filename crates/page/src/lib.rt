@@ -1,20 +1,20 @@
 // The page: the walk along its records by their length bytes, the line finder, the running text, and the edits.
 // Any bytes whatever are looked at safely; what is said of a good page is said in proofs/.
 ghost use Prim.Native.Nat.{_+_, _-_, _≤_, _<_};
-ghost use mathlib.Core.Bool.{_&&_};
+ghost use mathlib.Core.Bool.{_&&_, not};
 ghost use mathlib.Core.List.{_++_};
 ghost use mathlib.Core.Option.{some};
 ghost use lib.Dec.{leb, eqb};
 ghost use mathlib.Core.Path.{_≡_};
 ghost use lib.ListN.{length, getD, drop};
 ghost use lib.Seq.{paste};
-ghost use Rattle.nibl.specs.Page.{recordBytes, isEnd, find, lineAt, lineOf, used, usedBy, recordsOf};
+ghost use Rattle.nibl.specs.Page.{recordBytes, isEnd, find, lineAt, lengthAt, lineOf, used, usedBy, recordsOf};
 ghost use Rattle.nibl.specs.Calls.{lineFrom, textFrom, listed};
 ghost use Rattle.nibl.specs.Values.{digits};
 ghost use Rattle.value.specs.Writes.{Writes};
 ghost use Rattle.page.specs.Edits.{Seated, moved, spliced, changed, storeOf, deleteOf, newOf};
 ghost use Rattle.page.specs.Listing.{shown, listing, Here};
-ghost use Rattle.page.specs.Walk.{sizeAt, recordAt, positionOf, reached, beginOf, textOf};
+ghost use Rattle.page.specs.Walk.{stopsAt, sizeAt, recordAt, cut, positionOf, reached, beginOf, textOf};
 use nibl::LineNumber;
 use nibl::Place;
 use value::Wrote;
@@ -66,39 +66,80 @@ fn byte_at(s: &[u8], i: usize) -> u8
     if i < s.len() { s[i] } else { 0 }
 }
 
+// Whether the end mark stands at `at`, where two bytes stand.
+fn is_mark(page: &[u8], at: usize) -> bool
+    requires { ⌜ at + 2 ≤ length (now page) ⌝ }
+    ensures { λ r. ⌜ r ≡ isEnd (drop at (now (page .entry))) ⌝ }
+{
+    if page[at] != 255 {
+        return false;
+    }
+    page[at + 1] == 255
+}
+
 // Whether the end mark stands at `at`.
 pub fn is_end(page: &[u8], at: usize) -> bool
     ensures { λ r. ⌜ r ≡ isEnd (drop at (now (page .entry))) ⌝ }
 {
-    if page.len() <= at {
+    let n = page.len();
+    if n <= at {
         return false;
     }
-    if byte_at(page, at) != 255 {
+    if n - at < 2 {
         return false;
     }
-    byte_at(page, at + 1) == 255
+    is_mark(page, at)
+}
+
+// Whether a record stands at `at`.
+fn stands(page: &[u8], at: usize) -> bool
+    ensures { λ r. ⌜ r ≡ not (stopsAt (drop at (now (page .entry)))) ⌝ }
+{
+    let n = page.len();
+    if n <= at {
+        return false;
+    }
+    if n - at < 3 {
+        return false;
+    }
+    if is_mark(page, at) {
+        return false;
+    }
+    5 <= page[at + 2]
+}
+
+// The length byte of the record at `at`.
+fn length_at(page: &[u8], at: usize) -> usize
+    requires { ⌜ at + 3 ≤ length (now page) ⌝ }
+    ensures { λ r. ⌜ r ≡ lengthAt (drop at (now (page .entry))) ⌝ }
+{
+    page[at + 2] as usize
 }
 
 // How many bytes the record at `at` has, and 0 where none begins. One that the page's end cuts off counts as if its CR came next.
 pub fn size_at(page: &[u8], at: usize) -> usize
     ensures { λ r. ⌜ r ≡ sizeAt (drop at (now (page .entry))) ⌝ }
 {
-    let n = page.len();
-    if n <= at {
+    if !stands(page, at) {
         return 0;
     }
-    if is_end(page, at) {
-        return 0;
-    }
-    let size = byte_at(page, at + 2) as usize;
-    if size < 5 {
-        return 0;
-    }
-    let left = n - at;
+    let size = length_at(page, at);
+    let left = page.len() - at;
     if left < size {
         return left + 1;
     }
     size
+}
+
+// Where a walk by the length bytes is: past a record that the page's end cuts off it is behind the CR that would come next.
+fn reach(page: &[u8], at: usize) -> usize
+    ensures { λ r. ⌜ r ≡ cut (now (page .entry)) at ⌝ }
+{
+    let n = page.len();
+    if at <= n {
+        return at;
+    }
+    n + 1
 }
 
 // The number of the record at `at`.
@@ -113,18 +154,26 @@ pub fn line_at(page: &[u8], at: usize) -> u16
     high * 256 + low
 }
 
+// The same where a record stands: its bytes are there, and the walks need not ask again.
+fn number_at(page: &[u8], at: usize) -> u16
+    requires { ⌜ at + 2 ≤ length (now page) ⌝ }
+    ensures { λ r. ⌜ r ≡ lineAt (drop at (now (page .entry))) ⌝ }
+{
+    let high = page[at] as u16;
+    let low = page[at + 1] as u16;
+    high * 256 + low
+}
+
 // The used bytes from a record boundary on, the end mark with them, and those before it.
 fn used_from(page: &[u8], from: usize) -> usize
     requires { ⌜ from ≤ length (now page) + 1 ⌝ }
     ensures { λ r. ⌜ r ≡ from + usedBy (recordsOf (drop from (now (page .entry)))) ⌝ }
 {
     let mut at = from;
-    let mut size = size_at(page, at);
-    while 0 < size {
-        at += size;
-        size = size_at(page, at);
+    while stands(page, at) {
+        at += length_at(page, at);
     }
-    at + 2
+    reach(page, at) + 2
 }
 
 // TOP: the page's used bytes with the end mark.
@@ -153,13 +202,11 @@ pub fn find_line(page: &[u8], number: LineNumber) -> FoundLine
 {
     let n = number.0;
     let mut at: usize = 0;
-    let mut size = size_at(page, at);
-    while 0 < size {
-        if line_at(page, at) == n {
+    while stands(page, at) {
+        if number_at(page, at) == n {
             return found_at(at);
         }
-        at += size;
-        size = size_at(page, at);
+        at += length_at(page, at);
     }
     FoundLine::Nothing
 }
@@ -246,19 +293,19 @@ fn find_seat(page: &[u8], number: LineNumber) -> Seat
 {
     let n = number.0;
     let mut at: usize = 0;
-    let mut size = size_at(page, at);
-    while 0 < size {
-        let line = line_at(page, at);
+    while stands(page, at) {
+        let line = number_at(page, at);
         if line == n {
+            let size = size_at(page, at);
             return Seat { at: at, gone: size };
         }
         if n < line {
             return Seat { at: at, gone: 0 };
         }
-        at += size;
-        size = size_at(page, at);
+        at += length_at(page, at);
     }
-    Seat { at: at, gone: 0 }
+    let end = reach(page, at);
+    Seat { at: end, gone: 0 }
 }
 
 // n bytes go to a lower place, the first one first.

@@ -182,9 +182,9 @@ fn round(work: u16, bytes: &mut [u8], ops: &mut [u32]) -> u16
     match work {
         0 => words(bytes),
         1 => members(bytes, ops),
-        2..=3 => edits(bytes),
-        4..=6 => finds(bytes),
-        7 => check(bytes),
+        2..=4 => edits(bytes),
+        5..=7 => finds(bytes),
+        8 => check(bytes),
         _ => 0,
     }
 }

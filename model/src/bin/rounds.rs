@@ -109,6 +109,32 @@ fn edits<P: std::borrow::Borrow<Program>>(page: &mut [u8], read: [impl Fn(&[u8])
     sum
 }
 
+/// A line's record is replaced where a walk along the records finds it, and the end mark where the walk ends.
+fn replace(page: &mut [u8], number: LineNumber, text: &[u8]) {
+    let number = number.0.to_be_bytes();
+    let (mut at, mut gone, mut end) = (0, 0, 0);
+    for (start, text) in records(page) {
+        end = start + text.len() + 4;
+        if page[start..start + 2] == number {
+            (at, gone) = (start, text.len() + 4);
+        }
+    }
+    let past = at + text.len() + 4;
+    page.copy_within(at + gone..end + 2, past);
+    page[at..at + 2].copy_from_slice(&number);
+    page[at + 2] = (past - at) as u8;
+    page[at + 3..past - 1].copy_from_slice(text);
+    page[past - 1] = b'\r';
+}
+
+/// The same edits by that walk.
+fn walked_edits(page: &mut [u8]) -> u16 {
+    EDITS.iter().fold(0, |sum, text| {
+        replace(page, black_box(MIDDLE), text.as_bytes());
+        add(sum, page[2600])
+    })
+}
+
 /// The place before each line of the page, by a program that is read or by one that is made anew for each.
 fn finds<P: std::borrow::Borrow<Program>>(read: impl Fn() -> P) -> u16 {
     numbers().fold(0, |sum, number| {
@@ -135,8 +161,8 @@ fn walks(page: &[u8]) -> u16 {
 fn input(work: &str) -> Option<Vec<u8>> {
     match work {
         "0" => Some(text()),
-        "1" | "2" | "3" | "7" => Some(full_page(&RULES)),
-        "4" | "5" | "6" => Some(lines()),
+        "1" | "2" | "3" | "4" | "8" => Some(full_page(&RULES)),
+        "5" | "6" | "7" => Some(lines()),
         _ => None,
     }
 }
@@ -173,13 +199,14 @@ fn run(input: &[u8]) -> Option<u16> {
             }))
         }
         "3" => Some(repeat(rounds, || edits(black_box(page), [read, read]))),
-        "4" => {
+        "4" => Some(repeat(rounds, || walked_edits(black_box(page)))),
+        "5" => {
             let program = &read(page);
             Some(repeat(rounds, || finds(|| black_box(program))))
         }
-        "5" => Some(repeat(rounds, || finds(|| read(black_box(page))))),
-        "6" => Some(repeat(rounds, || walks(page))),
-        "7" => Some(repeat(rounds, || {
+        "6" => Some(repeat(rounds, || finds(|| read(black_box(page))))),
+        "7" => Some(repeat(rounds, || walks(page))),
+        "8" => Some(repeat(rounds, || {
             read_page(black_box(page)).is_some().into()
         })),
         _ => None,

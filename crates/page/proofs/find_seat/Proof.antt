@@ -1,95 +1,136 @@
 -- `find_seat` meets its contract: each record walked over has a lower number. Assumes nothing.
-use Prim.Native.Nat.{_<_, _+_, _-_, _≤_}
+use Prim.Native.Nat.{ℕ, _<_, _+_, _-_}
+use mathlib.Core.List.{List}
 use mathlib.Core.Path.{_≡_, refl, sym, ap, _∙_}
 use native.Mathlib.Omega.{arith}
+use lib.Seq.{getD-drop}
 use lib.ListN.{length, drop}
 use borrow.Author.Tests.{eq-eqb, ne-eqb, lt-ltb, le-ltb}
-use Rattle.nibl.specs.Page.{recordsOf, lineAt, usedBy, used}
-use Rattle.page.specs.Edits.{seatIn, seatOf}
-use Rattle.page.specs.Walk.{sizeAt}
-use Rattle.page.proofs.Walk.{Met, met, past}
+use Rattle.nibl.specs.Page.{recordsOf, lineAt, lengthAt, usedBy, used, size}
+use Rattle.page.specs.declared.Seat.{Seat}
+use Rattle.page.specs.Edits.{Seated, seatIn, seatOf}
+use Rattle.page.specs.Walk.{recordAt, cut}
+use Rattle.page.proofs.Walk.{Stood, stood, stops, cut-in, cut-most, drop-cut, not-true, size-is}
 use Rattle.page.proofs.find_seat.Statement.{statement}
 use Rattle.page.proofs.find_seat.Tie as tie
 
 abbrev Inv-loop : tie.InvT-loop
-Inv-loop page n at₀ size₀ at size = (at ≤ length page + 1) × ((size ≡ sizeAt (drop at page)) × ((seatIn n at (recordsOf (drop at page)) ≡ seatOf page n) × (at + usedBy (recordsOf (drop at page)) ≡ used page)))
+Inv-loop page n at₀ at = (seatIn n (cut page at) (recordsOf (drop at page)) ≡ seatOf page n) × (cut page at + usedBy (recordsOf (drop at page)) ≡ used page)
 
 abbrev μ-loop : tie.MeasureT-loop
-μ-loop page n at₀ size₀ at size = length page + 2 - at
+μ-loop page n at₀ at = length page + 256 - at
 
 -- what a turn knows of the record that it is at
-turn : (c : tie.In-loop Inv-loop μ-loop) → Met (c .before .before .before .before .args .page .now) (c .before .loop .at) (c .before .loop .size)
-turn c = let l = c .before .loop in met _ (l .at) (l .size) (l .inv .1 .0) (c .loop-test .taken)
+turn : (c : tie.Then1 Inv-loop μ-loop) →
+    (let p = c .before .before .before .before .args .page .now in let q = drop (c .before .before .loop .at) p in Stood p (c .before .before .loop .at) (lengthAt q))
+turn c = stood _ _ _ refl (sym (c .before .stands .ensures) ∙ c .if1 .taken)
+
+-- a seat that a turn finds at the record that it is at
+seated : (c : tie.Then1 Inv-loop μ-loop) (gone : ℕ) →
+    (let p = c .before .before .before .before .args .page .now in
+    let n = c .before .before .before .before .args .number .0 in
+    let at = c .before .before .loop .at in
+    let s : Seat = record { at = at; gone = gone } in
+    seatIn n at (recordsOf (drop at p)) ≡ s → Seated p n s)
+seated c gone e =
+    let p = c .before .before .before .before .args .page .now in
+    let n = c .before .before .before .before .args .number .0 in
+    let l = c .before .before .loop in
+    let m = turn c in
+    record {
+      is = sym e ∙ ap (λ (x : ℕ). seatIn n x (recordsOf (drop (l .at) p))) (sym (m .here)) ∙ l .inv .0;
+      inside = omega (arith, m .inside);
+      rest = ap (λ (x : ℕ). x + usedBy (recordsOf (drop (l .at) p))) (sym (m .here)) ∙ l .inv .1;
+    }
+
+loop-holds : tie.Need-loop-holds Inv-loop μ-loop
+unfolding seatOf used
+loop-holds c =
+    let p = c .before .args .page .now in
+    let e = cut-in p 0 (omega arith) in
+    (ap (λ (x : ℕ). seatIn (c .before .args .number .0) x (recordsOf p)) e, omega (arith, e))
+
+stands-requires : tie.Need-stands-requires Inv-loop μ-loop
+stands-requires c κs = tt
+
+number-at-requires : tie.Need-number-at-requires Inv-loop μ-loop
+number-at-requires c κs = let m = turn c in omega arith
 
 size-at-requires : tie.Need-size-at-requires Inv-loop μ-loop
 size-at-requires c κs = tt
 
-loop-holds : tie.Need-loop-holds Inv-loop μ-loop
-unfolding seatOf used
-loop-holds c = (omega arith, (c .size-at .ensures, (refl, omega arith)))
-
-line-at-requires : tie.Need-line-at-requires Inv-loop μ-loop
-line-at-requires c κs = tt
-
 returns : tie.Need-returns Inv-loop μ-loop
 returns c =
-    let l = c .before .before .before .loop in
-    let a = c .before .before .before .before .before .before .args in
-    let p = a .page .now in
+    let l = c .before .before .before .before .before .loop in
+    let a = c .before .before .before .before .before .before .before .args in
     let n = a .number .0 in
-    let m = turn (c .before .before) in
-    let e = sym (c .before .line-at .ensures) ∙ c .if1 .taken in
-    let here : seatIn n (l .at) (recordsOf (drop (l .at) p)) ≡ record { at = l .at; gone = l .size } =
-    rw (m .records, le-ltb (lineAt (drop (l .at) p)) n (omega arith), eq-eqb (lineAt (drop (l .at) p)) n e, m .long) in
-    record { is = sym here ∙ l .inv .1 .1 .0; inside = l .inv .0; rest = l .inv .1 .1 .1 }
+    let q = drop (l .at) (a .page .now) in
+    let t = c .before .before .before in
+    let m = turn t in
+    let e = sym (c .before .before .number-at .ensures) ∙ c .before .if2 .taken in
+    let s = c .size-at .ensures ∙ size-is q (not-true _ (sym (t .before .stands .ensures) ∙ t .if1 .taken)) in
+    seated t (c .size-at .result) (rw (m .records, le-ltb (lineAt q) n (omega arith), eq-eqb (lineAt q) n e, s))
 
 returns-2 : tie.Need-returns-2 Inv-loop μ-loop
 returns-2 c =
-    let l = c .before .before .before .before .loop in
+    let l = c .before .before .before .before .before .loop in
     let a = c .before .before .before .before .before .before .before .args in
-    let p = a .page .now in
     let n = a .number .0 in
+    let q = drop (l .at) (a .page .now) in
     let m = turn (c .before .before .before) in
-    let e = c .before .before .line-at .ensures in
-    let no : lineAt (drop (l .at) p) ≡ n → ⊥ = λ f. c .before .if1 .left (e ∙ f) in
-    let here : seatIn n (l .at) (recordsOf (drop (l .at) p)) ≡ record { at = l .at; gone = 0 } =
-    rw (m .records, le-ltb (lineAt (drop (l .at) p)) n (omega arith), ne-eqb (lineAt (drop (l .at) p)) n no) in
-    record { is = sym here ∙ l .inv .1 .1 .0; inside = l .inv .0; rest = l .inv .1 .1 .1 }
+    let e = c .before .before .number-at .ensures in
+    let no : lineAt q ≡ n → ⊥ = λ f. c .before .if2 .left (e ∙ f) in
+    seated (c .before .before .before) 0 (rw (m .records, le-ltb (lineAt q) n (omega arith), ne-eqb (lineAt q) n no))
+
+length-at-requires : tie.Need-length-at-requires Inv-loop μ-loop
+length-at-requires c κs = turn (c .before .before .before) .inside
 
 add-at : tie.Need-add-at Inv-loop μ-loop
-add-at c = let m = turn (c .before .before .before) in omega arith
-
-size-at-requires-2 : tie.Need-size-at-requires-2 Inv-loop μ-loop
-size-at-requires-2 c κs = tt
+add-at c =
+    let l = c .before .before .before .before .before .before .loop in
+    let p = c .before .before .before .before .before .before .before .before .args .page .now in
+    let m = turn (c .before .before .before .before) in
+    omega (arith, c .length-at .ensures, getD-drop (l .at) p 2 0, c .before .before .before .before .before .before .before .shared-slice-known .given (l .at + 2))
 
 loop-less : tie.Need-loop-less Inv-loop μ-loop
-loop-less c = let m = turn (c .before .before .before .before) in omega arith
+loop-less c = let m = turn (c .before .before .before .before) in omega (arith, c .length-at .ensures)
 
 loop-again : tie.Need-loop-again Inv-loop μ-loop
 loop-again c =
-    let l = c .before .before .before .before .before .loop in
+    let l = c .before .before .before .before .before .before .loop in
     let a = c .before .before .before .before .before .before .before .before .args in
     let p = a .page .now in
     let n = a .number .0 in
+    let q = drop (l .at) p in
     let m = turn (c .before .before .before .before) in
-    let e = c .before .before .before .line-at .ensures in
-    let less : lineAt (drop (l .at) p) < n = omega (arith, c .before .before .if1 .left) in (
-      m .next,
-      (
-        c .size-at2 .ensures,
-        (
-          sym (rw (m .records, lt-ltb (lineAt (drop (l .at) p)) n less, m .long)) ∙ l .inv .1 .1 .0,
-          omega (arith, ap usedBy (m .records)) ∙ l .inv .1 .1 .1,
-        ),
-      ),
+    let e = c .before .before .before .number-at .ensures in
+    let less : lineAt q < n = omega (arith, c .before .before .if2 .left) in
+    let past : seatIn n (l .at) (recordsOf q) ≡ seatIn n (l .at + size (recordAt q)) (recordsOf (drop (l .at + lengthAt q) p)) = rw (m .records, lt-ltb (lineAt q) n less) in (
+      ap (λ (k : ℕ). seatIn n (cut p (l .at + k)) (recordsOf (drop (l .at + k) p))) (c .length-at .ensures)
+          ∙ ap (λ (x : ℕ). seatIn n x (recordsOf (drop (l .at + lengthAt q) p))) (m .next)
+          ∙ sym past
+          ∙ ap (λ (x : ℕ). seatIn n x (recordsOf q)) (sym (m .here))
+          ∙ l .inv .0,
+      ap (λ (k : ℕ). cut p (l .at + k) + usedBy (recordsOf (drop (l .at + k) p))) (c .length-at .ensures)
+          ∙ omega (arith, m .next, m .here, ap usedBy (m .records), l .inv .1),
     )
+
+reach-requires : tie.Need-reach-requires Inv-loop μ-loop
+reach-requires c κs = tt
 
 returns-3 : tie.Need-returns-3 Inv-loop μ-loop
 returns-3 c =
-    let l = c .before .loop in
-    let a = c .before .before .before .before .args in
-    let e = past (a .page .now) (l .at) (l .size) (l .inv .1 .0) (c .loop-test .left) in
-    record { is = ap (seatIn (a .number .0) (l .at)) (sym e) ∙ l .inv .1 .1 .0; inside = l .inv .0; rest = l .inv .1 .1 .1 }
+    let l = c .before .before .before .loop in
+    let a = c .before .before .before .before .before .args in
+    let p = a .page .now in
+    let n = a .number .0 in
+    let e = stops p (l .at) (sym (c .before .before .stands .ensures) ∙ c .before .if1 .left) in
+    let r = c .reach .ensures in
+    record {
+      is = ap (λ (x : ℕ). record { at = x; gone = 0 }) r ∙ ap (seatIn n (cut p (l .at))) (sym e) ∙ l .inv .0;
+      inside = omega (arith, r, cut-most p (l .at));
+      rest = ap (λ (x : ℕ). x + usedBy (recordsOf (drop x p))) r ∙ ap (λ (s : List ℕ). cut p (l .at) + usedBy (recordsOf s)) (drop-cut p (l .at)) ∙ l .inv .1;
+    }
 
 pub find-seat-spec : {M : Type 1} → statement M
 find-seat-spec =
@@ -97,13 +138,15 @@ find-seat-spec =
     (tie.spec
     Inv-loop
     μ-loop
-    size-at-requires
     loop-holds
-    line-at-requires
+    stands-requires
+    number-at-requires
+    size-at-requires
     returns
     returns-2
+    length-at-requires
     add-at
-    size-at-requires-2
     loop-less
     loop-again
+    reach-requires
     returns-3)
