@@ -110,7 +110,7 @@ pub fn program(random: &mut Random, size: Size, memory: usize) -> Lines {
 }
 
 /// The text with spaces behind it, up to a length.
-fn padded(text: String, length: usize) -> String {
+pub fn padded(text: String, length: usize) -> String {
     format!("{text:length$}")
 }
 

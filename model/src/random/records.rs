@@ -121,6 +121,79 @@ pub fn spoil(random: &mut Random, record: &mut Record) {
     }
 }
 
+/// Fills the stacks with places of the program, if it has any.
+pub fn crowd(random: &mut Random, record: &mut Record, program: &Program) {
+    if program.steps.is_empty() {
+        return;
+    }
+    let mut place = |_| random.pick(&program.steps).place;
+    for stack in [&mut record.gosubs, &mut record.dos] {
+        stack.depth = 8;
+        stack.places = [0; 8].map(&mut place);
+    }
+    let places = [0; 4].map(&mut place);
+    record.fors.depth = 4;
+    record.fors.entries = places.map(|place| ForEntry {
+        variable: random.below(26) as u8,
+        ..entry(random, place)
+    });
+}
+
+/// Makes the record fit no page: its flags, a depth, or the variable of a FOR are out of range.
+pub fn overdo(random: &mut Random, record: &mut Record, program: &Program) {
+    let kind = random.below(5);
+    if kind < 3 {
+        crowd(random, record, program);
+    }
+    let deep = [9, 9, 10, 16, 255, 256, 264, 65_535];
+    match kind {
+        0 => record.gosubs.depth = *random.pick(&deep),
+        1 => record.dos.depth = *random.pick(&deep),
+        2 => record.fors.depth = *random.pick(&[5, 5, 6, 8, 255, 256, 260, 65_535]),
+        3 => record.flags = *random.pick(&[8, 8, 9, 16, 32, 64, 128, 255]),
+        _ => {
+            let variable = *random.pick(&[26, 26, 27, 32, 65, 127, 128, 255]);
+            live_for(random, record, program).variable = variable;
+        }
+    }
+}
+
+/// Puts a place into the record that is mostly none of the page's, whose length this is.
+pub fn misplace(random: &mut Random, record: &mut Record, program: &Program, length: usize) {
+    let beside = true_place(random, program).unwrap_or_default().0;
+    let place = Place(match random.below(6) {
+        0 => Place::IMMEDIATE.0,
+        1 => random.below(65_536) as u16,
+        2 => beside.wrapping_sub(1),
+        3 => beside + 1,
+        _ => random.below(length + 4) as u16,
+    });
+    match random.below(4) {
+        0 => *live_place(random, &mut record.gosubs) = place,
+        1 => *live_place(random, &mut record.dos) = place,
+        2 => live_for(random, record, program).place = place,
+        _ => record.paused = Some(Pause::After(place)),
+    }
+}
+
+/// A slot in use; a stack that has none gets one.
+fn live_place<'a>(random: &mut Random, stack: &'a mut PlaceStack) -> &'a mut Place {
+    stack.depth = stack.depth.max(1);
+    &mut stack.places[random.below(stack.depth as usize)]
+}
+
+fn live_for<'a>(
+    random: &mut Random,
+    record: &'a mut Record,
+    program: &Program,
+) -> &'a mut ForEntry {
+    if record.fors.depth == 0 {
+        let place = true_place(random, program).unwrap_or_default();
+        record.fors.push(entry(random, place));
+    }
+    &mut record.fors.entries[random.below(record.fors.depth as usize)]
+}
+
 /// Any record for a page that may be bad itself.
 pub fn any_record(random: &mut Random, page: &[u8]) -> Record {
     let program = read_page(page).unwrap_or_default();
