@@ -6,17 +6,8 @@ use borrow.Author.Needs.{needs}
 use Rattle.page_table.proofs.show.Statement.{statement}
 use Rattle.page_table.proofs.show.Tie as tie
 
-slice-aggregate-write-all : tie.Need-slice-aggregate-write-all
-slice-aggregate-write-all c = let a = c .before .before .before .args in sym (length-take-le (a .n) (a .bytes .now) (omega arith))
-
-write-all-requires : tie.Need-write-all-requires
-write-all-requires c κs = search needs
-
-returns : tie.Need-returns
-returns c = search needs
-
-returns-2 : tie.Need-returns-2
-returns-2 c = search needs
+slice-aggregate-say : tie.Need-slice-aggregate-say
+slice-aggregate-say c = let a = c .before .before .before .args in sym (length-take-le (a .n) (a .bytes .now) (omega arith))
 
 pub show-spec : {M : Type 1} → statement M
-show-spec = tie.close (tie.spec slice-aggregate-write-all write-all-requires returns returns-2)
+show-spec = tie.close (tie.spec slice-aggregate-say (λ c κs. search needs) (λ c. search needs) (λ c. search needs))
