@@ -5,7 +5,6 @@ pub mod Ways
 pub mod Numbers
 pub mod Accepted
 pub mod Forced
-pub mod Places
 pub mod Fits
 pub mod Running
 pub mod Carried

@@ -12,8 +12,7 @@ use Rattle.nibl.specs.Read.{typed}
 use Rattle.nibl.specs.Typing.{Gathered}
 use Rattle.nibl.specs.Page.{Stored, isAmong, isGood, fitsPaused, placesOf, recordsOf, hasLine, without, with, programBytes, onto}
 use Rattle.nibl.specs.Meaning.{World, Env, Done, done, on, skip, go, stop, withSession, exec}
-use Rattle.nibl.specs.Calls.{Lent, Outcome, runFrom, ended, stops, edited, listFrom, immediately, needsProgram, clearStacks, cleared, withPaused, obey, continueFrom, firstRefusal, begun, envOf}
-use Rattle.nibl.specs.declared.Session.{Session}
+use Rattle.nibl.specs.Calls.{Lent, Outcome, runFrom, ended, stops, edited, listFrom, immediately, needsProgram, clearStacks, cleared, obey, continueFrom, firstRefusal, begun, envOf}
 use Rattle.nibl.specs.declared.Paused.{Paused}
 use Rattle.nibl.specs.declared.Paused.the-variants.{Nowhere, Start, At}
 use Rattle.nibl.proofs.Words.{if-split}
@@ -21,14 +20,16 @@ use Rattle.nibl.proofs.Lines.{typed-sound}
 use Rattle.letter.proofs.Typed.{taken}
 use Rattle.page.proofs.Program.{Program, none as no-record}
 use Rattle.page.proofs.Changes.{with-program, without-program}
-use Rattle.demands.specs.Sound.{Stands, budgeted}
+use Rattle.page.specs.Standing.{Stands}
+use Rattle.page.proofs.Laid.{good-laid, laid-program}
+use Rattle.record.proofs.Fitted.{Fit, fit-vars, fit-paused, fit-cleared}
+use Rattle.demands.specs.Sound.{budgeted}
 use Rattle.demands.specs.Starts.{worldCleared, byRUN, byStatement, StartsTyped, typed as typed-at, resumes, StartsPaused, paused}
 use Rattle.demands.proofs.Effects.{widen, exec-does, list-does}
 use Rattle.demands.proofs.Budget.{StopsWith, stopped, stopNumbers}
 use Rattle.demands.proofs.Ways.{Typing}
 use Rattle.demands.proofs.Storing.{stored-storable}
-use Rattle.demands.proofs.Places.{good-laid, laid-program}
-use Rattle.demands.proofs.Fits.{Fit, fit-vars, held-none, Goes, toPlace}
+use Rattle.demands.proofs.Fits.{Goes, toPlace}
 use Rattle.demands.proofs.Accepted.{accepted-of}
 use Rattle.demands.proofs.Held.{worldAfter, Steady, same-lengths, does-steady}
 use Rattle.demands.proofs.Carried.{Placed, gathered-inside, other-record, does-placed}
@@ -48,14 +49,6 @@ pub data Obeyed (lim : ℕ) (e : Env) (v : World) (From : ℕ → World → Type
   -- a run within the budget
   runs : (q : ℕ) (w : World) → Stands (e .page) q → Fit (placesOf (e .page)) (w .session) → Placed (e .input) w → Steady v w → From q w
       → Obeyed lim e v From (λ k. ended (runFrom k e q w) (e .page))
-
-module _ {ps : List ℕ} {s : Session} (f : Fit ps s) where
-  pub paused-fit : (p : Paused) → fitsPaused ps p ≡ true → Fit ps (withPaused s p)
-  paused-fit p h = record { vars = f .vars; gosubs = f .gosubs; dos = f .dos; fors = f .fors; flags = f .flags; paused = h }
-
-  pub cleared-fit : (qs : List ℕ) → s .paused ≡ Nowhere → Fit qs (clearStacks s)
-  cleared-fit qs e =
-      record { vars = f .vars; gosubs = held-none _ (f .gosubs .room); dos = held-none _ (f .dos .room); fors = held-none _ (f .fors .room); flags = f .flags; paused = rw e }
 
 module _ (lim : ℕ) (e : Env) (v : World) (From : ℕ → World → Type 0) where
   edit-ways : (w : World) (rs : List Stored) → w .session .paused ≡ Nowhere → Fit (placesOf (e .page)) (w .session) → Program lim 0 rs → Obeyed lim e v From (λ k. edited (e .page) w rs)
@@ -81,10 +74,10 @@ module _ (lim : ℕ) (x : Lent) (short : lim ≤ 251) (good : isGood lim (x .pag
   program = laid-program (good-laid lim (x .page) short good)
 
   pub begun-fit : (n : ℕ) → Fit (placesOf (x .page)) (begun x n .session)
-  begun-fit n = paused-fit fit Nowhere refl
+  begun-fit n = fit-paused fit Nowhere refl
 
   cleared-all : (n : ℕ) → Fit (placesOf (x .page)) (cleared (begun x n .session))
-  cleared-all n = fit-vars (cleared-fit (begun-fit n) (placesOf (x .page)) refl) _ refl
+  cleared-all n = fit-vars (fit-cleared (begun-fit n) (placesOf (x .page)) refl) _ refl
 
   carried : {w : World} (n : ℕ) → Steady (begun x n) w → Steady (begun x 0) w
   carried n l = record { lengths = record { memory = l .lengths .memory; output = l .lengths .output }; paused = l .paused }

@@ -15,15 +15,18 @@ use Rattle.nibl.specs.Page.{Stored, isAmong, mark, isGood, placesOf, lineOf}
 use Rattle.nibl.specs.Meaning.{World, Env, on, skip, go, stop, Done, done, put, went, exec}
 use Rattle.nibl.specs.Calls.{Ran, ran, stepped, textFrom, lineFrom, envAt, onward, runFrom, needsProgram, listed, listFrom}
 use Rattle.nibl.proofs.Words.{if-split}
+use Rattle.page.specs.Standing.{Stands}
 use Rattle.page.proofs.Walk.{or-right}
+use Rattle.page.proofs.Standing.{Ready, ready-read, ready-end, stands-ready}
+use Rattle.record.specs.Fits.{isSaved, isUnderWay}
+use Rattle.record.proofs.Live.{Held}
+use Rattle.record.proofs.Fitted.{Fit, placeIn}
 use Rattle.demands.specs.Effects.{forVars, Does}
-use Rattle.demands.specs.Sound.{Stands}
 use Rattle.demands.proofs.Effects.{exec-does, list-does}
 use Rattle.demands.proofs.Runs.{endOf, crOf, every-run}
 use Rattle.demands.proofs.Budget.{StopsWith, goes, stopped, stopNumbers, does-stops}
 use Rattle.demands.proofs.Held.{worldAfter}
-use Rattle.demands.proofs.Places.{Follows, nothing as ended, text, Ready, stands-follows}
-use Rattle.demands.proofs.Fits.{Fit, Held, Goes, toPlace, does-fits, does-goes, found-lettered, Keeps, kept, went-keeps, put-keeps, exec-keeps, savedIn, placeIn, entryIn}
+use Rattle.demands.proofs.Fits.{Goes, toPlace, does-fits, does-goes, found-lettered, Keeps, kept, went-keeps, put-keeps, exec-keeps}
 
 -- a statement left a fitting record, and goes on to where a run may stand or stops with one of its numbers
 pub record Left (page : List ℕ) (d : Done) : Type 0 where
@@ -80,7 +83,7 @@ module _ (lim : ℕ) (e : Env) (short : lim ≤ 251) (good : isGood lim (e .page
   program-left q w p h v f =
       let d = exec-does (envAt e p) q w in
       record {
-        fit = does-fits (savedIn ps) (placeIn ps) (entryIn ps) ps (envAt e p) (forVars q) (rw h) h (λ u l s i. rw (lt-ltb u 26 (v u i)) h) d f;
+        fit = does-fits (isSaved ps true) (placeIn ps) (isUnderWay ps) ps (envAt e p) (forVars q) (rw h) h (λ u l s i. rw (lt-ltb u 26 (v u i)) h) d f;
         goes = does-goes lim (envAt e p) (forVars q) short good d f;
         stops = does-stops d;
       }
@@ -88,8 +91,8 @@ module _ (lim : ℕ) (e : Env) (short : lim ≤ 251) (good : isGood lim (e .page
   -- LIST and an immediate statement, which leave the stacks of DO and FOR alone
   immediate-left : (vs : List ℕ) {W : List ℕ → Type 0} (w : World) (d : Done) → e .here ≡ mark → Does e vs W w d → Keeps w d → Fit ps (w .session) → Left (e .page) d
   immediate-left vs w d h x k f =
-      let saved : savedIn ps (record { 0 = e .here }) ≡ true = rw h (or-right (isAmong ps mark) true refl) in
-      let g = does-fits (savedIn ps) (λ p. true) (λ y. true) ps e vs saved refl (λ v l s i. refl) x
+      let saved : isSaved ps true (record { 0 = e .here }) ≡ true = rw h (or-right (isAmong ps mark) true refl) in
+      let g = does-fits (isSaved ps true) (λ p. true) (λ y. true) ps e vs saved refl (λ v l s i. refl) x
       (record { vars = f .vars; gosubs = f .gosubs; dos = any-held (f .dos); fors = any-held (f .fors); flags = f .flags; paused = f .paused }) in
       let dos = ap (λ x. x .0 .0) (k .same) in
       let fors = ap (λ x. x .0 .1) (k .same) in
@@ -110,7 +113,7 @@ pub data Goings (page : List ℕ) : ℕ → Ran → Type 0 where
   -- past the last line
   runsOut : {k q : ℕ} {w : World} → textFrom page q ≡ none → Fit (placesOf page) (w .session) → Goings page k (ran 0 q w)
   -- the budget is spent, and a text follows
-  pauses : {q a : ℕ} {w : World} → textFrom page q ≡ some a → Ready page a → Stands page q → Fit (placesOf page) (w .session) → Goings page 0 (ran 14 q w)
+  pauses : {lim q a : ℕ} {w : World} → textFrom page q ≡ some a → Ready lim page a → Stands page q → Fit (placesOf page) (w .session) → Goings page 0 (ran 14 q w)
   -- the member that p ends stopped the run
   stops : {k n p : ℕ} {w : World} → isAmong (placesOf page) p ≡ true → isAmong stopNumbers n ≡ true → Fit (placesOf page) (w .session)
       → Goings page (suc k) (stepped (lineOf page p) (ran n p w))
@@ -130,25 +133,14 @@ module _ (lim : ℕ) (e : Env) (short : lim ≤ 251) (good : isGood lim (e .page
     by (done (go q) w) i (toPlace t) n = steps p h (s q w t i)
     by (done (stop m) w) i g (stopped n) = stops h n i
 
-  -- what a text that follows is: the one that was found
-  follows-ready : {q a : ℕ} → Follows (e .page) q → textFrom (e .page) q ≡ some a → Ready (e .page) a
-  follows-ready (ended n) h = let z : _≡_ {A = ℕ} 0 1 = cc in absurd (omega arith)
-  follows-ready {a = a} (text {a = b} t r) h = let i : b ≡ a = cc in rw i at r
-
   pub run-goes : (k q : ℕ) (w : World) → Stands (e .page) q → Fit (placesOf (e .page)) (w .session) → Goings (e .page) k (runFrom k e q w)
   run-goes k q w =
       every-run e (λ k q w r. Stands (e .page) q → Fit (placesOf (e .page)) (w .session) → Goings (e .page) k r)
       (λ k q w h s f. runsOut h f)
-      (λ q w a h s f. pauses h (follows-ready (stands-follows lim (e .page) short good q s) h) s f)
-      (λ k q w a h g s f.
-      let r = follows-ready (stands-follows lim (e .page) short good q s) h in
-      let i = r .finds in
-      let z : _≡_ {A = ℕ} 0 1 = cc in
-      absurd (omega arith))
+      (λ q w a h s f. pauses h (stands-ready lim (e .page) short good q a s h) s f)
+      (λ k q w a h g s f. absurd (ready-read (stands-ready lim (e .page) short good q a s h) g))
       (λ k q w a m t h g i s f.
-      let r = follows-ready (stands-follows lim (e .page) short good q s) h in
-      let j = r .finds in
-      let same : r .begins ≡ m = cc in
-      let end : isAmong (placesOf (e .page)) (endOf e a m) ≡ true = rw same at (r .end) in
+      let r = stands-ready lim (e .page) short good q a s h in
+      let end : isAmong (placesOf (e .page)) (endOf e a m) ≡ true = ready-end r m t g in
       step-goes k (endOf e a m) (crOf e a) _ (runFrom k e) end (r .cr)
       (program-left lim e short good (m .statement) w (endOf e a m) end (found-lettered (lineFrom (e .page) a) t m g) f) i) k q w

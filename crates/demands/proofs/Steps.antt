@@ -25,7 +25,10 @@ use Rattle.nibl.proofs.Whole.{typed-complete}
 use Rattle.demands.specs.Asks.{inputVars, GivenIn, stay}
 use Rattle.demands.specs.Items.{ItemOf, TypedItem, ofList, ofStatement}
 use Rattle.demands.specs.Leaves.{unpaused, noItem, noLine, Refused}
-use Rattle.demands.specs.Sound.{Sized, Sound, Stands, budgeted}
+use Rattle.page.specs.Standing.{Stands}
+use Rattle.record.specs.Sound.{Sized, Sound}
+use Rattle.record.proofs.Fitted.{sound-fit, fit-sound}
+use Rattle.demands.specs.Sound.{budgeted}
 use Rattle.demands.specs.Steps.{worldLeft, Ends, halts, runsOut, pauses, OneMore, RefusedLine}
 use Rattle.demands.proofs.Runs.{endOf}
 use Rattle.demands.proofs.Budget.{steps-within}
@@ -37,7 +40,7 @@ use Rattle.demands.proofs.Refusing.{needs-asks}
 use Rattle.demands.proofs.Fixed.{unsaid, run-named}
 use Rattle.demands.proofs.Five.{no-grammar-refusal-while-running, exactly-5}
 use Rattle.demands.proofs.Held.{worldAfter, run-steady, refusing-statement, refusing-list, refused-as}
-use Rattle.demands.proofs.Fits.{sound-fit, fit-sound, exec-keeps}
+use Rattle.demands.proofs.Fits.{exec-keeps}
 use Rattle.demands.proofs.Running.{list-keeps}
 use Rattle.demands.proofs.LastStep.{LastStep, RunEnds, last-step, resumes-at, unpaused-same}
 use Rattle.demands.proofs.LastStep as lastStep

@@ -1,9 +1,9 @@
 -- All that one statement can do, as a list of effects: what holds of each effect holds of every statement (proofs/Effects.antt).
-use Prim.Native.Nat.{ℕ, zero, suc, _+_, _-_, _%_, _≤_}
+use Prim.Native.Nat.{ℕ, suc, _+_, _%_, _≤_}
 use mathlib.Core.Path.{_≡_}
-use mathlib.Core.Bool.{Bool, true, false}
+use mathlib.Core.Bool.{true, false}
 use mathlib.Core.List.{List, [], _∷_}
-use mathlib.Core.Option.{Option, none, some}
+use mathlib.Core.Option.{some}
 use lib.ListN.{length, getD, drop}
 use lib.Seq.{sets}
 use Rattle.nibl.specs.Tree.{Stmt, letVar, letStat, letByte, letCopy, letText, goto, gosub, until, return, loop, remark, end, print, ifThen, for, next, input, inputText}
@@ -11,7 +11,7 @@ use Rattle.nibl.specs.Values.{add16}
 use Rattle.nibl.specs.Stack.{pushOf, popOf, pushFor, popFor}
 use Rattle.nibl.specs.Typing.{Gathered, gather}
 use Rattle.nibl.specs.Page.{isAmong, find}
-use Rattle.nibl.specs.Meaning.{World, Env, Next, on, skip, go, stop, Done, done, withVar, withFlags, withGosubs, withDos, withFors, withSession, withMemory, withOutput, withInpos, place, after, goesOn}
+use Rattle.nibl.specs.Meaning.{World, Env, on, skip, go, stop, Done, done, withVar, withFlags, withGosubs, withDos, withFors, withSession, withMemory, withOutput, withInpos, place, after, goesOn}
 use Rattle.nibl.specs.declared.Place.{Place}
 use Rattle.nibl.specs.declared.ForEntry.{ForEntry}
 use Rattle.nibl.specs.declared.Top.the-variants as top

@@ -1,2 +1,4 @@
 pub mod Fitting
+pub mod Live
+pub mod Fitted
 pub mod Determined
