@@ -40,8 +40,7 @@ use Rattle.demands.proofs.Refusing.{needs-asks}
 use Rattle.demands.proofs.Fixed.{unsaid, run-named}
 use Rattle.demands.proofs.Five.{no-grammar-refusal-while-running, exactly-5}
 use Rattle.demands.proofs.Held.{worldAfter, run-steady, refusing-statement, refusing-list, refused-as}
-use Rattle.demands.proofs.Fits.{exec-keeps}
-use Rattle.demands.proofs.Running.{list-keeps}
+use Rattle.demands.proofs.Immediate.{exec-keeps, list-keeps}
 use Rattle.demands.proofs.LastStep.{LastStep, RunEnds, last-step, resumes-at, unpaused-same}
 use Rattle.demands.proofs.LastStep as lastStep
 use Rattle.demands.proofs.Line.{a-last-steps-line}
@@ -164,12 +163,12 @@ kind e w (delete n) =
     by-cases (hasLine n (recordsOf (e .page)))
     (λ h. edit-kind e w (delete n) (without n (recordsOf (e .page))) (λ k. rw (h, obey)))
     (λ h. settles (λ k. rw (h, obey)) (λ k. rw (h, obey)))
-kind e w (list n) = immediate-kind e w (list n) (listFrom n (recordsOf (e .page)) w) (λ k. refl) (ap (λ y. y .1) (list-keeps n (recordsOf (e .page)) w .same)) (λ m u h z. refused-as (λ bs i. ofList i) (refusing-list e n (recordsOf (e .page)) w u m h z))
+kind e w (list n) = immediate-kind e w (list n) (listFrom n (recordsOf (e .page)) w) (λ k. refl) (list-keeps n (recordsOf (e .page)) w .same) (λ m u h z. refused-as (λ bs i. ofList i) (refusing-list e n (recordsOf (e .page)) w u m h z))
 kind e w (store n t ms) = edit-kind e w (store n t ms) (with (record { line = n; text = t }) (recordsOf (e .page))) (λ k. refl)
 kind e w (immediate q) =
     by-cases (needsProgram q)
     (λ h. refuses 3 w (λ k. rw (h, obey)) (nothing-done e w) refl)
-    (λ h. immediate-kind e w (immediate q) (exec e q w) (λ k. rw (h, obey)) (ap (λ y. y .1) (exec-keeps e q w h .same)) (λ m u f z. refused-as (λ bs i. ofStatement i) (rw (needs-asks q h .1) at (refusing-statement e q w u m f z))))
+    (λ h. immediate-kind e w (immediate q) (exec e q w) (λ k. rw (h, obey)) (exec-keeps e q w h .same) (λ m u f z. refused-as (λ bs i. ofStatement i) (rw (needs-asks q h .1) at (refusing-statement e q w u m f z))))
 
 some-steps : {n : ℕ} → n ≡ 0 → 1 ≤ n → ⊥
 some-steps h n = omega arith

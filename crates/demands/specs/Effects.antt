@@ -6,7 +6,6 @@ use mathlib.Core.List.{List, [], _∷_}
 use mathlib.Core.Option.{some}
 use lib.ListN.{length, getD, drop}
 use lib.Seq.{sets}
-use Rattle.nibl.specs.Tree.{Stmt, letVar, letStat, letByte, letCopy, letText, goto, gosub, until, return, loop, remark, end, print, ifThen, for, next, input, inputText}
 use Rattle.nibl.specs.Values.{add16}
 use Rattle.nibl.specs.Stack.{pushOf, popOf, pushFor, popFor}
 use Rattle.nibl.specs.Typing.{Gathered, gather}
@@ -20,27 +19,6 @@ use Rattle.nibl.specs.declared.TopFor.the-variants as topf
 -- what a statement may be refused with, and END
 abbrev pub refusals : List ℕ
 refusals = 6 ∷ 7 ∷ 8 ∷ 9 ∷ 10 ∷ 11 ∷ 12 ∷ 13 ∷ 15 ∷ 16 ∷ 17 ∷ 20 ∷ []
-
--- the variable that a FOR names
-abbrev pub forVars : Stmt → List ℕ
-forVars (letVar v a) = []
-forVars (letStat a) = []
-forVars (letByte a b) = []
-forVars (letCopy a b) = []
-forVars (letText a bs) = []
-forVars (goto a) = []
-forVars (gosub a) = []
-forVars (until a) = []
-forVars return = []
-forVars loop = []
-forVars remark = []
-forVars end = []
-forVars (print is b) = []
-forVars (ifThen a q) = forVars q
-forVars (for v a b c) = v ∷ []
-forVars (next v) = []
-forVars (input vs) = []
-forVars (inputText a) = []
 
 -- INPUT: variables given one after the other, up to the first refusal
 pub data Gives : World → Done → Type 0 where

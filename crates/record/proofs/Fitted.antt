@@ -31,20 +31,17 @@ use Rattle.record.proofs.Live.{Places, Entries, held-none, push-places,
 pub known-sized : (s : Session) → sizes.Known s → Sized s
 known-sized s k = record { vars = sizes.vars s k; gosubs = sizes.gosub-places s k; dos = sizes.do-places s k; fors = sizes.for-entries s k }
 
--- by what its three stacks may hold
-pub record FitBy (g d : Place → Bool) (f : ForEntry → Bool) (ps : List ℕ) (s : Session) : Type 0 where
-  pub vars : length (s .vars) ≡ 26
-  pub gosubs : Places g (s .gosubs)
-  pub dos : Places d (s .dos)
-  pub fors : Entries f (s .fors)
-  pub flags : ltb (s .flags) 8 ≡ true
-  pub paused : fitsPaused ps (s .paused) ≡ true
-
 abbrev pub placeIn : List ℕ → Place → Bool
 placeIn ps p = isAmong ps (p .0)
 
-abbrev pub Fit : List ℕ → Session → Type 0
-Fit ps s = FitBy (isSaved ps true) (placeIn ps) (isUnderWay ps) ps s
+-- the places of its page are ps
+pub record Fit (ps : List ℕ) (s : Session) : Type 0 where
+  pub vars : length (s .vars) ≡ 26
+  pub gosubs : Places (isSaved ps true) (s .gosubs)
+  pub dos : Places (placeIn ps) (s .dos)
+  pub fors : Entries (isUnderWay ps) (s .fors)
+  pub flags : ltb (s .flags) 8 ≡ true
+  pub paused : fitsPaused ps (s .paused) ≡ true
 
 -- what the test of it says
 pub record Parts (ps : List ℕ) (s : Session) : Type 0 where
@@ -128,35 +125,35 @@ module _ (page : List ℕ) (s : Session) (h : Fit (placesOf page) s) where
   paused-stands p e = rw e at (h .paused)
 
 -- What the changes of a record keep
-module _ {g d : Place → Bool} {f : ForEntry → Bool} {ps : List ℕ} {s : Session} (h : FitBy g d f ps s) where
-  pub fit-vars : (x : List ℕ) → length x ≡ 26 → FitBy g d f ps (withVars s x)
+module _ {ps : List ℕ} {s : Session} (h : Fit ps s) where
+  pub fit-vars : (x : List ℕ) → length x ≡ 26 → Fit ps (withVars s x)
   fit-vars x n = record { vars = n; gosubs = h .gosubs; dos = h .dos; fors = h .fors; flags = h .flags; paused = h .paused }
 
-  pub fit-var : (v x : ℕ) → FitBy g d f ps (withVar s v x)
+  pub fit-var : (v x : ℕ) → Fit ps (withVar s v x)
   fit-var v x = fit-vars _ (length-set (s .vars) v x ∙ h .vars)
 
-  pub fit-flags : (x : ℕ) → FitBy g d f ps (withFlags s (x % 8))
+  pub fit-flags : (x : ℕ) → Fit ps (withFlags s (x % 8))
   fit-flags x = record { vars = h .vars; gosubs = h .gosubs; dos = h .dos; fors = h .fors; flags = lt-ltb (x % 8) 8 (omega arith); paused = h .paused }
 
-  pub fit-gosub : (p : Place) → g p ≡ true → FitBy g d f ps (withGosubs s (pushOf (s .gosubs) p .stack))
-  fit-gosub p e = record { vars = h .vars; gosubs = push-places g (s .gosubs) (h .gosubs) p e; dos = h .dos; fors = h .fors; flags = h .flags; paused = h .paused }
+  pub fit-gosub : (p : Place) → isSaved ps true p ≡ true → Fit ps (withGosubs s (pushOf (s .gosubs) p .stack))
+  fit-gosub p e = record { vars = h .vars; gosubs = push-places (isSaved ps true) (s .gosubs) (h .gosubs) p e; dos = h .dos; fors = h .fors; flags = h .flags; paused = h .paused }
 
-  pub fit-return : FitBy g d f ps (withGosubs s (popOf (s .gosubs) .stack))
-  fit-return = record { vars = h .vars; gosubs = pop-places g (s .gosubs) (h .gosubs); dos = h .dos; fors = h .fors; flags = h .flags; paused = h .paused }
+  pub fit-return : Fit ps (withGosubs s (popOf (s .gosubs) .stack))
+  fit-return = record { vars = h .vars; gosubs = pop-places (isSaved ps true) (s .gosubs) (h .gosubs); dos = h .dos; fors = h .fors; flags = h .flags; paused = h .paused }
 
-  pub fit-do : (p : Place) → d p ≡ true → FitBy g d f ps (withDos s (pushOf (s .dos) p .stack))
-  fit-do p e = record { vars = h .vars; gosubs = h .gosubs; dos = push-places d (s .dos) (h .dos) p e; fors = h .fors; flags = h .flags; paused = h .paused }
+  pub fit-do : (p : Place) → isAmong ps (p .0) ≡ true → Fit ps (withDos s (pushOf (s .dos) p .stack))
+  fit-do p e = record { vars = h .vars; gosubs = h .gosubs; dos = push-places (placeIn ps) (s .dos) (h .dos) p e; fors = h .fors; flags = h .flags; paused = h .paused }
 
-  pub fit-until : FitBy g d f ps (withDos s (popOf (s .dos) .stack))
-  fit-until = record { vars = h .vars; gosubs = h .gosubs; dos = pop-places d (s .dos) (h .dos); fors = h .fors; flags = h .flags; paused = h .paused }
+  pub fit-until : Fit ps (withDos s (popOf (s .dos) .stack))
+  fit-until = record { vars = h .vars; gosubs = h .gosubs; dos = pop-places (placeIn ps) (s .dos) (h .dos); fors = h .fors; flags = h .flags; paused = h .paused }
 
-  pub fit-for : (x : ForEntry) → f x ≡ true → FitBy g d f ps (withFors s (pushFor (s .fors) x .stack))
-  fit-for x e = record { vars = h .vars; gosubs = h .gosubs; dos = h .dos; fors = push-entries f (s .fors) (h .fors) x e; flags = h .flags; paused = h .paused }
+  pub fit-for : (x : ForEntry) → isUnderWay ps x ≡ true → Fit ps (withFors s (pushFor (s .fors) x .stack))
+  fit-for x e = record { vars = h .vars; gosubs = h .gosubs; dos = h .dos; fors = push-entries (isUnderWay ps) (s .fors) (h .fors) x e; flags = h .flags; paused = h .paused }
 
-  pub fit-next : FitBy g d f ps (withFors s (popFor (s .fors) .stack))
-  fit-next = record { vars = h .vars; gosubs = h .gosubs; dos = h .dos; fors = pop-entries f (s .fors) (h .fors); flags = h .flags; paused = h .paused }
+  pub fit-next : Fit ps (withFors s (popFor (s .fors) .stack))
+  fit-next = record { vars = h .vars; gosubs = h .gosubs; dos = h .dos; fors = pop-entries (isUnderWay ps) (s .fors) (h .fors); flags = h .flags; paused = h .paused }
 
-  pub fit-paused : (p : Paused) → fitsPaused ps p ≡ true → FitBy g d f ps (withPaused s p)
+  pub fit-paused : (p : Paused) → fitsPaused ps p ≡ true → Fit ps (withPaused s p)
   fit-paused p e = record { vars = h .vars; gosubs = h .gosubs; dos = h .dos; fors = h .fors; flags = h .flags; paused = e }
 
 -- with its stacks cleared and no pause it fits any page
