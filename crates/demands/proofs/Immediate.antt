@@ -53,9 +53,9 @@ end-keeps : (b : Bool) (w : World) → Keeps w (putEnd b w)
 end-keeps true w = kept refl
 end-keeps false w = put-keeps _ w
 
-store-keeps : (w : World) (r : Result (List ℕ)) → Keeps w (keepIn w r)
+memory-keeps : (w : World) (r : Result (List ℕ)) → Keeps w (keepIn w r)
 unfolding keepIn
-store-keeps w r = given-keeps r w _ (λ m. kept refl)
+memory-keeps w r = given-keeps r w _ (λ m. kept refl)
 
 gosub-keeps : (e : Env) (w : World) (q : ℕ) → Keeps w (gosubTo e w q)
 unfolding gosubTo
@@ -70,9 +70,9 @@ pub exec-keeps : (e : Env) (q : Stmt) (w : World) → needsProgram q ≡ false �
 unfolding exec
 exec-keeps e (letVar v a) w h = given-keeps (eval e w a) w _ (λ x. kept refl)
 exec-keeps e (letStat a) w h = given-keeps (eval e w a) w _ (λ x. kept refl)
-exec-keeps e (letByte a b) w h = given-keeps (eval e w a) w _ (λ p. given-keeps (eval e w b) w _ (λ x. store-keeps w _))
-exec-keeps e (letCopy a b) w h = given-keeps (eval e w a) w _ (λ p. given-keeps (eval e w b) w _ (λ q. store-keeps w _))
-exec-keeps e (letText a bs) w h = given-keeps (eval e w a) w _ (λ p. store-keeps w _)
+exec-keeps e (letByte a b) w h = given-keeps (eval e w a) w _ (λ p. given-keeps (eval e w b) w _ (λ x. memory-keeps w _))
+exec-keeps e (letCopy a b) w h = given-keeps (eval e w a) w _ (λ p. given-keeps (eval e w b) w _ (λ q. memory-keeps w _))
+exec-keeps e (letText a bs) w h = given-keeps (eval e w a) w _ (λ p. memory-keeps w _)
 exec-keeps e (goto a) w h = given-keeps (bind (eval e w a) (λ n. lineThere (find (e .page) n))) w _ (λ q. kept refl)
 exec-keeps e (gosub a) w h = given-keeps (bind (eval e w a) (λ n. lineThere (find (e .page) n))) w _ (gosub-keeps e w)
 exec-keeps e (until a) w h = absurd (true≢false h)

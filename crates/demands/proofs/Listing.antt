@@ -34,6 +34,7 @@ use Rattle.value.proofs.Writing.{sets-append}
 use Rattle.page.proofs.Program.{Bytes, Storable, Program, none, each, program-length}
 use Rattle.page.proofs.Stored.{stored-read, stored-undigit, stored-short}
 use Rattle.page.proofs.Laid.{good-bytes}
+use Rattle.page.proofs.Listings.{listed-length}
 use Rattle.page.proofs.Changes.{lower, onto-good, onto-records}
 use Rattle.record.proofs.Fitted.{fits-parts}
 use Rattle.demands.specs.Leaves.{stackless}
@@ -44,9 +45,6 @@ use Rattle.demands.proofs.Accepted.{Accepted, accepted-of, accepted-is}
 use Rattle.demands.proofs.Retyping.{program, program-room, line-read, edited-fits, onto-length, onto-after, onto-used}
 
 -- What LIST writes
-listed-length : (r : Stored) → length (listed r) ≡ length (digits (r .line)) + length (r .text) + 2
-listed-length r = omega (arith, length-append (digits (r .line)) (r .text ++ (13 ∷ 10 ∷ [])), length-append (r .text) (13 ∷ 10 ∷ []))
-
 pub listing-length : (rs : List Stored) → length (listing rs) ≡ listingRoom rs
 listing-length [] = refl
 listing-length (r ∷ rs) = length-append (listed r) (listing rs) ∙ omega (arith, listed-length r, listing-length rs)

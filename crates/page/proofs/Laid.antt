@@ -37,8 +37,8 @@ laid-room {at = at} {page = page} (ends e) = omega (arith, ap length (end-bytes 
 laid-room (laid l w p) = omega (arith, laid-room p)
 
 -- the text of a whole record, its CR, and what follows
-record-text : (q : List ℕ) → 5 ≤ lengthAt q → lengthAt q ≤ length q → getD q (lengthAt q - 1) 0 ≡ 13 → drop 3 q ≡ textAt q ++ (13 ∷ drop (lengthAt q) q)
-record-text q h l e =
+whole-text : (q : List ℕ) → 5 ≤ lengthAt q → lengthAt q ≤ length q → getD q (lengthAt q - 1) 0 ≡ 13 → drop 3 q ≡ textAt q ++ (13 ∷ drop (lengthAt q) q)
+whole-text q h l e =
     let n : ℕ = lengthAt q - 4 in
     let s : List ℕ = drop 3 q in
     let inside : n < length s = omega (arith, length-drop 3 q) in
@@ -77,7 +77,7 @@ module _ (lim : ℕ) (page : List ℕ) (room : Room lim page) where
         storable = record { number = know .1 .0; some = omega arith; short = room at (lineAt q) good; text = good };
         line = refl;
         long = is;
-        text = sym (drop-drop 3 at page) ∙ record-text q five inside (know .1 .1 .1 .1 .0) ∙ ap (λ (l : List ℕ). textAt q ++ (13 ∷ l)) next;
+        text = sym (drop-drop 3 at page) ∙ whole-text q five inside (know .1 .1 .1 .1 .0) ∙ ap (λ (l : List ℕ). textAt q ++ (13 ∷ l)) next;
       }
 
   laid-from : (k low at : ℕ) → goodN lim k low (drop at page) ≡ true → Laid lim page low at (recordsN k (drop at page))
