@@ -13,10 +13,11 @@ use Rattle.nibl.specs.Typing.{Gathered, gather}
 use Rattle.nibl.specs.Meaning.{World, Env}
 use Rattle.nibl.specs.Calls.{Lent, Outcome, runFrom, firstRefusal, obey, begun, takeLine, takeLineIn, continueRun, continueRunIn, limit, envOf}
 use Rattle.nibl.proofs.Exact.{typed-exact}
-use Rattle.demands.specs.Sound.{Sized, Sound, Stands}
+use Rattle.page.specs.Standing.{Stands}
+use Rattle.record.specs.Sound.{Sized, Sound}
+use Rattle.record.proofs.Fitted.{sound-fit}
 use Rattle.demands.proofs.Ways.{Typing, Takes, refused, noCR, overlong, unread, reads, every-line, Continues, refused′, continues, every-continue}
 use Rattle.demands.proofs.Numbers.{first-numbers}
-use Rattle.demands.proofs.Fits.{sound-fit}
 use Rattle.demands.proofs.Running.{run-goes}
 use Rattle.demands.proofs.Obeys.{read-ways, continue-ways}
 use Rattle.demands.proofs.Sound.{unrefused, Settled, settled, goings-number}

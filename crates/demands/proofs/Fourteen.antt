@@ -11,7 +11,8 @@ use Rattle.nibl.specs.Readings.{LineReading}
 use Rattle.nibl.specs.Meaning.{World, Env, Next, stop}
 use Rattle.nibl.specs.Calls.{Lent, Outcome, runFrom, firstRefusal, envOf, takeLine, continueRun, limit}
 use Rattle.page.proofs.Walk.{by-cases}
-use Rattle.demands.specs.Sound.{Sized, Answered, byLine, byRun, budgeted}
+use Rattle.record.specs.Sound.{Sized}
+use Rattle.demands.specs.Sound.{Answered, byLine, byRun, budgeted}
 use Rattle.demands.specs.Starts.{Starts, byRUN, byStatement, StartsTyped, typed, StartsPaused}
 use Rattle.demands.specs.Steps.{endOf, crOf, GoesTo, afterIt, afterRecord, jumps, Ends, halts, runsOut, pauses, OneMore, StandsAt, begun, later, LeftToRun, NoStepMade, nothingLeft, pausedAtOnce}
 use Rattle.demands.proofs.Sound.{unrefused}

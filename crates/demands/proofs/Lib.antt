@@ -5,8 +5,7 @@ pub mod Ways
 pub mod Numbers
 pub mod Accepted
 pub mod Forced
-pub mod Places
-pub mod Fits
+pub mod Immediate
 pub mod Running
 pub mod Carried
 pub mod Obeys

@@ -16,7 +16,11 @@ use Rattle.nibl.specs.declared.StopLine.{StopLine}
 use Rattle.nibl.specs.declared.StopLine.the-variants as stopLine
 use Rattle.page.proofs.Walk.{by-cases, or-false}
 use Rattle.nibl.proofs.Words.{or-cases}
-use Rattle.demands.specs.Sound.{Sound, Stands, LiesIn, Shows, noLine, aLine, Answered, byLine, byRun}
+use Rattle.page.specs.Standing.{Stands, LiesIn}
+use Rattle.page.proofs.Standing.{place-lies}
+use Rattle.record.specs.Sound.{Sound}
+use Rattle.record.proofs.Fitted.{sound-fit, fit-sound}
+use Rattle.demands.specs.Sound.{Shows, noLine, aLine, Answered, byLine, byRun}
 use Rattle.demands.specs.Starts.{StartsTyped, StartsPaused}
 use Rattle.demands.proofs.Ways.{Takes, refused, noCR, overlong, unread, reads, every-line, Continues, refused′, continues, every-continue}
 use Rattle.demands.proofs.Runs.{endOf}
@@ -24,8 +28,6 @@ use Rattle.demands.proofs.Numbers.{OneOf, first-numbers}
 use Rattle.demands.proofs.Fixed.{unsaid}
 use Rattle.demands.proofs.LastStep.{LastStep, last-step}
 use Rattle.demands.proofs.Five.{no-grammar-refusal-while-running}
-use Rattle.demands.proofs.Places.{place-lies}
-use Rattle.demands.proofs.Fits.{sound-fit, fit-sound}
 use Rattle.demands.proofs.Running.{Goings, runsOut, pauses, steps, run-goes}
 use Rattle.demands.proofs.Running.{stops as halts}
 use Rattle.demands.proofs.Obeys.{Obeyed, stands, edits, runs, read-ways, continue-ways}

@@ -1,30 +1,28 @@
 -- "Listing round trip": what LIST writes, typed into an empty page, gives the same program. Assumes nothing.
 use Prim.Native.Nat.{ℕ, suc, _+_, _-_, _≤_}
 use mathlib.Core.Path.{_≡_, refl, sym, ap, subst, _∙_}
-use mathlib.Core.Bool.{true, false, not, _&&_, _||_, false≢true}
+use mathlib.Core.Bool.{true, false}
 use mathlib.Core.List.{List, [], _∷_, _++_, append-assoc, append-nil}
-use mathlib.Core.Option.{Option, none, some}
+use mathlib.Core.Option.{none, some}
 use native.Mathlib.Nat.{add-zero}
 use native.Mathlib.Omega.{arith}
 use lib.ListN.{length, take, drop, length-append, length-drop}
 use lib.Seq.{sets, sets-eq, length-sets, take-at, drop-at, drop-drop, drop-append-add, length-take-le}
-use lib.Dec.{ltb, leb, eqb}
-use borrow.Author.Tests.{leb-true, le-leb, le-ltb, ne-eqb, not-true}
+use lib.Dec.{ltb}
+use borrow.Author.Tests.{le-leb, le-ltb, ne-eqb}
 use Rattle.nibl.specs.Bytes.{bytes, isDigit, all, All, starts, decimalValue}
 use Rattle.nibl.specs.Bytes as plain
 use Rattle.nibl.specs.Words.{decimal, Run, Word, keywords}
 use Rattle.nibl.specs.Words as words
 use Rattle.nibl.specs.Grammar.{aStore, aList}
 use Rattle.nibl.specs.Tree.{Member, list, store}
-use Rattle.nibl.specs.Read.{reading, typed}
+use Rattle.nibl.specs.Read.{typed}
 use Rattle.nibl.specs.Readings.{LineReading}
 use Rattle.nibl.specs.Typing.{kept, Gathered, gather}
 use Rattle.nibl.specs.Values.{digits}
-use Rattle.nibl.specs.Page.{Stored, programBytes, hasReading, isStorable, recordsOf, usedBy, used, fits, placesOf, isAmong, mark, with, onto}
+use Rattle.nibl.specs.Page.{Stored, programBytes, recordsOf, usedBy, used, fits, with, onto}
 use Rattle.nibl.specs.Meaning.{World, withSession, withOutput, on, done, put}
 use Rattle.nibl.specs.Calls.{Lent, stops, firstRefusal, begun, envOf, listed, listFrom, immediately, edited, obey, takeLine, limit}
-use Rattle.nibl.specs.declared.Place.{Place}
-use Rattle.nibl.specs.declared.ForEntry.{ForEntry}
 use Rattle.nibl.specs.declared.Session.{Session}
 use Rattle.nibl.proofs.Ends.{line-text}
 use Rattle.nibl.proofs.Lines.{reading-sound}
@@ -33,8 +31,12 @@ use Rattle.letter.proofs.Classes.{isPlain}
 use Rattle.letter.proofs.Typed as letters
 use Rattle.value.proofs.Digits.{value-digits, digits-are, digits-some}
 use Rattle.value.proofs.Writing.{sets-append}
-use Rattle.page.proofs.Program.{both, Bytes, Storable, Program, none, each, program-length, good-bytes}
+use Rattle.page.proofs.Program.{Bytes, Storable, Program, none, each, program-length}
+use Rattle.page.proofs.Stored.{stored-read, stored-undigit, stored-short}
+use Rattle.page.proofs.Laid.{good-bytes}
+use Rattle.page.proofs.Listings.{listed-length}
 use Rattle.page.proofs.Changes.{lower, onto-good, onto-records}
+use Rattle.record.proofs.Fitted.{fits-parts}
 use Rattle.demands.specs.Leaves.{stackless}
 use Rattle.demands.specs.Listing.{listing, listingRoom, written, Lists, lentNext, afterLines, answers, Stops0, lastLF, RoundTrip}
 use Rattle.demands.specs.Listing as listings
@@ -43,9 +45,6 @@ use Rattle.demands.proofs.Accepted.{Accepted, accepted-of, accepted-is}
 use Rattle.demands.proofs.Retyping.{program, program-room, line-read, edited-fits, onto-length, onto-after, onto-used}
 
 -- What LIST writes
-listed-length : (r : Stored) → length (listed r) ≡ length (digits (r .line)) + length (r .text) + 2
-listed-length r = omega (arith, length-append (digits (r .line)) (r .text ++ (13 ∷ 10 ∷ [])), length-append (r .text) (13 ∷ 10 ∷ []))
-
 pub listing-length : (rs : List Stored) → length (listing rs) ≡ listingRoom rs
 listing-length [] = refl
 listing-length (r ∷ rs) = length-append (listed r) (listing rs) ∙ omega (arith, listed-length r, listing-length rs)
@@ -105,19 +104,8 @@ abbrev typedLine : Stored → List ℕ
 typedLine r = digits (r .line) ++ r .text
 
 module _ (r : Stored) (s : Storable limit r) where
-  reads : hasReading (reading (r .text)) ≡ true
-  unfolding isStorable
-  reads = both (hasReading (reading (r .text))) _ (s .text) .0
-
-  undigit : starts isDigit (r .text) ≡ false
-  unfolding isStorable
-  undigit = not-true _ (both (not (starts isDigit (r .text))) _ (both (hasReading (reading (r .text))) _ (s .text) .1) .0)
-
   short : length (typedLine r) ≤ limit
-  unfolding isStorable
-  short =
-      let h : length (r .text) + length (digits (r .line)) ≤ limit = leb-true _ _ (both (not (starts isDigit (r .text))) _ (both (hasReading (reading (r .text))) _ (s .text) .1) .1) in
-      omega (arith, length-append (digits (r .line)) (r .text))
+  short = omega (arith, stored-short s, length-append (digits (r .line)) (r .text))
 
   some-digit : (ds : List ℕ) → All isDigit ds → 1 ≤ length ds → starts isDigit ds ≡ true
   some-digit ds plain.none l = absurd (omega arith)
@@ -126,16 +114,13 @@ module _ (r : Stored) (s : Storable limit r) where
   number : Word keywords (typedLine r) (decimal (r .line)) (r .text)
   number =
       let ds : List ℕ = digits (r .line) in
-      let run : Run isDigit ds (r .text) = record { some = some-digit ds (digits-are (r .line)) (digits-some (r .line)); each = digits-are (r .line); longest = undigit } in
+      let run : Run isDigit ds (r .text) = record { some = some-digit ds (digits-are (r .line)) (digits-some (r .line)); each = digits-are (r .line); longest = stored-undigit s } in
       let v : decimalValue 0 ds ≡ r .line = value-digits (r .line) (omega (arith, s .number)) in
       subst (λ (n : ℕ). Word keywords (typedLine r) (decimal n) (r .text)) v (words.digits run (omega (arith, s .number)))
 
   -- it is read as the line that was stored
   pub listed-read : {P : Type 0} → ((ms : List Member) → LineReading (typedLine r) (store (r .line) (r .text) ms) → P) → P
-  listed-read {P} f = by (reading (r .text)) refl reads where
-    by : (o : Option (List Member)) → reading (r .text) ≡ o → hasReading o ≡ true → P
-    by none e h = absurd (false≢true h)
-    by (some ms) e h = f ms (aStore number (reading-sound (r .text) ms e))
+  listed-read f = let t = stored-read s in f (t .members) (aStore number (reading-sound (r .text) (t .members) (t .reads)))
 
   line-plain : All isPlain (typedLine r)
   line-plain = listed-read (λ ms l. letters.all-text (line-text l))
@@ -212,18 +197,6 @@ record Stage (m : Lent) (ds rs : List Stored) (lead : List ℕ) (y : Lent) : Typ
   input : y .input ≡ m .input
   left : drop (y .call .inpos) (y .input) ≡ lead ++ listing rs
 
-fits-flags : (page : List ℕ) (s : Session) → fits page s ≡ true → ltb (s .flags) 8 ≡ true
-unfolding fits
-fits-flags page s h =
-    let ps = placesOf page in
-    let a = both (leb (s .gosubs .depth) 8) _ h in
-    let b = both (leb (s .dos .depth) 8) _ (a .1) in
-    let c = both (leb (s .fors .depth) 4) _ (b .1) in
-    let d = both (all (λ (p : Place). isAmong ps (p .0) || eqb (p .0) mark) (take (s .gosubs .depth) (s .gosubs .places))) _ (c .1) in
-    let e = both (all (λ (p : Place). isAmong ps (p .0)) (take (s .dos .depth) (s .dos .places))) _ (d .1) in
-    let f = both (all (λ (e : ForEntry). ltb (e .var) 26 && isAmong ps (e .place .0)) (take (s .fors .depth) (s .fors .entries))) _ (e .1) in
-    both (ltb (s .flags) 8) _ (f .1) .0
-
 stackless-fits : (page : List ℕ) (s : Session) → ltb (s .flags) 8 ≡ true → fits page (stackless s) ≡ true
 unfolding fits
 stackless-fits page s h = rw h
@@ -285,7 +258,7 @@ module _ (m : Lent) (ds rs : List Stored) (r : Stored) (p : Program limit 0 (ds 
             budget = r′ .budget;
           };
           good = onto-good (m .page) more-program;
-          fit = stackless-fits (onto (m .page) more) (y .session) (fits-flags (y .page) (y .session) (t .sound .fit));
+          fit = stackless-fits (onto (m .page) more) (y .session) (fits-parts (y .page) (y .session) (t .sound .fit) .flags);
         };
         page = refl;
         memory = t .memory;

@@ -1,23 +1,19 @@
 -- "Every reply is one of the numbers" of document 01's table. Assumes nothing.
-use Prim.Native.Nat.{ℕ, zero, suc, _+_, _-_}
-use mathlib.Core.Path.{_≡_, refl, sym, subst, _∙_, ap}
-use mathlib.Core.Bool.{Bool, true, false, not, _||_}
-use mathlib.Core.List.{List, [], _∷_, _++_}
-use mathlib.Core.Option.{Option, none, some}
-use native.Mathlib.Omega.{arith}
+use Prim.Native.Nat.{ℕ, suc}
+use mathlib.Core.Path.{_≡_, refl, subst}
+use mathlib.Core.Bool.{Bool, true, false, not}
+use mathlib.Core.List.{List, [], _∷_}
 use lib.ListN.{length}
-use lib.Dec.{leb, eqb}
-use borrow.Author.Tests.{eqb-true}
+use lib.Dec.{leb}
 use Rattle.nibl.specs.Bytes.{if_then_else_}
-use Rattle.nibl.specs.Tree.{Stmt, Member, Typed, blank, new, clear, run, delete, list, store, immediate}
-use Rattle.nibl.specs.Read.{Found, nothing, found, member}
+use Rattle.nibl.specs.Tree.{Typed, blank, new, clear, run, delete, list, store, immediate}
 use Rattle.nibl.specs.Page.{Stored, isAmong, isGood, fits, recordsOf, hasLine, without, with, programBytes, onto}
-use Rattle.nibl.specs.Meaning.{World, Env, Next, on, skip, go, stop, Done, done, went, put, withSession, exec}
-use Rattle.nibl.specs.Calls.{Lent, Outcome, Ran, ran, stepped, onward, envAt, runFrom, ended, stops, inRange, firstRefusal, edited, listed, listFrom, immediately, needsProgram, cleared, clearStacks, obey, takeLine, takeLineIn, continueFrom, continueRun, continueRunIn, limit, begun, worldOf, envOf}
+use Rattle.nibl.specs.Meaning.{World, Env, on, skip, go, stop, Done, done, withSession, exec}
+use Rattle.nibl.specs.Calls.{Lent, Outcome, Ran, stepped, onward, envAt, runFrom, stops, inRange, firstRefusal, edited, listFrom, immediately, needsProgram, clearStacks, obey, takeLine, continueFrom, continueRun, limit, begun, envOf}
 use Rattle.nibl.specs.declared.Paused.{Paused}
 use Rattle.nibl.specs.declared.Paused.the-variants.{Nowhere, Start, At}
-use Rattle.demands.proofs.Runs.{oneStep, endOf, crOf, every-run}
-use Rattle.demands.proofs.Budget.{StopsWith, goes, skipped, jumped, stopped, stopNumbers, does-stops, exec-stops}
+use Rattle.demands.proofs.Runs.{endOf, crOf, every-run}
+use Rattle.demands.proofs.Budget.{StopsWith, stopped, stopNumbers, does-stops, exec-stops}
 use Rattle.demands.proofs.Effects.{widen, list-does}
 use Rattle.demands.proofs.Ways.{Takes, refused, noCR, overlong, unread, reads, every-line, Continues, refused′, continues, every-continue}
 

@@ -12,8 +12,7 @@ use Rattle.nibl.specs.Read.{typed}
 use Rattle.nibl.specs.Typing.{Gathered}
 use Rattle.nibl.specs.Page.{Stored, isAmong, isGood, fitsPaused, placesOf, recordsOf, hasLine, without, with, programBytes, onto}
 use Rattle.nibl.specs.Meaning.{World, Env, Done, done, on, skip, go, stop, withSession, exec}
-use Rattle.nibl.specs.Calls.{Lent, Outcome, runFrom, ended, stops, edited, listFrom, immediately, needsProgram, clearStacks, cleared, withPaused, obey, continueFrom, firstRefusal, begun, envOf}
-use Rattle.nibl.specs.declared.Session.{Session}
+use Rattle.nibl.specs.Calls.{Lent, Outcome, runFrom, ended, stops, edited, listFrom, immediately, needsProgram, clearStacks, cleared, obey, continueFrom, firstRefusal, begun, envOf}
 use Rattle.nibl.specs.declared.Paused.{Paused}
 use Rattle.nibl.specs.declared.Paused.the-variants.{Nowhere, Start, At}
 use Rattle.nibl.proofs.Words.{if-split}
@@ -21,14 +20,16 @@ use Rattle.nibl.proofs.Lines.{typed-sound}
 use Rattle.letter.proofs.Typed.{taken}
 use Rattle.page.proofs.Program.{Program, none as no-record}
 use Rattle.page.proofs.Changes.{with-program, without-program}
-use Rattle.demands.specs.Sound.{Stands, budgeted}
+use Rattle.page.specs.Standing.{Stands}
+use Rattle.page.proofs.Laid.{good-laid, laid-program}
+use Rattle.record.proofs.Fitted.{Fit, fit-vars, fit-paused, fit-cleared}
+use Rattle.record.proofs.Statements.{Goes, toNext, toRecord, toPlace, toEnd}
+use Rattle.demands.specs.Sound.{budgeted}
 use Rattle.demands.specs.Starts.{worldCleared, byRUN, byStatement, StartsTyped, typed as typed-at, resumes, StartsPaused, paused}
 use Rattle.demands.proofs.Effects.{widen, exec-does, list-does}
 use Rattle.demands.proofs.Budget.{StopsWith, stopped, stopNumbers}
 use Rattle.demands.proofs.Ways.{Typing}
 use Rattle.demands.proofs.Storing.{stored-storable}
-use Rattle.demands.proofs.Places.{good-laid, laid-program}
-use Rattle.demands.proofs.Fits.{Fit, fit-vars, held-none, Goes, toPlace}
 use Rattle.demands.proofs.Accepted.{accepted-of}
 use Rattle.demands.proofs.Held.{worldAfter, Steady, same-lengths, does-steady}
 use Rattle.demands.proofs.Carried.{Placed, gathered-inside, other-record, does-placed}
@@ -49,14 +50,6 @@ pub data Obeyed (lim : ℕ) (e : Env) (v : World) (From : ℕ → World → Type
   runs : (q : ℕ) (w : World) → Stands (e .page) q → Fit (placesOf (e .page)) (w .session) → Placed (e .input) w → Steady v w → From q w
       → Obeyed lim e v From (λ k. ended (runFrom k e q w) (e .page))
 
-module _ {ps : List ℕ} {s : Session} (f : Fit ps s) where
-  pub paused-fit : (p : Paused) → fitsPaused ps p ≡ true → Fit ps (withPaused s p)
-  paused-fit p h = record { vars = f .vars; gosubs = f .gosubs; dos = f .dos; fors = f .fors; flags = f .flags; paused = h }
-
-  pub cleared-fit : (qs : List ℕ) → s .paused ≡ Nowhere → Fit qs (clearStacks s)
-  cleared-fit qs e =
-      record { vars = f .vars; gosubs = held-none _ (f .gosubs .room); dos = held-none _ (f .dos .room); fors = held-none _ (f .fors .room); flags = f .flags; paused = rw e }
-
 module _ (lim : ℕ) (e : Env) (v : World) (From : ℕ → World → Type 0) where
   edit-ways : (w : World) (rs : List Stored) → w .session .paused ≡ Nowhere → Fit (placesOf (e .page)) (w .session) → Program lim 0 rs → Obeyed lim e v From (λ k. edited (e .page) w rs)
   unfolding edited
@@ -65,13 +58,13 @@ module _ (lim : ℕ) (e : Env) (v : World) (From : ℕ → World → Type 0) whe
 
   left-ways : (d : Done) → Left (e .page) d → Placed (e .input) (worldAfter d) → Steady v (worldAfter d) → ((q : ℕ) (w : World) → d ≡ done (go q) w → From q w)
       → Obeyed lim e v From (λ k. immediately k e d)
-  left-ways d l i j b = by d (l .fit) (l .goes) (l .stops) i j b where
-    by : (d : Done) → Fit (placesOf (e .page)) (worldAfter d .session) → Goes (e .page) d → StopsWith d → Placed (e .input) (worldAfter d) → Steady v (worldAfter d)
+  left-ways d l i j b = by d (l .goes) (l .stops) i j b where
+    by : (d : Done) → Goes (e .page) d → StopsWith d → Placed (e .input) (worldAfter d) → Steady v (worldAfter d)
         → ((q : ℕ) (w : World) → d ≡ done (go q) w → From q w) → Obeyed lim e v From (λ k. immediately k e d)
-    by (done on w) f g s i j b = stands refl f
-    by (done skip w) f g s i j b = stands refl f
-    by (done (go q) w) f (toPlace h) s i j b = runs q w h f i j (b q w refl)
-    by (done (stop n) w) f g (stopped h) i j b = stands (widen stopNumbers lineNumbers refl n h) f
+    by (done on w) (toNext f) s i j b = stands refl f
+    by (done skip w) (toRecord f) s i j b = stands refl f
+    by (done (go q) w) (toPlace h f) s i j b = runs q w h f i j (b q w refl)
+    by (done (stop n) w) (toEnd f) (stopped h) i j b = stands (widen stopNumbers lineNumbers refl n h) f
 
 module _ (lim : ℕ) (x : Lent) (short : lim ≤ 251) (good : isGood lim (x .page) ≡ true) (fit : Fit (placesOf (x .page)) (x .session)) where
   abbrev env : Env
@@ -81,10 +74,10 @@ module _ (lim : ℕ) (x : Lent) (short : lim ≤ 251) (good : isGood lim (x .pag
   program = laid-program (good-laid lim (x .page) short good)
 
   pub begun-fit : (n : ℕ) → Fit (placesOf (x .page)) (begun x n .session)
-  begun-fit n = paused-fit fit Nowhere refl
+  begun-fit n = fit-paused fit Nowhere refl
 
   cleared-all : (n : ℕ) → Fit (placesOf (x .page)) (cleared (begun x n .session))
-  cleared-all n = fit-vars (cleared-fit (begun-fit n) (placesOf (x .page)) refl) _ refl
+  cleared-all n = fit-vars (fit-cleared (begun-fit n) (placesOf (x .page)) refl) _ refl
 
   carried : {w : World} (n : ℕ) → Steady (begun x n) w → Steady (begun x 0) w
   carried n l = record { lengths = record { memory = l .lengths .memory; output = l .lengths .output }; paused = l .paused }
@@ -112,7 +105,7 @@ module _ (lim : ℕ) (x : Lent) (short : lim ≤ 251) (good : isGood lim (x .pag
     by true = edit-ways lim env (begun x 0) From (begun x n) (without l (recordsOf (x .page))) refl (begun-fit n) (without-program l program)
     by false = stands refl (begun-fit n)
   obey-ways From n (list l) p i b =
-      left-ways lim env (begun x 0) From (listFrom l (recordsOf (x .page)) (begun x n)) (list-left lim env short good l (recordsOf (x .page)) (begun x n) refl (begun-fit n))
+      left-ways lim env (begun x 0) From (listFrom l (recordsOf (x .page)) (begun x n)) (list-left env l (recordsOf (x .page)) (begun x n) (begun-fit n))
       (does-placed (x .input) refl (list-does env [] l (recordsOf (x .page)) (begun x n)) i) (carried n (does-steady (list-does env [] l (recordsOf (x .page)) (begun x n))))
       (λ q w e. absurd (list-stays l (recordsOf (x .page)) (begun x n) q w e))
   obey-ways From n (store l s ms) p i b = edit-ways lim env (begun x 0) From (begun x n) _ refl (begun-fit n) (p l s ms refl)

@@ -1,5 +1,5 @@
 -- "Fixed effects" on what lies outside: the page after its end mark, the lengths of what is lent; and "One outcome". Assumes nothing.
-use Prim.Native.Nat.{ℕ, suc, _-_}
+use Prim.Native.Nat.{ℕ, suc}
 use mathlib.Core.Path.{_≡_, refl, ap}
 use mathlib.Core.Bool.{Bool, true, false, true≢false}
 use mathlib.Core.List.{List, []}

@@ -17,12 +17,14 @@ use Rattle.nibl.specs.Meaning.{World, Env, withSession}
 use Rattle.nibl.specs.Calls.{Lent, Outcome, Ran, runFrom, stopAt, ended, stops, outcome, pausing, firstRefusal, begun, envOf, withPaused, pausedAt, obeyRead, obeyLine, takeLine, takeLineIn, continueFrom, continueRun, continueRunIn, limit}
 use Rattle.page.proofs.Walk.{by-cases}
 use Rattle.demands.specs.Listing.{lentNext}
-use Rattle.demands.specs.Sound.{Sized, Sound, Stands, budgeted, resumed, continued, total}
+use Rattle.page.specs.Standing.{Stands}
+use Rattle.record.specs.Sound.{Sized, Sound}
+use Rattle.record.proofs.Fitted.{Fit, sound-fit}
+use Rattle.demands.specs.Sound.{budgeted, resumed, continued, total}
 use Rattle.demands.proofs.Budget.{joined, split-run}
 use Rattle.demands.proofs.Ways.{lineOf, Typing}
 use Rattle.demands.proofs.Held.{Steady, run-steady, then-lengths}
 use Rattle.demands.proofs.Accepted.{accepted-of, accepted-is, accepted-less, InRange, take-at, continue-at}
-use Rattle.demands.proofs.Fits.{Fit, sound-fit}
 use Rattle.demands.proofs.Running.{Goings, runsOut, pauses, steps, run-goes}
 use Rattle.demands.proofs.Running.{stops as halts}
 use Rattle.demands.proofs.Carried.{Placed, run-placed}

@@ -1,7 +1,7 @@
 -- "Retyping replaces". Assumes nothing.
-use Prim.Native.Nat.{ℕ, suc, _+_, _-_, _≤_, _<_}
+use Prim.Native.Nat.{ℕ, suc, _+_, _≤_, _<_}
 use mathlib.Core.Path.{_≡_, refl, sym, ap, _∙_}
-use mathlib.Core.Bool.{Bool, true, false, _||_, false≢true, true≢false}
+use mathlib.Core.Bool.{Bool, true, false, _||_, true≢false}
 use mathlib.Core.List.{List, [], _∷_}
 use mathlib.Core.Option.{some}
 use native.Mathlib.Omega.{arith}
@@ -14,17 +14,17 @@ use Rattle.nibl.specs.Tree.{Member, Typed, new, delete, store}
 use Rattle.nibl.specs.Read.{typed}
 use Rattle.nibl.specs.Readings.{LineReading}
 use Rattle.nibl.specs.Typing.{Gathered}
-use Rattle.nibl.specs.Page.{Stored, programBytes, isEnd, fits, recordsOf, size, used, usedBy, hasLine, with, without, onto}
+use Rattle.nibl.specs.Page.{Stored, programBytes, fits, recordsOf, size, used, usedBy, hasLine, with, without, onto}
 use Rattle.nibl.specs.Calls.{Lent, stops, begun, envOf, clearStacks, edited, obey, takeLine, takeLineIn, limit}
 use Rattle.nibl.specs.Meaning.{World, withSession}
 use Rattle.nibl.proofs.Whole.{typed-complete}
 use Rattle.letter.proofs.Typed.{taken}
 use Rattle.page.proofs.Walk.{by-cases}
-use Rattle.page.proofs.Program.{both, Program, none, each, program-length}
+use Rattle.page.proofs.Program.{Program, none, each, program-length}
+use Rattle.page.proofs.Laid.{Laid, laid-program, laid-room, good-laid}
 use Rattle.page.proofs.Changes.{with-program, without-program, onto-good, onto-records}
 use Rattle.demands.specs.Leaves.{ofLine, others, Rising, alone, rises, lineTaken, Edits, Replaces, Deletes}
 use Rattle.demands.proofs.Ways.{Typing}
-use Rattle.demands.proofs.Places.{Laid, ends, laid, good-laid, laid-program}
 use Rattle.demands.proofs.Storing.{stored-storable}
 use Rattle.demands.proofs.Accepted.{accepted-of}
 
@@ -110,16 +110,6 @@ module _ (q : Stored) where
     by false e false f w =
         let m : eqb (r .line) n ≡ false = ne-eqb (r .line) n (λ g. eqb-false n (r .line) f (sym g)) in
         record { one = rw m (w .one); rest = rw m (ap (λ (l : List Stored). r ∷ l) (w .rest)); room = rw m (omega (arith, w .room)) }
-
--- the records of a good page are on it
-end-long : (q : List ℕ) → isEnd q ≡ true → 2 ≤ length q
-end-long [] e = absurd (false≢true e)
-end-long (x ∷ []) e = absurd (false≢true (both (eqb x 255) false e .1))
-end-long (x ∷ y ∷ q) e = omega arith
-
-laid-room : {lim low at : ℕ} {page : List ℕ} {rs : List Stored} → Laid lim page low at rs → at + usedBy rs ≤ length page
-laid-room {at = at} {page = page} (ends e) = omega (arith, end-long (drop at page) e, length-drop at page)
-laid-room (laid e l s n t p) = omega (arith, laid-room p)
 
 -- What an edit leaves
 pub edited-fits : (page : List ℕ) (w : World) (rs : List Stored) → usedBy rs ≤ length page → edited page w rs ≡ stops 0 (withSession w (clearStacks (w .session))) (onto page rs)

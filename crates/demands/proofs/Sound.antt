@@ -11,15 +11,16 @@ use Rattle.nibl.specs.Meaning.{World, Env}
 use Rattle.nibl.specs.Calls.{Lent, Outcome, Ran, runFrom, ended, stops, firstRefusal, pausedAt, takeLine, takeLineIn, continueRun, continueRunIn, begun, envOf, limit}
 use Rattle.nibl.proofs.Words.{if-split}
 use Rattle.page.proofs.Changes.{onto-good}
-use Rattle.demands.specs.Sound.{Sized, Sound, Stands}
+use Rattle.page.specs.Standing.{Stands}
+use Rattle.record.specs.Sound.{Sized, Sound}
+use Rattle.record.proofs.Fitted.{Fit, fit-paused, fit-cleared, sound-fit, fit-sound}
 use Rattle.demands.proofs.Effects.{widen}
 use Rattle.demands.proofs.Budget.{stopNumbers}
 use Rattle.demands.proofs.Ways.{Takes, refused, noCR, overlong, unread, reads, every-line, Continues, refused′, continues, every-continue}
 use Rattle.demands.proofs.Accepted.{accepted-of}
-use Rattle.demands.proofs.Fits.{Fit, sound-fit, fit-sound}
 use Rattle.demands.proofs.Running.{Goings, runsOut, pauses, steps, run-goes}
 use Rattle.demands.proofs.Running.{stops as halts}
-use Rattle.demands.proofs.Obeys.{lineNumbers, Obeyed, stands, edits, runs, paused-fit, cleared-fit, begun-fit, read-ways, continue-ways}
+use Rattle.demands.proofs.Obeys.{lineNumbers, Obeyed, stands, edits, runs, begun-fit, read-ways, continue-ways}
 
 -- What a run leaves
 pub goings-fit : {page : List ℕ} {k : ℕ} {r : Ran} → Goings page k r → Fit (placesOf page) (r .world .session)
@@ -58,13 +59,13 @@ module _ (lim : ℕ) (e : Env) (short : lim ≤ 251) (good : isGood lim (e .page
       let r : Ran = runFrom k e q w in
       let g = run-goes lim e short good k q w s f in
       let left = if-split (λ (u : World). Fit (placesOf (e .page)) (u .session)) (eqb (r .stop) 14)
-      (λ h. paused-fit (goings-fit g) (pausedAt (r .at)) (goings-stands g (eqb-true (r .stop) 14 h))) (λ h. goings-fit g) in
+      (λ h. fit-paused (goings-fit g) (pausedAt (r .at)) (goings-stands g (eqb-true (r .stop) 14 h))) (λ h. goings-fit g) in
       record { sound = fit-sound lim good left; number = widen goingNumbers obeyNumbers refl (r .stop) (goings-number g) }
 
   pub settled : {v : World} {From : ℕ → World → Type 0} {o : ℕ → Outcome} → Obeyed lim e v From o → (k : ℕ) → Settled lim (o k)
   settled (stands {n = n} h f) k = record { sound = fit-sound lim good f; number = widen lineNumbers obeyNumbers refl n h }
   settled (edits {rs = rs} p n f) k =
-      record { sound = fit-sound lim (onto-good (e .page) p) (cleared-fit f (placesOf (onto (e .page) rs)) n); number = refl }
+      record { sound = fit-sound lim (onto-good (e .page) p) (fit-cleared f (placesOf (onto (e .page) rs)) n); number = refl }
   settled (runs q w s f i j b) k = run-settled k q w s f
 
 -- past the first refusals page and record are sound

@@ -1,13 +1,12 @@
 -- The ways in which a call ends, up to what a read line does. Assumes nothing.
-use Prim.Native.Nat.{ℕ, zero, suc, _+_}
+use Prim.Native.Nat.{ℕ, zero, suc}
 use mathlib.Core.Path.{_≡_, refl}
 use mathlib.Core.Bool.{Bool, true, false}
-use mathlib.Core.List.{List}
 use mathlib.Core.Option.{Option, none, some}
 use lib.ListN.{drop}
 use Rattle.nibl.specs.Tree.{Typed}
 use Rattle.nibl.specs.Read.{typed}
-use Rattle.nibl.specs.Typing.{Kept, Gathered, gather}
+use Rattle.nibl.specs.Typing.{Gathered, gather}
 use Rattle.nibl.specs.Calls.{Lent, Outcome, stops, worldOf, begun, envOf, firstRefusal, obey, obeyRead, obeyLine, takeLineIn, continueFrom, continueRunIn}
 
 abbrev pub lineOf : ℕ → Lent → Option Gathered

@@ -1,17 +1,16 @@
 -- All that one statement can do, as a list of effects: what holds of each effect holds of every statement (proofs/Effects.antt).
-use Prim.Native.Nat.{ℕ, zero, suc, _+_, _-_, _%_, _≤_}
+use Prim.Native.Nat.{ℕ, suc, _+_, _%_, _≤_}
 use mathlib.Core.Path.{_≡_}
-use mathlib.Core.Bool.{Bool, true, false}
+use mathlib.Core.Bool.{true, false}
 use mathlib.Core.List.{List, [], _∷_}
-use mathlib.Core.Option.{Option, none, some}
+use mathlib.Core.Option.{some}
 use lib.ListN.{length, getD, drop}
 use lib.Seq.{sets}
-use Rattle.nibl.specs.Tree.{Stmt, letVar, letStat, letByte, letCopy, letText, goto, gosub, until, return, loop, remark, end, print, ifThen, for, next, input, inputText}
 use Rattle.nibl.specs.Values.{add16}
 use Rattle.nibl.specs.Stack.{pushOf, popOf, pushFor, popFor}
 use Rattle.nibl.specs.Typing.{Gathered, gather}
 use Rattle.nibl.specs.Page.{isAmong, find}
-use Rattle.nibl.specs.Meaning.{World, Env, Next, on, skip, go, stop, Done, done, withVar, withFlags, withGosubs, withDos, withFors, withSession, withMemory, withOutput, withInpos, place, after, goesOn}
+use Rattle.nibl.specs.Meaning.{World, Env, on, skip, go, stop, Done, done, withVar, withFlags, withGosubs, withDos, withFors, withSession, withMemory, withOutput, withInpos, place, after, goesOn}
 use Rattle.nibl.specs.declared.Place.{Place}
 use Rattle.nibl.specs.declared.ForEntry.{ForEntry}
 use Rattle.nibl.specs.declared.Top.the-variants as top
@@ -20,27 +19,6 @@ use Rattle.nibl.specs.declared.TopFor.the-variants as topf
 -- what a statement may be refused with, and END
 abbrev pub refusals : List ℕ
 refusals = 6 ∷ 7 ∷ 8 ∷ 9 ∷ 10 ∷ 11 ∷ 12 ∷ 13 ∷ 15 ∷ 16 ∷ 17 ∷ 20 ∷ []
-
--- the variable that a FOR names
-abbrev pub forVars : Stmt → List ℕ
-forVars (letVar v a) = []
-forVars (letStat a) = []
-forVars (letByte a b) = []
-forVars (letCopy a b) = []
-forVars (letText a bs) = []
-forVars (goto a) = []
-forVars (gosub a) = []
-forVars (until a) = []
-forVars return = []
-forVars loop = []
-forVars remark = []
-forVars end = []
-forVars (print is b) = []
-forVars (ifThen a q) = forVars q
-forVars (for v a b c) = v ∷ []
-forVars (next v) = []
-forVars (input vs) = []
-forVars (inputText a) = []
 
 -- INPUT: variables given one after the other, up to the first refusal
 pub data Gives : World → Done → Type 0 where

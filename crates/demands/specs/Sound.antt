@@ -1,44 +1,19 @@
--- What the sentences on sound calls speak of: a good page with a fitting record, where a run may stand, the record that a place lies in,
--- the line that an answer shows, a call with another budget, and a run in several calls.
-use Prim.Native.Nat.{ℕ, _+_, _≤_, _<_}
+-- What the sentences on sound calls speak of: the line that an answer shows, how a call answers, a call with another budget, and a run
+-- in several calls.
+use Prim.Native.Nat.{ℕ, _+_}
 use mathlib.Core.Path.{_≡_}
 use mathlib.Core.Bool.{true, false}
 use mathlib.Core.List.{List, [], _∷_}
 use mathlib.Core.Logic.{_⊎_}
-use mathlib.Core.Option.{some}
-use lib.ListN.{length, drop}
 use lib.Dec.{eqb}
-use Rattle.nibl.specs.Page.{lengthAt, isGood, isAmong, find, lineOf, placesOf, fitsPaused, fits}
+use Rattle.nibl.specs.Page.{isAmong, lineOf, placesOf}
 use Rattle.nibl.specs.Meaning.{World}
-use Rattle.nibl.specs.Calls.{Lent, Outcome, Ran, runFrom, pausedAt, ended, envOf, continueRun}
+use Rattle.nibl.specs.Calls.{Lent, Outcome, Ran, runFrom, ended, envOf, continueRun}
+use Rattle.page.specs.Standing.{Stands, LiesIn}
+use Rattle.record.specs.Sound.{Sound}
 use Rattle.demands.specs.Listing.{lentNext}
-use Rattle.nibl.specs.declared.Session.{Session}
 use Rattle.nibl.specs.declared.StopLine.{StopLine}
 use Rattle.nibl.specs.declared.StopLine.the-variants as stopLine
-
--- the record's arrays have the lengths that its type says: 26 variables, the stacks' places and entries
-pub record Sized (s : Session) : Type 0 where
-  pub vars : length (s .vars) ≡ 26
-  pub gosubs : length (s .gosubs .places) ≡ 8
-  pub dos : length (s .dos .places) ≡ 8
-  pub fors : length (s .fors .entries) ≡ 4
-
--- "a good page with a fitting record"
-pub record Sound (lim : ℕ) (page : List ℕ) (s : Session) : Type 0 where
-  pub good : isGood lim page ≡ true
-  pub fitting : fits page s ≡ true
-  pub sized : Sized s
-
--- where a run may stand: "such a position", and the run goes on after it, "or the program's start"
-abbrev pub Stands : List ℕ → ℕ → Type 0
-Stands page q = fitsPaused (placesOf page) (pausedAt q) ≡ true
-
--- the position p lies in the record of the line l, after its number and length
-pub record LiesIn (page : List ℕ) (p l : ℕ) : Type 0 where
-  pub at : ℕ
-  pub stands : find page l ≡ some at
-  pub behind : at + 3 ≤ p
-  pub inside : p < at + lengthAt (drop at page)
 
 -- the line that the answer of a run shows; `at` is the place of the last step, where a statement gave the stop
 pub data Shows (page : List ℕ) (r : Ran) : StopLine → Type 0 where

@@ -15,7 +15,7 @@ use Rattle.nibl.specs.declared.Paused.the-variants.{Nowhere}
 use Rattle.nibl.specs.declared.StopLine.the-variants as stopLine
 use Rattle.demands.specs.Leaves.{unpaused, Items}
 use Rattle.demands.specs.Items.{ItemOf, TypedItem}
-use Rattle.demands.specs.Sound.{LiesIn}
+use Rattle.page.specs.Standing.{LiesIn}
 use Rattle.demands.specs.Starts.{resumes}
 
 -- what a paused call left, as its next statement finds it

@@ -1,19 +1,19 @@
 -- A record put in or taken out leaves the records of a good page; and the page with other records is good.
 -- Assumes nothing.
-use Prim.Native.Nat.{ℕ, suc, _+_, _-_, _≤_}
+use Prim.Native.Nat.{ℕ, suc, _≤_}
 use mathlib.Core.Path.{_≡_, refl, sym, _∙_}
-use mathlib.Core.Bool.{Bool, true, false, not, false≢true}
+use mathlib.Core.Bool.{Bool, true, false, false≢true}
 use mathlib.Core.List.{List, [], _∷_}
 use native.Mathlib.Omega.{arith}
 use lib.ListN.{length, drop}
 use lib.Dec.{ltb, eqb}
-use borrow.Author.Tests.{ltb-true, ltb-false, leb-true, eqb-true, eqb-false}
-use Rattle.nibl.specs.Bytes.{if_then_else_, isDigit}
+use borrow.Author.Tests.{ltb-true, ltb-false, eqb-true, eqb-false}
+use Rattle.nibl.specs.Bytes.{if_then_else_}
 use Rattle.nibl.specs.Read.{stepIn, wordStep, _>>=_, aStatement, statementN, statement, member, membersN, reading}
-use Rattle.nibl.specs.Values.{digits}
 use Rattle.nibl.specs.Page.{Stored, programBytes, hasReading, isStorable, isGood, recordsOf, without, with, onto}
 use Rattle.page.proofs.Walk.{by-cases}
 use Rattle.page.proofs.Program.{both, Storable, Program, none, each, program-good, records-back, ranged}
+use Rattle.page.proofs.Stored.{storable-short}
 
 -- an empty text has no reading
 no-reading : hasReading (reading []) ≡ false
@@ -25,8 +25,7 @@ pub storable : (lim n : ℕ) (t : List ℕ) → lim ≤ 251 → n ≤ 32767 → 
 unfolding isStorable
 storable lim n [] h m e = absurd (false≢true (sym no-reading ∙ both (hasReading (reading [])) _ e .0))
 storable lim n (b ∷ t) h m e =
-    let fits : length (b ∷ t) + length (digits n) ≤ lim = leb-true _ _ (both (not (isDigit b)) _ (both (hasReading (reading (b ∷ t))) _ e .1) .1) in
-    record { number = m; some = omega arith; short = omega arith; text = e }
+    record { number = m; some = omega arith; short = omega (arith, storable-short lim n (b ∷ t) e); text = e }
 
 pub lower : {lim m : ℕ} {rs : List Stored} (n : ℕ) → m ≤ n → Program lim n rs → Program lim m rs
 lower n h none = none

@@ -17,7 +17,8 @@ use Rattle.nibl.specs.Meaning.{World}
 use Rattle.page.specs.declared.Edited.the-variants as edited
 use Rattle.page.specs.Edits.{seatIn, seatOf, spliced, changed, storeOf, deleteOf, newOf, outcomeOf}
 use Rattle.page.proofs.Walk.{by-cases}
-use Rattle.page.proofs.Program.{Bytes, Program, none, each, program-length, record-length, good-program, good-bytes, good-fits}
+use Rattle.page.proofs.Program.{Bytes, Program, none, each, program-length, record-length}
+use Rattle.page.proofs.Laid.{good-program, good-bytes, good-fits}
 use Rattle.page.proofs.Edits.{seat-fits}
 
 -- an edit behind what it does not touch

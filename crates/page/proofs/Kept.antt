@@ -1,7 +1,7 @@
--- What edits keep: a good page stays good, and bytes stay bytes. What the finder finds. Assumes nothing.
+-- What edits keep: a good page stays good, bytes stay bytes, and a refused edit changes nothing. What the finder finds. Assumes nothing.
 use Prim.Native.Nat.{ℕ, zero, suc, _+_, _-_, _/_, _%_, _≤_, _<_}
 use mathlib.Core.Path.{_≡_, refl, sym, ap, _∙_}
-use mathlib.Core.Bool.{true, false, _&&_}
+use mathlib.Core.Bool.{Bool, true, false, _&&_}
 use mathlib.Core.List.{List, [], _∷_, _++_}
 use mathlib.Core.Option.{Option, none, some}
 use native.Mathlib.Omega.{arith}
@@ -10,14 +10,17 @@ use lib.Seq.{getD-drop}
 use lib.Dec.{ltb, leb, eqb}
 use borrow.Author.Tests.{leb-true, eqb-true, lt-ltb}
 use Rattle.nibl.specs.Bytes.{if_then_else_, isText, All, none as no-byte, each as each-byte}
-use Rattle.nibl.specs.Page.{Stored, recordBytes, programBytes, isGood, recordsOf, lineAt, used, hasLine, with, positionIn, find, onto}
+use Rattle.nibl.specs.Page.{Stored, recordBytes, programBytes, isGood, recordsOf, lineAt, size, used, hasLine, with, positionIn, find, onto}
+use Rattle.nibl.proofs.Words.{if-split}
 use Rattle.page.specs.Walk.{stopsAt, sizeAt, reached}
 use Rattle.page.specs.declared.Seat.{Seat}
-use Rattle.page.specs.Edits.{seatOf, spliced, canStore, storeOf, deleteOf}
+use Rattle.page.specs.declared.Edited.the-variants as edited
+use Rattle.page.specs.Edits.{seatOf, spliced, Changed, changed, canStore, storeOf, deleteOf, newOf}
 use Rattle.page.proofs.Walk.{by-cases, stop, size-some, met}
-use Rattle.page.proofs.Program.{both, Bytes, Storable, Program, none as empty, each, good-program}
+use Rattle.page.proofs.Program.{both, Bytes, Storable, Program, none as empty, each}
+use Rattle.page.proofs.Laid.{good-program}
 use Rattle.page.proofs.Changes.{with-program, without-program, onto-good}
-use Rattle.page.proofs.Boundaries.{stored-text}
+use Rattle.page.proofs.Stored.{stored-text}
 use Rattle.page.proofs.Good.{store-is, delete-is}
 
 module _ (lim : ℕ) (page : List ℕ) (bytes : Bytes page) (good : isGood lim page ≡ true) where
@@ -36,6 +39,10 @@ module _ (lim : ℕ) (page : List ℕ) (bytes : Bytes page) (good : isGood lim p
       (by-cases (hasLine n (recordsOf page))
       (λ e. rw (e, if_then_else_) (onto-good page (without-program n (good-program lim page bytes good))))
       (λ e. rw (e, if_then_else_) good))
+
+  pub new-keeps : isGood lim (newOf page .page) ≡ true
+  unfolding newOf
+  new-keeps = if-split (λ (c : Changed). isGood lim (c .page) ≡ true) (leb 2 (length page)) (λ e. onto-good page empty) (λ e. good)
 
 -- bytes
 bytes-take : (n : ℕ) (l : List ℕ) → Bytes l → Bytes (take n l)
@@ -108,13 +115,43 @@ pub onto-bytes : {lim : ℕ} {rs : List Stored} (page : List ℕ) → Bytes page
 onto-bytes {rs = rs} page b p =
     bytes-append (programBytes rs) _ (program-bytes p) (bytes-drop (length (programBytes rs)) page b)
 
+pub new-bytes : (page : List ℕ) → Bytes page → Bytes (newOf page .page)
+unfolding newOf
+new-bytes page b = if-split (λ (c : Changed). Bytes (c .page)) (leb 2 (length page)) (λ e. onto-bytes {lim = 0} page b empty) (λ e. b)
+
+-- An edit that is refused, or finds nothing to do, leaves the page as it was
+abbrev Untouched : List ℕ → Changed → Type 0
+Untouched page c = (c .answer ≡ edited.Done → ⊥) → c .page ≡ page
+
+undone : (page p : List ℕ) → Untouched page (changed p edited.Done)
+undone page p n = absurd (n refl)
+
+module _ (page : List ℕ) where
+  pub store-untouched : (n : ℕ) (t : List ℕ) → Untouched page (storeOf page n t)
+  unfolding storeOf
+  store-untouched n t =
+      if-split (Untouched page) (canStore page (seatOf page n) (length t + 4)) (λ e. undone page _) (λ e f. refl)
+
+  pub delete-untouched : (n : ℕ) → Untouched page (deleteOf page n)
+  unfolding deleteOf
+  delete-untouched n =
+      if-split (Untouched page) (ltb (seatOf page n .gone) 1) (λ e f. refl)
+      (λ e. if-split (Untouched page) (leb (used page) (length page)) (λ f. undone page _) (λ f g. refl))
+
+  pub new-untouched : Untouched page (newOf page)
+  unfolding newOf
+  new-untouched = if-split (Untouched page) (leb 2 (length page)) (λ e. undone page _) (λ e f. refl)
+
+  pub no-room-untouched : (n : ℕ) (t : List ℕ) → storeOf page n t .answer ≡ edited.NoRoom → storeOf page n t .page ≡ page
+  no-room-untouched n t e = store-untouched n t (λ f. let z : _≡_ {A = ℕ} 0 1 = cc in omega arith)
+
 -- a record of line n stands at q
-pub record Stands (page : List ℕ) (n q : ℕ) : Type 0 where
+pub record LineRecord (page : List ℕ) (n q : ℕ) : Type 0 where
   pub inside : q + 3 ≤ length page
   pub line : lineAt (drop q page) ≡ n
   pub there : stopsAt (drop q page) ≡ false
 
-found : (k : ℕ) (page : List ℕ) (n at q : ℕ) → length page - at < k → positionIn n at (recordsOf (drop at page)) ≡ some q → Stands page n q
+found : (k : ℕ) (page : List ℕ) (n at q : ℕ) → length page - at < k → positionIn n at (recordsOf (drop at page)) ≡ some q → LineRecord page n q
 found zero page n at q h e = absurd (omega arith)
 found (suc k) page n at q h e =
     by-cases (stopsAt (drop at page)) (λ f. let g : none ≡ some q = sym (ap (positionIn n at) (stop (drop at page) f)) ∙ e in let z : _≡_ {A = ℕ} 0 1 = cc in absurd (omega arith))
@@ -130,14 +167,28 @@ found (suc k) page n at q h e =
     let on : positionIn n at (recordsOf (drop at page)) ≡ positionIn n next (recordsOf (drop next page)) = rw (m .records, g, m .long) in
     found k page n next q (omega (arith, size-some (drop at page) f, m .inside)) (sym on ∙ e)))
 
-pub find-stands : (page : List ℕ) (n q : ℕ) → find page n ≡ some q → Stands page n q
+pub find-record : (page : List ℕ) (n q : ℕ) → find page n ≡ some q → LineRecord page n q
 unfolding find
-find-stands page n q e = found (suc (length page)) page n 0 q (omega arith) e
+find-record page n q e = found (suc (length page)) page n 0 q (omega arith) e
 
 -- on a page as long as a call's, every line has a place
 pub reached-all : (page : List ℕ) (n : ℕ) → length page ≤ 65535 → reached (find page n) ≡ find page n
-reached-all page n h = go (find page n) (λ q e. find-stands page n q e)
+reached-all page n h = go (find page n) (λ q e. find-record page n q e)
   where
-    go : (o : Option ℕ) → ((q : ℕ) → o ≡ some q → Stands page n q) → reached o ≡ o
+    go : (o : Option ℕ) → ((q : ℕ) → o ≡ some q → LineRecord page n q) → reached o ≡ o
     go none k = refl
     go (some q) k = rw (lt-ltb q 65536 (omega (arith, k q refl .inside)))
+
+-- and it finds the lines that are there
+abbrev pub isThere : Option ℕ → Bool
+isThere none = false
+isThere (some q) = true
+
+there-has : (n at : ℕ) (rs : List Stored) → isThere (positionIn n at rs) ≡ hasLine n rs
+there-has n at [] = refl
+there-has n at (r ∷ rs) =
+    by-cases (eqb (r .line) n) (λ f. rw (f, if_then_else_)) (λ f. rw (f, if_then_else_) (there-has n (at + size r) rs))
+
+pub find-has : (page : List ℕ) (n : ℕ) → isThere (find page n) ≡ hasLine n (recordsOf page)
+unfolding find
+find-has page n = there-has n 0 (recordsOf page)

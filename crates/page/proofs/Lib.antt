@@ -1,11 +1,13 @@
 pub mod Walk
 pub mod Program
+pub mod Stored
+pub mod Laid
 pub mod Changes
 pub mod Texts
 pub mod Moves
 pub mod Edits
 pub mod Good
 pub mod Listings
-pub mod Boundaries
+pub mod Standing
 pub mod Kept
 pub mod Determined

@@ -1,18 +1,18 @@
--- A good page is a program's bytes and what lies after them; and such bytes are a good page.
+-- A program's bytes: they are a good page, and give its records back; and what is known of each step along a good page.
 -- Assumes nothing.
-use Prim.Native.Nat.{ℕ, zero, suc, _+_, _-_, _*_, _/_, _%_, _≤_, _<_}
-use mathlib.Core.Path.{_≡_, refl, sym, ap, _∙_}
+use Prim.Native.Nat.{ℕ, zero, suc, _+_, _-_, _/_, _%_, _≤_, _<_}
+use mathlib.Core.Path.{_≡_, refl, ap, _∙_}
 use mathlib.Core.Bool.{Bool, true, false, _&&_, false≢true}
 use mathlib.Core.List.{List, [], _∷_, _++_, append-assoc}
 use native.Mathlib.Nat.{div-add-mod'}
 use native.Mathlib.Omega.{arith}
-use lib.ListN.{length, getD, take, drop, length-append, length-drop, take-append-drop}
-use lib.Seq.{drop-at, take-at, drop-cons, drop-drop, length-take-le, getD-drop, getD-at}
+use lib.ListN.{length, getD, take, drop, length-append}
+use lib.Seq.{drop-at, take-at, getD-at}
 use lib.Dec.{leb, eqb}
 use borrow.Author.Tests.{le-leb, leb-true, eqb-true, ne-eqb, le-ltb}
-use Rattle.nibl.specs.Page.{Stored, recordBytes, programBytes, isEnd, lineAt, lengthAt, textAt, isStorable, isRecord, goodN, isGood, recordsN, recordsOf, size, usedBy, used}
+use Rattle.nibl.specs.Page.{Stored, recordBytes, programBytes, isEnd, lineAt, lengthAt, textAt, isStorable, isRecord, goodN, isGood, recordsOf, size, usedBy}
 use Rattle.page.specs.Walk.{stopsAt, recordAt}
-use Rattle.page.proofs.Walk.{by-cases, records-some, records-none, stop, step, size-is}
+use Rattle.page.proofs.Walk.{by-cases, stop, step, size-is}
 
 -- every one is a byte, as in a slice
 abbrev pub Bytes : List ℕ → Type 0
@@ -51,7 +51,7 @@ module _ (r : Stored) (rest : List ℕ) where
   front-rest : drop (size r) (recordBytes r ++ rest) ≡ rest
   front-rest = drop-at (recordBytes r) rest (size r) (record-length r)
 
-  pub front-end : r .line ≤ 32767 → isEnd (recordBytes r ++ rest) ≡ false
+  front-end : r .line ≤ 32767 → isEnd (recordBytes r ++ rest) ≡ false
   front-end h = rw (ne-eqb (r .line / 256) 255 (λ e. omega arith))
 
   front-stop : r .line ≤ 32767 → 1 ≤ length (r .text) → stopsAt (recordBytes r ++ rest) ≡ false
@@ -67,7 +67,7 @@ module _ (r : Stored) (rest : List ℕ) where
       ∙ (λ i. front-is i ∷ recordsOf (drop ((size-is (recordBytes r ++ rest) e ∙ ap size front-is) i) (recordBytes r ++ rest)))
       ∙ ap (λ (q : List ℕ). r ∷ recordsOf q) front-rest
 
-  pub front-cr : getD (recordBytes r ++ rest) (size r - 1) 0 ≡ 13
+  front-cr : getD (recordBytes r ++ rest) (size r - 1) 0 ≡ 13
   front-cr =
       let head : List ℕ = (r .line / 256) ∷ (r .line % 256) ∷ size r ∷ r .text in
       ap (λ (l : List ℕ). getD ((r .line / 256) ∷ (r .line % 256) ∷ size r ∷ l) (size r - 1) 0) (append-assoc (r .text) (13 ∷ []) rest)
@@ -120,34 +120,11 @@ pub both : (a b : Bool) → (a && b) ≡ true → (a ≡ true) × (b ≡ true)
 both true b e = (refl, e)
 both false b e = absurd (false≢true e)
 
-end-bytes : (q : List ℕ) → isEnd q ≡ true → q ≡ 255 ∷ 255 ∷ drop 2 q
+pub end-bytes : (q : List ℕ) → isEnd q ≡ true → q ≡ 255 ∷ 255 ∷ drop 2 q
 end-bytes [] e = absurd (false≢true e)
 end-bytes (x ∷ []) e = absurd (false≢true (both (eqb x 255) false e .1))
 end-bytes (x ∷ y ∷ l) e =
     let h = both (eqb x 255) (eqb y 255) e in λ i. eqb-true x 255 (h .0) i ∷ eqb-true y 255 (h .1) i ∷ l
-
-record-bytes : (q : List ℕ) → Bytes q → 5 ≤ lengthAt q → lengthAt q ≤ length q → getD q (lengthAt q - 1) 0 ≡ 13
-    → q ≡ recordBytes (recordAt q) ++ drop (lengthAt q) q
-record-bytes [] b h l e = absurd (omega arith)
-record-bytes (x ∷ []) b h l e = absurd (omega arith)
-record-bytes (x ∷ y ∷ []) b h l e = absurd (omega arith)
-record-bytes (x ∷ y ∷ n ∷ s) b h l e =
-    let q : List ℕ = x ∷ y ∷ n ∷ s in
-    let text : List ℕ = take (n - 4) s in
-    let low : y < 256 = b 1 in
-    let m : length text ≡ n - 4 = length-take-le (n - 4) s (omega arith) in
-    let last : 3 + (n - 4) ≡ n - 1 = omega arith in
-    let past : 3 + suc (n - 4) ≡ n = omega arith in
-    let cr : getD s (n - 4) 0 ≡ 13 = getD-drop 3 q (n - 4) 0 ∙ ap (λ (i : ℕ). getD q i 0) last ∙ e in
-    let rest : drop (suc (n - 4)) s ≡ drop n q = drop-drop (suc (n - 4)) 3 q ∙ ap (λ (i : ℕ). drop i q) past in
-    let split : s ≡ (text ++ (13 ∷ [])) ++ drop n q =
-    sym (take-append-drop (n - 4) s)
-    ∙ ap (λ (r : List ℕ). text ++ r) (drop-cons s (n - 4) 0 (omega arith) ∙ (λ i. cr i ∷ rest i))
-    ∙ sym (append-assoc text (13 ∷ []) (drop n q)) in
-    let a : x ≡ (x * 256 + y) / 256 = omega arith in
-    let c : y ≡ (x * 256 + y) % 256 = omega arith in
-    let d : n ≡ length text + 4 = omega arith in
-    λ i. a i ∷ c i ∷ d i ∷ split i
 
 module _ (lim : ℕ) where
   -- what is known of a record that was found whole
@@ -167,53 +144,3 @@ module _ (lim : ℕ) where
   unfolding goodN
   good-step k low q e h =
       by-cases (isRecord lim low q) (λ f. (f, rw (e, f, goodN) at h)) (λ f. absurd (false≢true (rw (e, f, goodN) at h)))
-
-  -- the records found rise and may be stored, and the bytes are theirs
-  abbrev Whole : ℕ → ℕ → List ℕ → Type 0
-  Whole k low q = Program lim low (recordsN k q) × (q ≡ programBytes (recordsN k q) ++ drop (usedBy (recordsN k q)) q)
-
-  good-whole : (k low : ℕ) (q : List ℕ) → Bytes q → goodN lim k low q ≡ true → Whole k low q
-  unfolding goodN
-  good-whole zero low q b h = absurd (false≢true h)
-  good-whole (suc k) low q b h = by-cases (isEnd q) at-end (λ e. found e (good-step k low q e h) (λ c g. good-whole k (suc (lineAt q)) (drop (lengthAt q) q) c g))
-    where
-      at-end : isEnd q ≡ true → Whole (suc k) low q
-      at-end e = rw (records-none (suc k) q (rw e)) (none, end-bytes q e)
-
-      found : isEnd q ≡ false → (isRecord lim low q ≡ true) × (goodN lim k (suc (lineAt q)) (drop (lengthAt q) q) ≡ true)
-          → (Bytes (drop (lengthAt q) q) → goodN lim k (suc (lineAt q)) (drop (lengthAt q) q) ≡ true → Whole k (suc (lineAt q)) (drop (lengthAt q) q))
-          → Whole (suc k) low q
-      found e g more =
-          let know = record-known low q (g .0) in
-          let whole = know .1 .1 .1 .0 in
-          let five = know .1 .1 .0 in
-          let L : ℕ = lengthAt q in
-          let byte : L < 256 = b 2 in
-          let rs : List Stored = recordsN k (drop L q) in
-          let rec = more (λ i. rw (getD-drop L q i 0) (b (L + i))) (g .1) in
-          let stopless : stopsAt q ≡ false = rw (e, le-ltb L 5 (omega arith)) in
-          let long : length (textAt q) ≡ L - 4 = length-take-le (L - 4) (drop 3 q) (omega (arith, length-drop 3 q)) in
-          let past : L + usedBy rs ≡ length (textAt q) + 4 + usedBy rs = omega arith in
-          rw (records-some k q stopless) (
-            each {r = recordAt q} (know .0) (record { number = know .1 .0; some = omega arith; short = omega arith; text = know .1 .1 .1 .1 .1 }) (rec .0),
-            record-bytes q b five whole (know .1 .1 .1 .1 .0)
-                ∙ ap (λ (l : List ℕ). recordBytes (recordAt q) ++ l)
-                (rec .1 ∙ ap (λ (l : List ℕ). programBytes rs ++ l) (drop-drop (usedBy rs) L q ∙ ap (λ (n : ℕ). drop n q) past))
-                ∙ sym (append-assoc (recordBytes (recordAt q)) (programBytes rs) _),
-          )
-
-  module _ (page : List ℕ) (bytes : Bytes page) (good : isGood lim page ≡ true) where
-    -- a good page's records rise and may be stored
-    pub good-program : Program lim 0 (recordsOf page)
-    unfolding isGood recordsOf
-    good-program = good-whole (suc (length page)) 0 page bytes good .0
-
-    -- its bytes are those of its records, and what lies after them
-    pub good-bytes : page ≡ programBytes (recordsOf page) ++ drop (used page) page
-    unfolding isGood recordsOf used
-    good-bytes = good-whole (suc (length page)) 0 page bytes good .1
-
-    pub good-fits : used page ≤ length page
-    unfolding used
-    good-fits =
-        omega (arith, ap length good-bytes ∙ length-append (programBytes (recordsOf page)) (drop (used page) page), program-length (recordsOf page))

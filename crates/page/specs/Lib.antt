@@ -1,3 +1,4 @@
 pub mod Walk
 pub mod Edits
 pub mod Listing
+pub mod Standing

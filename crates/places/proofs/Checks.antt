@@ -3,10 +3,10 @@
 -- Assumes nothing.
 use Prim.Native.Nat.{ℕ, zero, suc, _+_, _-_, _≤_, _<_}
 use mathlib.Core.Path.{_≡_, refl, sym, ap, _∙_}
-use mathlib.Core.Bool.{Bool, true, false, not, _&&_, and-true, and-false}
+use mathlib.Core.Bool.{Bool, true, false, not, and-true, and-false}
 use mathlib.Core.List.{List, [], _∷_}
 use native.Mathlib.Omega.{arith}
-use lib.ListN.{length, getD, take, drop, length-take, length-drop}
+use lib.ListN.{length, getD, take, drop, length-drop}
 use lib.Seq.{getD-drop, drop-drop}
 use lib.Dec.{leb}
 use borrow.Author.Tests.{le-leb, lt-leb, eq-eqb, ne-eqb, leb-true, leb-false, eqb-true}
@@ -54,9 +54,6 @@ module _ (p : List ℕ) (at : ℕ) where
   text-is n h =
       let e : at + 3 + n - (at + 3) ≡ lengthAt (drop at p) - 4 = omega arith in
       λ i. take (e i) (sym (drop-drop 3 at p) i)
-
-pub text-short : (q : List ℕ) → lengthAt q < 256 → length (textAt q) ≤ 251
-text-short q h = omega (arith, length-take (lengthAt q - 4) (drop 3 q))
 
 -- a whole record
 module _ (q : List ℕ) where

@@ -3,7 +3,7 @@
 use Prim.Native.Nat.{ℕ, _+_, _-_, _≤_, _<_}
 use mathlib.Core.Path.{_≡_, refl, ap, _∙_}
 use mathlib.Core.Bool.{Bool, false, _||_, or-false}
-use mathlib.Core.List.{List, [], _∷_, _++_}
+use mathlib.Core.List.{List, [], _∷_}
 use mathlib.Core.Option.{Option, none, some}
 use native.Mathlib.Omega.{arith}
 use lib.ListN.{length}
@@ -13,10 +13,7 @@ use Rattle.nibl.specs.Tree.{Member}
 use Rattle.nibl.specs.Read.{reading}
 use Rattle.nibl.specs.Page.{Stored, size, endsFrom, endsOf, placesIn, isAmong}
 use Rattle.page.proofs.Walk.{by-cases}
-
-among-append : (xs ys : List ℕ) (p : ℕ) → isAmong (xs ++ ys) p ≡ (isAmong xs p || isAmong ys p)
-among-append [] ys p = refl
-among-append (x ∷ xs) ys p = by-cases (eqb p x) (λ e. rw e) (λ e. rw e (among-append xs ys p))
+use Rattle.page.proofs.Standing.{among-append}
 
 -- the ends of a text's members lie from its first byte to its end
 ends-apart : (at n : ℕ) (o : Option (List Member)) (p : ℕ) → ((k : ℕ) → k ≤ n → p ≡ at + k → ⊥) → isAmong (endsOf at n o) p ≡ false

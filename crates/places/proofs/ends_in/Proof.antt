@@ -9,7 +9,8 @@ use Rattle.nibl.specs.Read.{reading}
 use Rattle.nibl.specs.Page.{textAt, endsOf, isAmong}
 use Rattle.page.proofs.Walk.{Met, met}
 use Rattle.page.proofs.Listings.{text-part}
-use Rattle.places.proofs.Checks.{byte-length, text-short}
+use Rattle.page.proofs.Laid.{text-room}
+use Rattle.places.proofs.Checks.{byte-length}
 use Rattle.places.proofs.Places.{ends-below, ends-shift}
 use Rattle.places.proofs.ends_in.Statement.{statement}
 use Rattle.places.proofs.ends_in.Tie as tie
@@ -48,7 +49,7 @@ ends-at-requires c κs =
     let m = here (c .before .before .before .before) in
     let l = m .long in
     let byte = c .before .before .before .shared-slice-known .given (a .at + 2) in
-    let short = text-short (drop (a .at) (a .page .now)) (omega (arith, byte-length (a .page .now) (a .at))) in
+    let short = text-room (drop (a .at) (a .page .now)) (omega (arith, byte-length (a .page .now) (a .at))) in
     let e = ap length (text-part (a .page .now) (a .at) (a .size) m) in
     record { room = omega arith; short = omega arith }
 
