@@ -39,7 +39,7 @@ fn lowered(room: usize, depth: usize) -> usize
     ensures { λ r. ⌜ r ≡ onTop room depth depth (depth - 1) ⌝ }
 {
     if depth < 1 {
-        return depth;
+        return 0;
     }
     if room < depth {
         return depth;

@@ -1,5 +1,4 @@
--- The ways an edit ends, for the functions that make it; and that on a good page it is the definition's.
--- Assumes nothing.
+-- The ways an edit ends, for the functions that make it. Assumes nothing.
 use Prim.Native.Nat.{ℕ, _+_, _-_, _≤_, _<_}
 use mathlib.Core.Path.{_≡_, sym}
 use mathlib.Core.Bool.{false}

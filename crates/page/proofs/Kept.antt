@@ -171,7 +171,7 @@ pub find-record : (page : List ℕ) (n q : ℕ) → find page n ≡ some q → L
 unfolding find
 find-record page n q e = found (suc (length page)) page n 0 q (omega arith) e
 
--- on a page as long as a call's, every line has a place
+-- on a page as long as a call's, every line stands at the program's start or after a place
 pub reached-all : (page : List ℕ) (n : ℕ) → length page ≤ 65535 → reached (find page n) ≡ find page n
 reached-all page n h = go (find page n) (λ q e. find-record page n q e)
   where

@@ -13,7 +13,7 @@ use borrow.Author.Tests.{ltb-true, ltb-false, leb-true, leb-false, le-leb, lt-le
 use Rattle.nibl.specs.Page.{Stored, isEnd, lengthAt, recordsN, recordsOf, size}
 use Rattle.page.specs.Walk.{stopsAt, recordAt, sizeAt, cut}
 
--- a test that is neither holds in neither way
+-- a test holds or fails: what follows in both cases is so
 pub by-cases : {P : Type 0} (t : Bool) → (t ≡ true → P) → (t ≡ false → P) → P
 by-cases true f g = f refl
 by-cases false f g = g refl

@@ -1,4 +1,4 @@
--- What an edit does to a page's bytes, whatever they are. On a good page it is the definition's (proofs/Edits.antt).
+-- What an edit does to a page's bytes, whatever they are. On a good page it is the definition's (proofs/Good.antt).
 use Prim.Native.Nat.{ℕ, _+_, _-_, _≤_}
 use mathlib.Core.Path.{_≡_}
 use mathlib.Core.Bool.{Bool, _&&_}

@@ -370,13 +370,12 @@ fn put_record(s: &mut [u8], number: LineNumber, text: &[u8])
     s[3 + n] = 13;
 }
 
-// On the page from a seat on: `gone` bytes go, of the `top` that are in use, and a record comes.
-fn put_in(s: &mut [u8], gone: usize, top: usize, number: LineNumber, text: &[u8])
-    requires { ⌜ (gone ≤ top) × ((top ≤ length (now s)) × ((length (now text) + 4 ≤ 255) × (length (now text) + 4 + (top - gone) ≤ length (now s)))) ⌝ }
-    ensures { λ _. ⌜ now (s .exit) ≡ spliced (now (s .entry)) 0 gone top (recordBytes (record { line = number .0; text = now (text .entry) })) ⌝ }
+// On the page from a seat on: `gone` bytes go, a record comes, and the `rest` behind them moves.
+fn put_in(s: &mut [u8], gone: usize, rest: usize, number: LineNumber, text: &[u8])
+    requires { ⌜ (gone + rest ≤ length (now s)) × ((length (now text) + 4 ≤ 255) × (length (now text) + 4 + rest ≤ length (now s))) ⌝ }
+    ensures { λ _. ⌜ now (s .exit) ≡ spliced (now (s .entry)) 0 gone (gone + rest) (recordBytes (record { line = number .0; text = now (text .entry) })) ⌝ }
 {
     let size = text.len() + 4;
-    let rest = top - gone;
     shift(s, gone, size, rest);
     put_record(s, number, text);
 }
@@ -397,11 +396,12 @@ pub fn store_line(page: &mut [u8], number: LineNumber, text: &[u8]) -> Edited
     if 255 < size {
         return Edited::NoRoom;
     }
-    if room < top - gone + size {
-        return Edited::NoRoom;
+    let kept = top - gone;
+    if kept + size <= room {
+        put_in(&mut page[at..], gone, kept - at, number, text);
+        return Edited::Done;
     }
-    put_in(&mut page[at..], gone, top - at, number, text);
-    Edited::Done
+    Edited::NoRoom
 }
 
 // The record of a line goes.

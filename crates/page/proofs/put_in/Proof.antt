@@ -1,7 +1,7 @@
 -- `put_in` meets its contract: the rest moves out of the way, then the record comes. Assumes nothing.
 use Prim.Native.Nat.{ℕ, _+_, _-_}
 use mathlib.Core.List.{List, _++_}
-use mathlib.Core.Path.{sym, ap, _∙_}
+use mathlib.Core.Path.{_≡_, sym, ap, _∙_}
 use native.Mathlib.Omega.{arith}
 use lib.ListN.{length, take, drop}
 use borrow.Author.Needs.{needs}
@@ -13,9 +13,6 @@ use Rattle.page.proofs.put_in.Tie as tie
 
 add-size : tie.Need-add-size
 add-size c = search needs
-
-sub-rest : tie.Need-sub-rest
-sub-rest c = search needs
 
 shift-requires : tie.Need-shift-requires
 shift-requires c κs = search needs
@@ -32,13 +29,14 @@ returns c =
     let s = a .s .now in
     let t = a .text .now in
     let r : Stored = record { line = a .number .0; text = t } in
-    let n : ℕ = a .top - a .gone in
+    let n : ℕ = a .rest in
+    let e : n ≡ a .gone + n - a .gone = omega arith in
     c .before .before .put-record .ensures
     ∙ ap (λ (l : List ℕ). recordBytes r ++ l)
     (ap (drop (length t + 4)) (c .before .before .before .before .before .before .shift .ensures) ∙ drop-pasted s (drop (a .gone) s) (length t + 4) n (omega arith))
-    ∙ ap (λ (k : ℕ). recordBytes r ++ (take n (drop (a .gone) s) ++ drop (k + n) s)) (sym (record-length r))
-    ∙ front-spliced s (recordBytes r) (a .gone) (a .top)
+    ∙ (λ i. recordBytes r ++ (take (e i) (drop (a .gone) s) ++ drop (sym (record-length r) i + e i) s))
+    ∙ front-spliced s (recordBytes r) (a .gone) (a .gone + n)
 
 pub put-in-spec : {M : Type 1} → statement M
 put-in-spec =
-    tie.close (tie.spec add-size sub-rest shift-requires put-record-requires same-length returns)
+    tie.close (tie.spec add-size shift-requires put-record-requires same-length returns)

@@ -1,8 +1,9 @@
 -- `store_line` meets its contract: the three refusals leave the page; else the part from the seat on is edited, which is an edit of the page. Assumes nothing.
 use Prim.Native.Nat.{_≤_, ℕ, _-_, _+_}
-use mathlib.Core.List.{List}
+use mathlib.Core.List.{List, _++_}
 use mathlib.Core.Path.{_≡_, ap, _∙_}
 use native.Mathlib.Omega.{arith}
+use lib.ListN.{length, take, drop}
 use borrow.Author.Needs.{needs}
 use Rattle.nibl.specs.Page.{Stored, recordBytes, used}
 use Rattle.page.specs.Edits.{spliced, changed}
@@ -15,6 +16,13 @@ use Rattle.page.proofs.store_line.Tie as tie
 -- the used bytes of the whole page, which the walk from the seat on gives
 known : (c : tie.After-used-from) → (c .used-from .result ≡ used (c .before .before .before .before .before .before .args .page .now)) × (c .before .before .find-seat .result .at + c .before .before .find-seat .result .gone + 2 ≤ used (c .before .before .before .before .before .before .args .page .now))
 known c = let h = c .before .before .find-seat .ensures in (c .used-from .ensures ∙ h .rest, seat-room h)
+
+-- an edit of the part from the seat on, by the number of bytes that stay behind it, is one of the page
+part-kept : (p r last : List ℕ) (at gone top : ℕ) → at ≤ length p → at + gone ≤ top
+    → last ≡ spliced (take (length p - at) (drop at p)) 0 gone (gone + (top - gone - at)) r → take at p ++ (last ++ drop (length p - at) (drop at p)) ≡ spliced p at gone top r
+part-kept p r last at gone top h k e =
+    let f : gone + (top - gone - at) ≡ top - at = omega arith in
+    part-spliced p r last at gone top h (e ∙ ap (λ (n : ℕ). spliced (take (length p - at) (drop at p)) 0 gone n r) f)
 
 find-seat-requires : tie.Need-find-seat-requires
 find-seat-requires c κs = search needs
@@ -45,21 +53,11 @@ returns-2 c =
     let k = known (c .before .before) in
     store-long h (a .text .now) (omega arith) (c .if2 .taken)
 
-sub-if3 : tie.Need-sub-if3
-sub-if3 c = let k = known (c .before .before) in omega arith
+sub-kept : tie.Need-sub-kept
+sub-kept c = let k = known (c .before .before) in omega arith
 
 add-if3 : tie.Need-add-if3
 add-if3 c = search needs
-
-same-length-3 : tie.Need-same-length-3
-same-length-3 c = search needs
-
-returns-3 : tie.Need-returns-3
-returns-3 c =
-    let a = c .before .before .before .before .before .before .before .before .before .args in
-    let h = c .before .before .before .before .before .find-seat .ensures in
-    let k = known (c .before .before .before) in
-    store-full h (a .text .now) (omega arith) (omega arith) (omega arith)
 
 sub-put-in : tie.Need-sub-put-in
 sub-put-in c = search needs
@@ -71,16 +69,16 @@ part-put-in-end : tie.Need-part-put-in-end
 part-put-in-end c = search needs
 
 sub-put-in-2 : tie.Need-sub-put-in-2
-sub-put-in-2 c = search needs
+sub-put-in-2 c = let k = known (c .before .before .before .before) in omega arith
 
 put-in-requires : tie.Need-put-in-requires
 put-in-requires c κs = let k = known (c .before .before .before .before) in omega arith
 
-same-length-4 : tie.Need-same-length-4
-same-length-4 c = search needs
+same-length-3 : tie.Need-same-length-3
+same-length-3 c = search needs
 
-returns-4 : tie.Need-returns-4
-returns-4 c =
+returns-3 : tie.Need-returns-3
+returns-3 c =
     let a = c .before .before .before .before .before .before .before .before .before .before .before .before .before .args in
     let h = c .before .before .before .before .before .before .before .before .before .find-seat .ensures in
     let k = known (c .before .before .before .before .before .before .before) in
@@ -88,9 +86,19 @@ returns-4 c =
     let r : Stored = record { line = a .number .0; text = a .text .now } in
     let x = c .before .before .before .before .before .before .before .used-from .result in
     ap (λ (q : List ℕ). changed q edited.Done)
-    (part-spliced (a .page .now) (recordBytes r) (c .before .before .put-in .last .0) (s .at) (s .gone) x (omega arith) (c .before .before .put-in .ensures)
+    (part-kept (a .page .now) (recordBytes r) (c .before .before .put-in .last .0) (s .at) (s .gone) x (omega arith) (omega arith) (c .before .before .put-in .ensures)
     ∙ ap (λ (n : ℕ). spliced (a .page .now) (s .at) (s .gone) n (recordBytes r)) (k .0))
     ∙ store-done h (a .text .now) (omega arith) (omega arith) (omega arith)
+
+same-length-4 : tie.Need-same-length-4
+same-length-4 c = search needs
+
+returns-4 : tie.Need-returns-4
+returns-4 c =
+    let a = c .before .before .before .before .before .before .before .before .before .args in
+    let h = c .before .before .before .before .before .find-seat .ensures in
+    let k = known (c .before .before .before) in
+    store-full h (a .text .now) (omega arith) (omega arith) (omega arith)
 
 pub store-line-spec : {M : Type 1} → statement M
 store-line-spec =
@@ -103,14 +111,14 @@ store-line-spec =
     add-size
     same-length-2
     returns-2
-    sub-if3
+    sub-kept
     add-if3
-    same-length-3
-    returns-3
     sub-put-in
     part-put-in-start
     part-put-in-end
     sub-put-in-2
     put-in-requires
+    same-length-3
+    returns-3
     same-length-4
     returns-4)
