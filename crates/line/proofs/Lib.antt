@@ -3,3 +3,4 @@ pub mod Codes
 pub mod Lists
 pub mod Lines
 pub mod Replies
+pub mod InTurn

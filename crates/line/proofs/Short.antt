@@ -80,7 +80,7 @@ mutual
   sum-short (lessTerm {a} k t) = omega (arith, word-short k, term-short t, after (values a) [] (op 6 0))
   sum-short (terms {o} {a} {b} u j t) = omega (arith, sum-short u, joint-short j, term-short t, after-two (values a) (values b) (op 8 (opNumber o)))
 
-  relation-short : {s t : List ℕ} {a : Expr} → Relation W s a t → Short (values a) s t
+  pub relation-short : {s t : List ℕ} {a : Expr} → Relation W s a t → Short (values a) s t
   relation-short (aSum u) = sum-short u
   relation-short (related {o} {a} {b} u j v) = omega (arith, sum-short u, joint-short j, sum-short v, after-two (values a) (values b) (op 8 (opNumber o)))
 

@@ -34,6 +34,10 @@ pub record Seated (page : List ℕ) (n : ℕ) (s : Seat) : Type 0 where
 abbrev pub moved : List ℕ → ℕ → ℕ → ℕ → List ℕ
 moved p from to n = paste p to (drop from p) n
 
+-- the bytes and their new place are all in the slice
+abbrev pub canMove : List ℕ → ℕ → ℕ → ℕ → Bool
+canMove p from to n = leb (from + n) (length p) && leb (to + n) (length p)
+
 -- of the `top` bytes in use the `gone` at `at` are replaced by new ones; what lies after the new end is as it was
 abbrev pub spliced : List ℕ → ℕ → ℕ → ℕ → List ℕ → List ℕ
 spliced p at gone top new =

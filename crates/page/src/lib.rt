@@ -8,11 +8,12 @@ ghost use lib.Dec.{leb, eqb};
 ghost use mathlib.Core.Path.{_≡_};
 ghost use lib.ListN.{length, getD, drop};
 ghost use lib.Seq.{paste};
+ghost use Rattle.nibl.specs.Bytes.{if_then_else_};
 ghost use Rattle.nibl.specs.Page.{recordBytes, isEnd, find, lineAt, lengthAt, lineOf, used, usedBy, recordsOf};
 ghost use Rattle.nibl.specs.Calls.{lineFrom, textFrom, listed};
 ghost use Rattle.nibl.specs.Values.{digits};
 ghost use Rattle.value.specs.Writes.{Writes};
-ghost use Rattle.page.specs.Edits.{Seated, moved, spliced, changed, storeOf, deleteOf, newOf};
+ghost use Rattle.page.specs.Edits.{Seated, moved, canMove, spliced, changed, storeOf, deleteOf, newOf};
 ghost use Rattle.page.specs.Listing.{shown, listing, Here};
 ghost use Rattle.page.specs.Walk.{stopsAt, sizeAt, recordAt, cut, positionOf, reached, beginOf, textOf};
 use nibl::LineNumber;
@@ -342,6 +343,25 @@ fn shift(s: &mut [u8], from: usize, to: usize, n: usize)
     } else {
         move_right(s, from, to, n);
     }
+}
+
+// Bytes go to another place of a slice, as if they were taken whole first. False: they, or their new place, are not all in it, and nothing is changed.
+pub fn move_bytes(s: &mut [u8], from: usize, to: usize, n: usize) -> bool
+    ensures { λ r. ⌜ r ≡ canMove (now (s .entry)) from to n ⌝ }
+    ensures { λ r. ⌜ now (s .exit) ≡ (if canMove (now (s .entry)) from to n then moved (now (s .entry)) from to n else now (s .entry)) ⌝ }
+{
+    let room = s.len();
+    if room < n {
+        return false;
+    }
+    if room - n < from {
+        return false;
+    }
+    if room - n < to {
+        return false;
+    }
+    shift(s, from, to, n);
+    true
 }
 
 // A text goes into a slice at a position.

@@ -1,0 +1,21 @@
+-- `var_of` meets its contract: past the last one a list gives 0. Assumes nothing.
+use lib.ListN.{List·getD-eq-default}
+use mathlib.Core.Path.{sym}
+use borrow.Author.Needs.{needs}
+use Rattle.control.proofs.var_of.Statement.{statement}
+use Rattle.control.proofs.var_of.Tie as tie
+
+mul-result : tie.Need-mul-result
+mul-result c = search needs
+
+shared-slice-read-result : tie.Need-shared-slice-read-result
+shared-slice-read-result c = search needs
+
+returns : tie.Need-returns
+returns c = search needs
+
+returns-2 : tie.Need-returns-2
+returns-2 c = sym (List·getD-eq-default (c .before .args .vars .now) 0 (c .if1 .left))
+
+pub var-of-spec : {M : Type 1} → statement M
+var-of-spec = tie.close (tie.spec mul-result shared-slice-read-result returns returns-2)

@@ -1,0 +1,3 @@
+pub mod Stacks
+pub mod Replies
+pub mod Meaning
