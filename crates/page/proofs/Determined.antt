@@ -1,11 +1,13 @@
 -- One outcome: two answers that meet a public function's promise for the same arguments are equal, and so are all lent bytes. Assumes nothing.
 use Prim.Native.Nat.{ℕ, suc}
-use mathlib.Core.Path.{_≡_, refl}
+use mathlib.Core.Path.{_≡_, refl, sym, ap, _∙_}
 use mathlib.Core.Bool.{Bool}
 use mathlib.Core.List.{List}
 use lib.ListN.{length, drop}
+use lib.Dec.{eqb}
 use native.Mathlib.Omega.{arith}
 use Rattle.nibl.proofs.Determined.{determined}
+use Rattle.nibl.specs.Bytes.{if_then_else_}
 use Rattle.nibl.specs.declared.LineNumber.{LineNumber}
 use Rattle.nibl.specs.Page.{isEnd, lineAt, recordsOf, find, lineOf, used}
 use Rattle.nibl.specs.Values.{digits}
@@ -16,10 +18,12 @@ use Rattle.page.specs.declared.Begins.{Begins}
 use Rattle.page.specs.declared.Begins.the-variants as begins
 use Rattle.page.specs.declared.Where.{Where}
 use Rattle.page.specs.declared.Edited.{Edited}
+use Rattle.page.specs.declared.Edited.the-variants as edited
 use Rattle.page.specs.declared.Listed.{Listed}
+use Rattle.page.specs.declared.Listed.the-variants as lines
 use Rattle.page.specs.Walk.{sizeAt, positionOf, reached, beginOf, textOf}
 use Rattle.page.specs.Edits.{Changed, changed, storeOf, deleteOf, newOf}
-use Rattle.page.specs.Listing.{shown, listing}
+use Rattle.page.specs.Listing.{Shown, shown, listing}
 
 pub end-determined : (page : List ℕ) (at : ℕ) (a b : Bool) → a ≡ isEnd (drop at page) → b ≡ isEnd (drop at page) → a ≡ b
 end-determined page at = determined (isEnd (drop at page))
@@ -65,9 +69,26 @@ begin-same (begins.At a) begins.Nowhere e = let z : _≡_ {A = ℕ} 0 1 = cc in 
 pub begin-determined : (page : List ℕ) (q : ℕ) (r s : Begins) → beginOf r ≡ textFrom page q → beginOf s ≡ textFrom page q → r ≡ s
 begin-determined page q r s a b = begin-same r s (determined (textFrom page q) (beginOf r) (beginOf s) a b)
 
+-- an answer of an edit, from what it says
+answerOf : Changed → Edited
+answerOf c = if c .edits then edited.Done else if eqb (c .stop) 0 then edited.Absent else edited.NoRoom
+
+answer-is : (p : List ℕ) (a : Edited) → answerOf (changed p a) ≡ a
+unfolding answerOf
+answer-is p edited.Done = refl
+answer-is p edited.NoRoom = refl
+answer-is p edited.Absent = refl
+
+page-is : (p : List ℕ) (a : Edited) → changed p a .page ≡ p
+page-is p edited.Done = refl
+page-is p edited.NoRoom = refl
+page-is p edited.Absent = refl
+
 -- a page and an answer
 pub changed-determined : (c : Changed) (p q : List ℕ) (a b : Edited) → changed p a ≡ c → changed q b ≡ c → (p ≡ q) × (a ≡ b)
-changed-determined c p q a b u v = let e = determined c (changed p a) (changed q b) u v in (λ i. e i .page, λ i. e i .answer)
+changed-determined c p q a b u v =
+    let e = determined c (changed p a) (changed q b) u v in
+    (sym (page-is p a) ∙ (λ i. e i .page) ∙ page-is q b, sym (answer-is p a) ∙ ap answerOf e ∙ answer-is q b)
 
 pub store-determined : (page : List ℕ) (n : ℕ) (t p q : List ℕ) (a b : Edited) → changed p a ≡ storeOf page n t → changed q b ≡ storeOf page n t → (p ≡ q) × (a ≡ b)
 store-determined page n t = changed-determined (storeOf page n t)
@@ -78,7 +99,21 @@ delete-determined page n = changed-determined (deleteOf page n)
 pub new-determined : (page p q : List ℕ) (a b : Edited) → changed p a ≡ newOf page → changed q b ≡ newOf page → (p ≡ q) × (a ≡ b)
 new-determined page = changed-determined (newOf page)
 
+-- an answer of a listing, from what it says
+listedOf : Shown → Listed
+listedOf s = if eqb (s .stop) 0 then lines.All (s .at) else lines.Full (s .at)
+
+listed-is : (o : List ℕ) (a : Listed) → listedOf (shown o a) ≡ a
+unfolding listedOf
+listed-is o (lines.All p) = refl
+listed-is o (lines.Full p) = refl
+
+output-is : (o : List ℕ) (a : Listed) → shown o a .output ≡ o
+output-is o (lines.All p) = refl
+output-is o (lines.Full p) = refl
+
 pub list-determined : (page : List ℕ) (n : ℕ) (out : List ℕ) (at : ℕ) (p q : List ℕ) (a b : Listed)
     → shown p a ≡ listing n (recordsOf page) out at → shown q b ≡ listing n (recordsOf page) out at → (p ≡ q) × (a ≡ b)
 list-determined page n out at p q a b u v =
-    let e = determined (listing n (recordsOf page) out at) (shown p a) (shown q b) u v in (λ i. e i .output, λ i. e i .answer)
+    let e = determined (listing n (recordsOf page) out at) (shown p a) (shown q b) u v in
+    (sym (output-is p a) ∙ (λ i. e i .output) ∙ output-is q b, sym (listed-is p a) ∙ ap listedOf e ∙ listed-is q b)

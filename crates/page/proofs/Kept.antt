@@ -121,10 +121,10 @@ new-bytes page b = if-split (λ (c : Changed). Bytes (c .page)) (leb 2 (length p
 
 -- An edit that is refused, or finds nothing to do, leaves the page as it was
 abbrev Untouched : List ℕ → Changed → Type 0
-Untouched page c = (c .answer ≡ edited.Done → ⊥) → c .page ≡ page
+Untouched page c = c .edits ≡ false → c .page ≡ page
 
 undone : (page p : List ℕ) → Untouched page (changed p edited.Done)
-undone page p n = absurd (n refl)
+undone page p e = let z : _≡_ {A = ℕ} 0 1 = cc in absurd (omega arith)
 
 module _ (page : List ℕ) where
   pub store-untouched : (n : ℕ) (t : List ℕ) → Untouched page (storeOf page n t)
@@ -142,8 +142,10 @@ module _ (page : List ℕ) where
   unfolding newOf
   new-untouched = if-split (Untouched page) (leb 2 (length page)) (λ e. undone page _) (λ e f. refl)
 
-  pub no-room-untouched : (n : ℕ) (t : List ℕ) → storeOf page n t .answer ≡ edited.NoRoom → storeOf page n t .page ≡ page
-  no-room-untouched n t e = store-untouched n t (λ f. let z : _≡_ {A = ℕ} 0 1 = cc in omega arith)
+  pub no-room-untouched : (n : ℕ) (t : List ℕ) → storeOf page n t .stop ≡ 2 → storeOf page n t .page ≡ page
+  unfolding storeOf
+  no-room-untouched n t =
+      if-split (λ (c : Changed). c .stop ≡ 2 → c .page ≡ page) (canStore page (seatOf page n) (length t + 4)) (λ e f. absurd (omega arith)) (λ e f. refl)
 
 -- a record of line n stands at q
 pub record LineRecord (page : List ℕ) (n q : ℕ) : Type 0 where

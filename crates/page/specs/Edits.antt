@@ -1,7 +1,7 @@
 -- What an edit does to a page's bytes, whatever they are. On a good page it is the definition's (proofs/Good.antt).
 use Prim.Native.Nat.{ℕ, _+_, _-_, _≤_}
 use mathlib.Core.Path.{_≡_}
-use mathlib.Core.Bool.{Bool, _&&_}
+use mathlib.Core.Bool.{Bool, true, false, _&&_}
 use mathlib.Core.List.{List, [], _∷_, _++_}
 use lib.ListN.{length, take, drop}
 use lib.Seq.{paste}
@@ -43,13 +43,17 @@ abbrev pub spliced : List ℕ → ℕ → ℕ → ℕ → List ℕ → List ℕ
 spliced p at gone top new =
     take at p ++ (new ++ (take (top - (at + gone)) (drop (at + gone) p) ++ drop (at + length new + (top - (at + gone))) p))
 
--- a page after an edit, and the answer
+-- a page after an edit, the stop number, and whether the page was edited, which clears the stacks
 pub record Changed : Type 0 where
   pub page : List ℕ
-  pub answer : Edited
+  pub stop : ℕ
+  pub edits : Bool
 
+-- what each answer says
 abbrev pub changed : List ℕ → Edited → Changed
-changed p a = record { page = p; answer = a }
+changed p edited.Done = record { page = p; stop = 0; edits = true }
+changed p edited.NoRoom = record { page = p; stop = 2; edits = false }
+changed p edited.Absent = record { page = p; stop = 0; edits = false }
 
 -- the new record fits where the old one's room counts as free. A page that ends before its end mark has no room
 abbrev pub canStore : List ℕ → Seat → ℕ → Bool
@@ -71,11 +75,8 @@ deleteOf page n =
 unfoldable pub newOf : List ℕ → Changed
 newOf page = if leb 2 (length page) then changed (onto page []) edited.Done else changed page edited.NoRoom
 
--- What an edit's answer says: its stop, and that the stacks are cleared
+-- the call that ends with an edit
 abbrev pub outcomeOf : World → Changed → Outcome
 outcomeOf w c =
-    elim (c .answer) [
-      | edited.Done ↦ stops 0 (withSession w (clearStacks (w .session))) (c .page)
-      | edited.NoRoom ↦ stops 2 w (c .page)
-      | edited.Absent ↦ stops 0 w (c .page)
-    ]
+    if c .edits then stops (c .stop) (withSession w (clearStacks (w .session))) (c .page)
+    else stops (c .stop) w (c .page)
