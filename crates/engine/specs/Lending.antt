@@ -1,0 +1,38 @@
+-- What must hold of what is lent to a statement, and what is done with a reply.
+use Prim.Native.Nat.{ℕ, _≤_, _<_}
+use mathlib.Core.Bool.{Bool, true, false}
+use mathlib.Core.List.{List}
+use lib.ListN.{length}
+use Rattle.nibl.specs.Page.{used}
+use Rattle.nibl.specs.Read.{replied}
+use Rattle.nibl.specs.Meaning.{World, Done}
+use Rattle.control.specs.declared.Way.{Way}
+use Rattle.control.specs.declared.Way.the-variants as way
+use Rattle.work.specs.Stacks.{sees, assigning, assignedIn}
+
+abbrev pub isOn : Way → Bool
+isOn way.On = true
+isOn way.Skip = false
+isOn (way.Go q) = false
+isOn (way.Stop n) = false
+
+-- what is lent holds to: a page whose places and used bytes are 16-bit numbers; room for a statement's values, and for a
+-- reply, its operations and their values
+pub record Fair (page ops st line rops : List ℕ) : Type 0 where
+  pub places : length page ≤ 65535
+  pub top : used page < 65536
+  pub stack : length ops ≤ length st
+  pub reply : length line ≤ length rops
+  pub replies : length rops ≤ length st
+  pub short : length line ≤ 65535
+
+-- the operations of an immediate statement
+pub record Lends (page ops : List ℕ) : Type 0 where
+  pub places : length page ≤ 65535
+  pub top : used page < 65536
+  pub room : length ops ≤ 256
+
+-- the relations of a reply for n variables
+abbrev pub takesReply : ℕ → List ℕ → List ℕ → ℕ → World → List ℕ → Done
+takesReply sense page vs n w bs =
+    assignedIn w (assigning (sees (w .session .vars) (w .session .flags) sense page (w .memory)) vs (replied n bs))
