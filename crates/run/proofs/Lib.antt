@@ -1,0 +1,5 @@
+pub mod Tallies
+pub mod Onwards
+pub mod Members
+pub mod Turns
+pub mod Starts
