@@ -213,6 +213,7 @@ fn input_text(
 }
 
 // An operation that changes the world: x is the value on top, y and z lie below it.
+// The last arm is END, code 38: of the codes that come here, no reading writes another besides those above.
 pub fn effect(
     code: u32,
     arg: u32,

@@ -22,7 +22,7 @@ use Rattle.page.specs.declared.Edited.the-variants as edited
 use Rattle.page.specs.declared.Listed.{Listed}
 use Rattle.page.specs.declared.Listed.the-variants as lines
 use Rattle.page.specs.Walk.{sizeAt, positionOf, reached, beginOf, textOf}
-use Rattle.page.specs.Edits.{Changed, changed, storeOf, deleteOf, newOf}
+use Rattle.page.specs.Edits.{Changed, changed, moved, canMove, storeOf, deleteOf, newOf}
 use Rattle.page.specs.Listing.{Shown, shown, listing}
 
 pub end-determined : (page : List ℕ) (at : ℕ) (a b : Bool) → a ≡ isEnd (drop at page) → b ≡ isEnd (drop at page) → a ≡ b
@@ -98,6 +98,13 @@ delete-determined page n = changed-determined (deleteOf page n)
 
 pub new-determined : (page p q : List ℕ) (a b : Edited) → changed p a ≡ newOf page → changed q b ≡ newOf page → (p ≡ q) × (a ≡ b)
 new-determined page = changed-determined (newOf page)
+
+abbrev after-move : List ℕ → ℕ → ℕ → ℕ → List ℕ
+after-move s from to n = if canMove s from to n then moved s from to n else s
+
+pub move-determined : (s : List ℕ) (from to n : ℕ) (p q : List ℕ) (a b : Bool)
+    → a ≡ canMove s from to n → p ≡ after-move s from to n → b ≡ canMove s from to n → q ≡ after-move s from to n → (p ≡ q) × (a ≡ b)
+move-determined s from to n p q a b u v w x = (determined (after-move s from to n) p q v x, determined (canMove s from to n) a b u w)
 
 -- an answer of a listing, from what it says
 listedOf : Shown → Listed

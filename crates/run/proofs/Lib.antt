@@ -3,3 +3,4 @@ pub mod Onwards
 pub mod Members
 pub mod Turns
 pub mod Starts
+pub mod Determined

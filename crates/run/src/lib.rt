@@ -112,7 +112,8 @@ fn step(
     }
 }
 
-// The line of a statement that gave a stop; there is none for 0, for 14.
+// The line of a statement that gave a stop; there is none for 0, for 14. No statement stops with 14, which crate demands
+// proves, above this one; the definition asks, so this does.
 fn line_of_stop(page: &[u8], stop: u8, at: usize) -> StopLine
     requires { ⌜ at ≤ 65535 ⌝ }
     ensures { λ r. ⌜ r ≡ stopAt stop (lineOf (now (page .entry)) at ∷ []) ⌝ }
@@ -137,7 +138,7 @@ fn paused_at(q: u32) -> Paused
     Paused::At(Place((q - 1) as u16))
 }
 
-// A run is paused where its stop is 14.
+// A run is paused where its stop is 14. No statement's stop is, as above; the definition asks, so this does.
 fn pause(stop: u8, at: u32) -> Paused
     requires { ⌜ at ≤ 65536 ⌝ }
     ensures { λ r. ⌜ r ≡ pauseOf stop at ⌝ }

@@ -1,3 +1,4 @@
 pub mod Stacks
 pub mod Replies
 pub mod Meaning
+pub mod Determined

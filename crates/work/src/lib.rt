@@ -204,7 +204,7 @@ fn assign(
     Way::On
 }
 
-// A reply: 6 where it is none for so many variables.
+// A reply: 6 where it is none for so many variables. The reading never lacks room: the operations lent have it.
 pub fn take_reply(
     os: &[u32],
     n: usize,
