@@ -41,8 +41,8 @@ module _ (p : Parts) (vars memory output : List ℕ) where
   stored-in (kept.No n) m = refl
 
   -- and so is a store
-  pub store-in : {k : Kept} {m : List ℕ} (r : Result (List ℕ)) → left k m ≡ leaving memory r → didIn (did (storedWay k) p) vars m output ≡ keepIn world r
-  store-in {k} {m} r h = stored-in k m ∙ ap (leftIn world) h ∙ left-in world r
+  pub store-in : (k : Kept) {m : List ℕ} (r : Result (List ℕ)) → left k m ≡ leaving memory r → didIn (did (storedWay k) p) vars m output ≡ keepIn world r
+  store-in k {m} r h = stored-in k m ∙ ap (leftIn world) h ∙ left-in world r
 
 module _ (p : Parts) (memory output : List ℕ) where
   -- PRINT of a string that is not there, and of one that is
@@ -59,12 +59,12 @@ module _ (p : Parts) (memory output : List ℕ) where
         → Does p memory output (keepReply lim input x) (did (way.Stop n) (withPositions p i o)) memory after
     no-reply h = record { done-in = λ vars. ap (λ r. heardIn (worldOf vars p memory output) r (keepText x)) h }
 
-    pub reply-stored : {bs : List ℕ} {k : Kept} {m : List ℕ} → hears (is bs) i after o ≡ hearing lim input (p .inpos) output (p .outpos)
+    pub reply-stored : {bs : List ℕ} (k : Kept) {m : List ℕ} → hears (is bs) i after o ≡ hearing lim input (p .inpos) output (p .outpos)
         → left k m ≡ leaving memory (storeAt memory x (bs ++ (13 ∷ [])))
         → Does p memory output (keepReply lim input x) (did (storedWay k) (withPositions p i o)) m after
-    reply-stored {bs} h l =
+    reply-stored {bs} k h l =
         record {
           done-in = λ vars.
-              store-in (withPositions p i o) vars memory after (storeAt memory x (bs ++ (13 ∷ []))) l
+              store-in (withPositions p i o) vars memory after k (storeAt memory x (bs ++ (13 ∷ []))) l
               ∙ ap (λ r. heardIn (worldOf vars p memory output) r (keepText x)) h;
         }

@@ -71,16 +71,16 @@ module _ (g : Given) where
   unfolding effectBy
   let-stat = refl
 
-  pub let-byte : {k : Kept} {m : List ℕ} → left k m ≡ leaving (g .memory) (storeAt (g .memory) (g .y) (g .x % 256 ∷ []))
+  pub let-byte : (k : Kept) {m : List ℕ} → left k m ≡ leaving (g .memory) (storeAt (g .memory) (g .y) (g .x % 256 ∷ []))
       → didIn (did (storedWay k) (g .parts)) (g .vars) m (g .output) ≡ code 18
   unfolding effectBy
-  let-byte h = store-in (g .parts) (g .vars) (g .memory) (g .output) (storeAt (g .memory) (g .y) (g .x % 256 ∷ [])) h
+  let-byte k h = store-in (g .parts) (g .vars) (g .memory) (g .output) k (storeAt (g .memory) (g .y) (g .x % 256 ∷ [])) h
 
-  pub let-copy : {k : Kept} {m : List ℕ}
+  pub let-copy : (k : Kept) {m : List ℕ}
       → left k m ≡ leaving (g .memory) (bind (stringAt (g .memory) (g .x)) (λ bs. storeAt (g .memory) (g .y) (bs ++ (13 ∷ []))))
       → didIn (did (storedWay k) (g .parts)) (g .vars) m (g .output) ≡ code 21
   unfolding effectBy
-  let-copy h = store-in (g .parts) (g .vars) (g .memory) (g .output) (bind (stringAt (g .memory) (g .x)) (λ bs. storeAt (g .memory) (g .y) (bs ++ (13 ∷ [])))) h
+  let-copy k h = store-in (g .parts) (g .vars) (g .memory) (g .output) k (bind (stringAt (g .memory) (g .x)) (λ bs. storeAt (g .memory) (g .y) (bs ++ (13 ∷ [])))) h
 
   pub goto : (r : Way) → wayOf r ≡ wayTo (reached (find (g .env .page) (g .x))) → alone (did r (g .parts)) ≡ code 22
   unfolding effectBy

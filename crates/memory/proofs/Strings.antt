@@ -14,7 +14,12 @@ use Rattle.nibl.specs.Values.{Result, is, no}
 use Rattle.nibl.specs.Meaning.{bind, stringAt}
 use Rattle.page.proofs.Texts.{front-part}
 use Rattle.memory.specs.Stores.{endOf}
+use Rattle.memory.specs.declared.Extent.{Extent}
 use Rattle.memory.specs.declared.Extent.the-variants as extent
+
+-- where the definition's string ends
+abbrev pub ending : List ℕ → ℕ → Result ℕ
+ending mem a = bind (stringAt mem a) (λ bs. is (a + length bs))
 
 -- ---- a byte at a time
 
@@ -37,11 +42,11 @@ module _ (mem : List ℕ) (i : ℕ) where
       go true = refl
       go false = refl
 
-  pub end-goes : i < length mem → (getD mem i 0 ≡ 13 → ⊥) → endOf (i + 1) (stringAt mem (i + 1)) ≡ endOf i (stringAt mem i)
-  end-goes h e = go (stringAt mem (i + 1)) ∙ sym (ap (endOf i) (string-goes h e))
+  pub end-goes : i < length mem → (getD mem i 0 ≡ 13 → ⊥) → ending mem (i + 1) ≡ ending mem i
+  end-goes h e = go (stringAt mem (i + 1)) ∙ sym (ap (λ r. bind r (λ bs. is (i + length bs))) (string-goes h e))
     where
-      go : (r : Result (List ℕ)) → endOf (i + 1) r ≡ endOf i (bind r (λ bs. is (getD mem i 0 ∷ bs)))
-      go (is bs) = let k : i + 1 + length bs ≡ i + suc (length bs) = omega arith in ap extent.To k
+      go : (r : Result (List ℕ)) → bind r (λ bs. is (i + 1 + length bs)) ≡ bind (bind r (λ bs. is (getD mem i 0 ∷ bs))) (λ bs. is (i + length bs))
+      go (is bs) = let k : i + 1 + length bs ≡ i + suc (length bs) = omega arith in ap (λ (n : ℕ). is n) k
       go (no n) = refl
 
 -- ---- what the end says
@@ -79,18 +84,18 @@ module _ (mem : List ℕ) (a : ℕ) where
       }
 
   -- an end that was found
-  pub string-to : (e : ℕ) → extent.To e ≡ endOf a (stringAt mem a) → Runs mem a e
+  pub string-to : {r : Extent} (e : ℕ) → r ≡ extent.To e → endOf r ≡ ending mem a → Runs mem a e
   unfolding stringAt
-  string-to e h = go (all notCR (drop a mem)) refl h
+  string-to e q h = go (all notCR (drop a mem)) refl (sym (ap endOf q) ∙ h)
     where
-      go : (t : Bool) → all notCR (drop a mem) ≡ t → extent.To e ≡ endOf a (if t then no 16 else is (front notCR (drop a mem))) → Runs mem a e
+      go : (t : Bool) → all notCR (drop a mem) ≡ t → is e ≡ bind (if t then no 16 else is (front notCR (drop a mem))) (λ bs. is (a + length bs)) → Runs mem a e
       go true q h = let z : _≡_ {A = ℕ} 0 1 = cc in absurd (omega arith)
       go false q h = let k : e ≡ a + length (front notCR (drop a mem)) = cc in rw k (runs q)
 
   -- and one that was not
-  pub string-no : (n : ℕ) → extent.No n ≡ endOf a (stringAt mem a) → stringAt mem a ≡ no n
-  string-no n h = go (stringAt mem a) h
+  pub string-no : {r : Extent} (n : ℕ) → r ≡ extent.No n → endOf r ≡ ending mem a → stringAt mem a ≡ no n
+  string-no n q h = go (stringAt mem a) (sym (ap endOf q) ∙ h)
     where
-      go : (r : Result (List ℕ)) → extent.No n ≡ endOf a r → r ≡ no n
+      go : (s : Result (List ℕ)) → no n ≡ bind s (λ bs. is (a + length bs)) → s ≡ no n
       go (is bs) h = let z : _≡_ {A = ℕ} 0 1 = cc in absurd (omega arith)
       go (no m) h = let k : n ≡ m = cc in cc

@@ -4,6 +4,7 @@ ghost use mathlib.Core.List.{[], _∷_, _++_};
 ghost use mathlib.Core.Path.{_≡_};
 ghost use lib.ListN.{length};
 ghost use lib.Dec.{leb};
+ghost use Rattle.nibl.specs.Values.{is};
 ghost use Rattle.nibl.specs.Meaning.{bind, byteOf, stringAt, storeAt};
 ghost use Rattle.value.specs.Operators.{valueOf};
 ghost use Rattle.memory.specs.Stores.{endOf, left, leaving, argsOf};
@@ -36,7 +37,7 @@ pub fn byte_of(memory: &[u8], a: u16) -> Value
 
 // A string in memory runs to its first CR.
 pub fn string_end(memory: &[u8], a: u16) -> Extent
-    ensures { λ r. ⌜ r ≡ endOf a (stringAt (now (memory .entry)) a) ⌝ }
+    ensures { λ r. ⌜ endOf r ≡ bind (stringAt (now (memory .entry)) a) (λ bs. is (a + length bs)) ⌝ }
 {
     let mut i = a as usize;
     while i < memory.len() {

@@ -145,13 +145,13 @@ same-length-2 : tie.Need-same-length-2
 same-length-2 c = search needs
 
 returns-3 : tie.Need-returns-3
-returns-3 c = rw (c .before .before .before .before .before .match .keys3, c .stored .ensures) (let-byte (given (c .before .before .before .before .before .before)) (c .before .before .before .store-byte .ensures))
+returns-3 c = rw (c .before .before .before .before .before .match .keys3, c .stored .ensures) (let-byte (given (c .before .before .before .before .before .before)) (c .before .before .before .store-byte .result) (c .before .before .before .store-byte .ensures))
 
 same-length-3 : tie.Need-same-length-3
 same-length-3 c = search needs
 
 returns-4 : tie.Need-returns-4
-returns-4 c = rw (c .before .before .before .before .before .match .keys4, c .stored2 .ensures) (let-copy (given (c .before .before .before .before .before .before)) (c .before .before .before .copy-string .ensures))
+returns-4 c = rw (c .before .before .before .before .before .match .keys4, c .stored2 .ensures) (let-copy (given (c .before .before .before .before .before .before)) (c .before .before .before .copy-string .result) (c .before .before .before .copy-string .ensures))
 
 returns-5 : tie.Need-returns-5
 returns-5 c = rw (c .before .before .match .keys5, c .ends .ensures) (goto (given (c .before .before .before)) (c .before .go-to .result) (c .before .go-to .ensures))

@@ -68,7 +68,7 @@ returns-2 : tie.Need-returns-2
 returns-2 c =
     let a = c .before .before .before .before .before .before .before .before .before .before .before .before .before .before .before .before .before .before .before .before .before .args in
     let h = rw (c .before .before .before .before .before .before .before .before .r2 .given .1) at (c .before .before .before .before .before .before .before .before .before .before .before .before .before .before .ask .ensures .0) in
-    rw (c .stored .ensures, c .before .asked2 .ensures) (reply-stored (a .parts) (a .memory .now) (a .output .now) (length (a .line .now)) (a .input .now) (a .x) h (c .before .before .before .before .store-text .ensures))
+    rw (c .stored .ensures, c .before .asked2 .ensures) (reply-stored (a .parts) (a .memory .now) (a .output .now) (length (a .line .now)) (a .input .now) (a .x) (c .before .before .before .before .store-text .result) h (c .before .before .before .before .store-text .ensures))
 
 pub input-text-spec : {M : Type 1} → statement M
 input-text-spec =

@@ -1,5 +1,4 @@
 -- `print_stored` meets its contract: the string runs to its CR, or is not there. Assumes nothing.
-use mathlib.Core.Path.{sym, _∙_}
 use native.Mathlib.Omega.{arith}
 use Rattle.memory.proofs.Strings.{Runs, string-to, string-no}
 use Rattle.effect.proofs.Answers.{no-string, string-put}
@@ -9,7 +8,7 @@ use Rattle.effect.proofs.print_stored.Tie as tie
 
 -- the string was found
 found : (c : tie.After-known-told2) → Runs (c .before .before .before .before .before .before .args .memory .now) (c .before .before .before .before .before .before .args .a) (c .before .end .given .0 .0)
-found c = let a = c .before .before .before .before .before .before .args in string-to (a .memory .now) (a .a) _ (sym (c .before .end .given .1) ∙ c .before .before .before .string-end .ensures)
+found c = let a = c .before .before .before .before .before .before .args in string-to (a .memory .now) (a .a) _ (c .before .end .given .1) (c .before .before .before .string-end .ensures)
 
 string-end-requires : tie.Need-string-end-requires
 string-end-requires c κs = search needs
@@ -41,7 +40,7 @@ wrote-requires c κs = search needs
 returns : tie.Need-returns
 returns c =
     let a = c .before .before .before .before .before .before .before .args in
-    let e = string-no (a .memory .now) (a .a) _ (sym (c .before .before .n .given .1) ∙ c .before .before .before .before .string-end .ensures) in
+    let e = string-no (a .memory .now) (a .a) _ (c .before .before .n .given .1) (c .before .before .before .before .string-end .ensures) in
     rw (c .ends .ensures) (no-string (a .parts) (a .memory .now) (a .output .now) (a .a) _ e)
 
 same-length : tie.Need-same-length

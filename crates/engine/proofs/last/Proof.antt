@@ -16,7 +16,7 @@ returns : tie.Need-returns
 returns c =
     let a = c .before .before .before .before .before .before .before .before .before .before .before .before .before .before .before .args in
     rw (c .stored .ensures)
-    (store-in (a .parts) (a .vars .now) (a .memory .now) (a .output .now) (storeAt (a .memory .now) (a .x) (argsOf (a .os .now))) (c .before .before .before .store-args .ensures)
+    (store-in (a .parts) (a .vars .now) (a .memory .now) (a .output .now) (c .before .before .before .store-args .result) (storeAt (a .memory .now) (a .x) (argsOf (a .os .now))) (c .before .before .before .store-args .ensures)
     ∙ sym
     (last-stores (envOf (length (a .line .now)) (a .page .now) (a .input .now) (a .sense) noPlace) (a .op) (a .x) (a .os .now) (worldOf (a .vars .now) (a .parts) (a .memory .now) (a .output .now))
     (eq-eqb _ 19 (c .before .before .before .before .before .if1 .taken))))

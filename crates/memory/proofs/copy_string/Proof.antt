@@ -11,7 +11,7 @@ use Rattle.memory.proofs.copy_string.Tie as tie
 found : (c : tie.After-known-told2) → Runs (c .before .before .before .before .before .before .args .memory .now) (c .before .before .before .before .before .before .args .from) (c .before .end .given .0 .0)
 found c =
     let a = c .before .before .before .before .before .before .args in
-    string-to (a .memory .now) (a .from) _ (sym (c .before .end .given .1) ∙ c .before .before .before .string-end .ensures)
+    string-to (a .memory .now) (a .from) _ (c .before .end .given .1) (c .before .before .before .string-end .ensures)
 
 string-end-requires : tie.Need-string-end-requires
 string-end-requires c κs = search needs
@@ -47,7 +47,7 @@ same-length-2 c = search needs
 returns-2 : tie.Need-returns-2
 returns-2 c =
     let a = c .before .before .before .before .before .before .args in
-    rw (string-no (a .memory .now) (a .from) _ (sym (c .before .n .given .1) ∙ c .before .before .before .string-end .ensures))
+    rw (string-no (a .memory .now) (a .from) _ (c .before .n .given .1) (c .before .before .before .string-end .ensures))
 
 same-length-3 : tie.Need-same-length-3
 same-length-3 c = search needs

@@ -4,14 +4,12 @@ use mathlib.Core.Path.{_≡_, refl, _∙_}
 use native.Mathlib.Omega.{arith}
 use native.Mathlib.Nat.{add-zero}
 use lib.ListN.{length}
-use Rattle.nibl.specs.Meaning.{stringAt}
-use Rattle.memory.specs.Stores.{endOf}
-use Rattle.memory.proofs.Strings.{string-past, string-ends, end-goes}
+use Rattle.memory.proofs.Strings.{ending, string-past, string-ends, end-goes}
 use Rattle.memory.proofs.string_end.Statement.{statement}
 use Rattle.memory.proofs.string_end.Tie as tie
 
 abbrev Inv-loop : tie.InvT-loop
-Inv-loop memory a i₀ i = endOf i (stringAt memory i) ≡ endOf a (stringAt memory a)
+Inv-loop memory a i₀ i = ending memory i ≡ ending memory a
 
 abbrev μ-loop : tie.MeasureT-loop
 μ-loop memory a i₀ i = length memory - i
