@@ -223,7 +223,8 @@ fn run_steps(
     }
 }
 
-// A run from a position of the page on, within a budget.
+// A run from a position of the page on, within a budget. A text of a good page has 72 bytes at most, and needs no more
+// operations and values; the lists have the 256 that any length byte keeps a record below.
 pub fn run(
     from: u32,
     budget: usize,
