@@ -4,7 +4,7 @@
 // session record.
 //
 // A case goes on, four times at most, as long as it is paused. Each time has a row: the stop with its line, the steps,
-// both positions, the pause, the flags, the stacks, the variables, and the sums of memory and output. A page that is not
+// the pause, both positions, the flags, the stacks, the variables, and the sums of memory and output. A page that is not
 // good, or that the record does not fit, is refused.
 ghost use Prim.Native.Nat.{_≤_};
 ghost use lib.ListN.{length};

@@ -307,7 +307,7 @@ const WRITTEN: [(&[&str], &str); 65] = [
     (&["INPUT $4:PRINT $4:INPUT $60"], "MILK\rMUCH\r"), (&["A=3:INPUT A,B:PRINT B"], "7,A+@0\r"), (&["REM A:B=1", "END:PRINT 1", "REM"], ""),
 ];
 
-/// The most steps of a call in a written case, and in a random one.
+/// The budgets of the calls.
 const BUDGETS: [u16; 5] = [0, 1, 2, 7, 1000];
 
 /// A written program's lines.
