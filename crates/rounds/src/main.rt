@@ -4,7 +4,14 @@
 ghost use Prim.Native.Nat.{_-_, _≤_, _<_};
 ghost use lib.ListN.{length};
 ghost use mathlib.Core.Path.{_≡_};
+use effect::Parts;
+use nibl::ForEntry;
+use nibl::ForStack;
 use nibl::LineNumber;
+use nibl::Paused;
+use nibl::Place;
+use nibl::PlaceStack;
+use nibl::Session;
 use page::Edited;
 use page::FoundLine;
 use reader::MemberRead;
@@ -176,6 +183,76 @@ fn check(page: &[u8]) -> u16 {
     if places::is_good(page, 72) { 1 } else { 0 }
 }
 
+fn no_places() -> PlaceStack {
+    PlaceStack {
+        depth: 0,
+        places: [Place(0); 8],
+    }
+}
+
+fn no_fors() -> ForStack {
+    let none = ForEntry {
+        var: 0,
+        limit: 0,
+        step: 0,
+        place: Place(0),
+    };
+    ForStack {
+        depth: 0,
+        entries: [none; 4],
+    }
+}
+
+fn fresh() -> Session {
+    Session {
+        vars: [0u16; 26],
+        flags: 0,
+        gosubs: no_places(),
+        dos: no_places(),
+        fors: no_fors(),
+        paused: Paused::Start,
+    }
+}
+
+// A run from the program's start, lent no more than the page: its steps, and variable A.
+fn steps(page: &[u8], session: Session) -> u16 {
+    if 4096 < page.len() {
+        return 0;
+    }
+    if !places::is_good(page, 72) {
+        return 0;
+    }
+    if !record::fits(page, session) {
+        return 0;
+    }
+    let mut memory = [0u8; 1];
+    let mut output = [0u8; 1];
+    let mut vars = session.vars;
+    let gosubs = session.gosubs;
+    let dos = session.dos;
+    let fors = session.fors;
+    let parts = Parts {
+        flags: session.flags,
+        gosubs: gosubs,
+        dos: dos,
+        fors: fors,
+        inpos: 0,
+        outpos: 0,
+    };
+    let ran = run::run(
+        0,
+        32767,
+        page,
+        b"",
+        0,
+        &mut vars,
+        &mut memory,
+        &mut output,
+        parts,
+    );
+    std::num::wrapping_add_u16(ran.steps, vars[0])
+}
+
 fn round(work: u16, bytes: &mut [u8], ops: &mut [u32]) -> u16
     ensures { λ _. ⌜ length (now (bytes .exit)) ≡ length (now (bytes .entry)) ⌝ }
 {
@@ -185,6 +262,7 @@ fn round(work: u16, bytes: &mut [u8], ops: &mut [u32]) -> u16
         2..=4 => edits(bytes),
         5..=7 => finds(bytes),
         8 => check(bytes),
+        9 => steps(bytes, fresh()),
         _ => 0,
     }
 }

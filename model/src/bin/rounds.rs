@@ -16,7 +16,7 @@ use model::reader::read_list;
 use model::rules::{empty_page, full_page, RULES};
 use model::tree::Tree;
 use model::words::{Word, Words};
-use model::Pause;
+use model::{continue_run, Lent, Pause, Record};
 
 /// A line in the middle of a full page of rule lines, and the texts that it has in turn, of which the second is its own.
 const MIDDLE: LineNumber = LineNumber(510);
@@ -157,12 +157,45 @@ fn walks(page: &[u8]) -> u16 {
     })
 }
 
+/// A loop of assignments that has no end.
+fn looping() -> Vec<u8> {
+    let mut page = empty_page(256);
+    let texts = [" FOR I=1 TO 1000", " A=A+I*2:B=A-1", " NEXT I:GOTO 0"];
+    for (number, text) in (0..).zip(texts) {
+        let program = read(&page);
+        let number = LineNumber(number);
+        assert!(store(&mut page, &program, number, text.as_bytes()));
+    }
+    page
+}
+
+/// A run from the program's start, lent no more than the page: its steps, and variable A.
+fn steps(page: &mut [u8]) -> u16 {
+    let mut record = Record {
+        paused: Some(Pause::Start),
+        ..Record::default()
+    };
+    let lent = Lent {
+        page,
+        memory: &mut [0],
+        input: &[],
+        output: &mut [0],
+        input_position: 0,
+        output_position: 0,
+        sense: 0,
+        budget: 32_767,
+    };
+    let answer = continue_run(&mut record, lent);
+    add(record.variables[0] as u16, answer.steps as usize)
+}
+
 /// What a piece of work, by its number, works on.
 fn input(work: &str) -> Option<Vec<u8>> {
     match work {
         "0" => Some(text()),
         "1" | "2" | "3" | "4" | "8" => Some(full_page(&RULES)),
         "5" | "6" | "7" => Some(lines()),
+        "9" => Some(looping()),
         _ => None,
     }
 }
@@ -209,6 +242,7 @@ fn run(input: &[u8]) -> Option<u16> {
         "8" => Some(repeat(rounds, || {
             read_page(black_box(page)).is_some().into()
         })),
+        "9" => Some(repeat(rounds, || steps(black_box(page)))),
         _ => None,
     }
 }
