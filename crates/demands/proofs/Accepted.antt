@@ -10,18 +10,7 @@ use Rattle.nibl.specs.Bytes.{if_then_else_}
 use Rattle.nibl.specs.Page.{isGood, fits}
 use Rattle.nibl.specs.Calls.{Lent, inRange, firstRefusal, obeyLine, takeLineIn, continueFrom, continueRunIn}
 use Rattle.page.proofs.Program.{both}
-use Rattle.demands.specs.Sound.{budgeted}
-use Rattle.demands.proofs.Ways.{lineOf}
-
-pub record InRange (x : Lent) : Type 0 where
-  pub some : 2 ≤ length (x .page)
-  pub page : length (x .page) ≤ 4096
-  pub memory : length (x .memory) ≤ 4096
-  pub input : length (x .input) ≤ 65535
-  pub output : length (x .output) ≤ 65535
-  pub inpos : x .call .inpos ≤ length (x .input)
-  pub outpos : x .call .outpos ≤ length (x .output)
-  pub budget : x .call .budget ≤ 65535
+use Rattle.demands.specs.Lent.{InRange, budgeted, gatheredLine}
 
 pub in-range-of : (x : Lent) → inRange x ≡ true → InRange x
 in-range-of x h =
@@ -85,7 +74,7 @@ accepted-less lim x k l h e =
     accepted-is (record { range = less; good = a .good; fit = a .fit })
 
 -- it does what its line does, or what its pause says
-pub take-at : (lim : ℕ) (x : Lent) → firstRefusal lim x ≡ 0 → takeLineIn lim x ≡ obeyLine lim x (lineOf lim x)
+pub take-at : (lim : ℕ) (x : Lent) → firstRefusal lim x ≡ 0 → takeLineIn lim x ≡ obeyLine lim x (gatheredLine lim x)
 unfolding takeLineIn
 take-at lim x h = rw (h, takeLineIn)
 

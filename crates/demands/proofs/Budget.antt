@@ -12,16 +12,18 @@ use borrow.Author.Tests.{eqb-true}
 use Rattle.nibl.specs.Bytes.{if_then_else_}
 use Rattle.nibl.specs.Tree.{Member, Stmt}
 use Rattle.nibl.specs.Read.{Found, nothing, found, member}
-use Rattle.nibl.specs.Page.{isAmong, mark, lineOf}
+use Rattle.nibl.specs.Page.{isAmong, lineOf}
+use Rattle.nibl.specs.Record.{mark}
 use Rattle.nibl.specs.Meaning.{World, Env, on, skip, go, stop, Done, done, exec}
-use Rattle.nibl.specs.Calls.{Ran, stepped, textFrom, lineFrom, envAt, onward, step, runFrom}
-use Rattle.demands.specs.Effects.{refusals, Gives, gave, refused, gives, Does, writes, takes, refuses, passes, skips, assigns, assignsFlags, stores, goesTo, saves, returns, loops, repeats, leaves, begins, again, finishes, inputs}
+use Rattle.nibl.specs.Calls.{Ran, stepped, textFrom, lineFrom, envAt, afterStep, step, runFrom}
+use Rattle.demands.specs.Effects.{refusals, GivesVariables, gave, refused, gives, Does, writes, takes, refuses, passes, skips, assigns, assignsFlags, stores, goesTo, saves, returns, loops, repeats, leaves, begins, again, finishes, inputs}
 use Rattle.demands.proofs.Effects.{exec-does}
-use Rattle.demands.proofs.Runs.{run-none, run-zero, run-suc, endOf, crOf, onward-law, every-run}
+use Rattle.demands.specs.Steps.{placeEnding, crOf}
+use Rattle.demands.proofs.Runs.{run-none, run-zero, run-suc, after-law, every-run}
 
 -- a run that went on where the first paused
-abbrev pub joined : Ran → (ℕ → World → Ran) → Ran
-joined r k =
+abbrev pub wentOnWith : Ran → (ℕ → World → Ran) → Ran
+wentOnWith r k =
     elim (eqb (r .stop) 14) [
       | true ↦ let s = k (r .at) (r .world) in record { stop = s .stop; lines = r .lines ++ s .lines; at = s .at; world = s .world }
       | false ↦ r
@@ -44,7 +46,7 @@ or-true false = refl
 refusal-stops : {w : World} {n : ℕ} → isAmong refusals n ≡ true → StopsWith (done (stop n) w)
 refusal-stops {n = n} h = stopped {n = n} (rw h (or-true (eqb n 0)))
 
-gives-stops : {w : World} {d : Done} → Gives w d → StopsWith d
+gives-stops : {w : World} {d : Done} → GivesVariables w d → StopsWith d
 gives-stops gave = goes
 gives-stops (refused h) = refusal-stops h
 gives-stops (gives v x g) = gives-stops g
@@ -83,41 +85,41 @@ not-paused n h = by (eqb n 14) refl where
   by false g = refl
 
 -- what a step goes on with, joined
-stepped-joined : (l : ℕ) (r : Ran) (j : ℕ → World → Ran) → stepped l (joined r j) ≡ joined (stepped l r) j
+stepped-joined : (l : ℕ) (r : Ran) (j : ℕ → World → Ran) → stepped l (wentOnWith r j) ≡ wentOnWith (stepped l r) j
 stepped-joined l r j = by (eqb (r .stop) 14) refl where
-  by : (b : Bool) → eqb (r .stop) 14 ≡ b → stepped l (joined r j) ≡ joined (stepped l r) j
-  by true h = rw (h, joined)
-  by false h = rw (h, joined)
+  by : (b : Bool) → eqb (r .stop) 14 ≡ b → stepped l (wentOnWith r j) ≡ wentOnWith (stepped l r) j
+  by true h = rw (h, wentOnWith)
+  by false h = rw (h, wentOnWith)
 
-onward-joined : (d : Done) (p cr : ℕ) (k j m : ℕ → World → Ran) → StopsWith d → ((q : ℕ) (w : World) → m q w ≡ joined (k q w) j)
-    → onward d p cr m ≡ joined (onward d p cr k) j
-onward-joined (done on w) p cr k j m s h = h (suc p) w
-onward-joined (done skip w) p cr k j m s h = h (suc cr) w
-onward-joined (done (go q) w) p cr k j m s h = h q w
-onward-joined (done (stop n) w) p cr k j m (stopped g) h = rw (not-paused n g, joined)
+after-joined : (d : Done) (p cr : ℕ) (k j m : ℕ → World → Ran) → StopsWith d → ((q : ℕ) (w : World) → m q w ≡ wentOnWith (k q w) j)
+    → afterStep d p cr m ≡ wentOnWith (afterStep d p cr k) j
+after-joined (done on w) p cr k j m s h = h (suc p) w
+after-joined (done skip w) p cr k j m s h = h (suc cr) w
+after-joined (done (go q) w) p cr k j m s h = h q w
+after-joined (done (stop n) w) p cr k j m (stopped g) h = rw (not-paused n g, wentOnWith)
 
-step-joined : (e : Env) (a : ℕ) (w : World) (f : Found Member) (k j m : ℕ → World → Ran) → ((q : ℕ) (w : World) → m q w ≡ joined (k q w) j)
-    → step e a w f m ≡ joined (step e a w f k) j
+step-joined : (e : Env) (a : ℕ) (w : World) (f : Found Member) (k j m : ℕ → World → Ran) → ((q : ℕ) (w : World) → m q w ≡ wentOnWith (k q w) j)
+    → step e a w f m ≡ wentOnWith (step e a w f k) j
 step-joined e a w nothing k j m h = refl
 step-joined e a w (found x s) k j m h =
     let p = a + (length (lineFrom (e .page) a) - x .left) in
     let cr = a + length (lineFrom (e .page) a) in
-    ap (stepped (lineOf (e .page) p)) (onward-joined (exec (envAt e p) (x .statement) w) p cr k j m (exec-stops (envAt e p) (x .statement) w) h)
-    ∙ stepped-joined (lineOf (e .page) p) (onward (exec (envAt e p) (x .statement) w) p cr k) j
+    ap (stepped (lineOf (e .page) p)) (after-joined (exec (envAt e p) (x .statement) w) p cr k j m (exec-stops (envAt e p) (x .statement) w) h)
+    ∙ stepped-joined (lineOf (e .page) p) (afterStep (exec (envAt e p) (x .statement) w) p cr k) j
 
 -- past the last line both are done
-split-none : (a b : ℕ) (e : Env) (q : ℕ) (w : World) → textFrom (e .page) q ≡ none → runFrom (a + b) e q w ≡ joined (runFrom a e q w) (runFrom b e)
+split-none : (a b : ℕ) (e : Env) (q : ℕ) (w : World) → textFrom (e .page) q ≡ none → runFrom (a + b) e q w ≡ wentOnWith (runFrom a e q w) (runFrom b e)
 split-none a b e q w h = rw (run-none (a + b) e q w h, run-none a e q w h) refl
 
 -- "run with a, continue with b, is run with a + b"
-pub split-run : (a b : ℕ) (e : Env) (q : ℕ) (w : World) → runFrom (a + b) e q w ≡ joined (runFrom a e q w) (runFrom b e)
+pub split-run : (a b : ℕ) (e : Env) (q : ℕ) (w : World) → runFrom (a + b) e q w ≡ wentOnWith (runFrom a e q w) (runFrom b e)
 split-run zero b e q w = by (textFrom (e .page) q) refl where
-  by : (o : Option ℕ) → textFrom (e .page) q ≡ o → runFrom (zero + b) e q w ≡ joined (runFrom zero e q w) (runFrom b e)
+  by : (o : Option ℕ) → textFrom (e .page) q ≡ o → runFrom (zero + b) e q w ≡ wentOnWith (runFrom zero e q w) (runFrom b e)
   by none h = split-none zero b e q w h
   by (some t) h = rw (zero-add b, run-zero e q w t h) refl
 split-run (suc a) b e q w = by (λ q w. split-run a b e q w) (textFrom (e .page) q) refl where
-  by : ((q : ℕ) (w : World) → runFrom (a + b) e q w ≡ joined (runFrom a e q w) (runFrom b e)) → (o : Option ℕ) → textFrom (e .page) q ≡ o
-      → runFrom (suc a + b) e q w ≡ joined (runFrom (suc a) e q w) (runFrom b e)
+  by : ((q : ℕ) (w : World) → runFrom (a + b) e q w ≡ wentOnWith (runFrom a e q w) (runFrom b e)) → (o : Option ℕ) → textFrom (e .page) q ≡ o
+      → runFrom (suc a + b) e q w ≡ wentOnWith (runFrom (suc a) e q w) (runFrom b e)
   by f none h = split-none (suc a) b e q w h
   by f (some t) h =
       rw (suc-add a b, run-suc (a + b) e q w t h, run-suc a e q w t h)
@@ -127,4 +129,4 @@ split-run (suc a) b e q w = by (λ q w. split-run a b e q w) (textFrom (e .page)
 pub steps-within : (k : ℕ) (e : Env) (q : ℕ) (w : World) → length (runFrom k e q w .lines) ≤ k
 steps-within k e q w = every-run e (λ k q w r. length (r .lines) ≤ k) (λ k q w h. omega arith) (λ q w a h. omega arith) (λ k q w a h g. omega arith)
     (λ k q w a m s h g i.
-    suc-le-suc (onward-law (λ r. length (r .lines) ≤ k) (exec (envAt e (endOf e a m)) (m .statement) w) (endOf e a m) (crOf e a) (runFrom k e) i (λ n u. omega arith))) k q w
+    suc-le-suc (after-law (λ r. length (r .lines) ≤ k) (exec (envAt e (placeEnding e a m)) (m .statement) w) (placeEnding e a m) (crOf e a) (runFrom k e) i (λ n u. omega arith))) k q w

@@ -8,12 +8,13 @@ use lib.ListN.{length, drop, length-drop}
 use lib.Seq.{length-sets}
 use Rattle.nibl.specs.Typing.{Gathered, gather}
 use Rattle.nibl.specs.Meaning.{World, Env, Done, done, on, skip, go, stop, withSession, exec}
-use Rattle.nibl.specs.Calls.{Ran, runFrom, envAt, onward}
+use Rattle.nibl.specs.Calls.{Ran, runFrom, envAt, afterStep}
 use Rattle.nibl.specs.declared.Session.{Session}
 use Rattle.letter.proofs.Typed.{taken}
-use Rattle.demands.specs.Effects.{Gives, gave, refused, gives, Does, writes, takes, refuses, passes, skips, assigns, assignsFlags, stores, goesTo, saves, returns, loops, repeats, leaves, begins, again, finishes, inputs}
+use Rattle.demands.specs.Effects.{GivesVariables, gave, refused, gives, Does, writes, takes, refuses, passes, skips, assigns, assignsFlags, stores, goesTo, saves, returns, loops, repeats, leaves, begins, again, finishes, inputs}
 use Rattle.demands.proofs.Effects.{exec-does}
-use Rattle.demands.proofs.Runs.{endOf, crOf, every-run}
+use Rattle.demands.specs.Steps.{placeEnding, crOf}
+use Rattle.demands.proofs.Runs.{every-run}
 use Rattle.demands.proofs.Held.{worldAfter}
 
 pub record Placed (input : List ℕ) (w : World) : Type 0 where
@@ -28,7 +29,7 @@ module _ (input : List ℕ) where
   pub other-record : {w : World} (s : Session) → Placed input w → Placed input (withSession w s)
   other-record s p = record { inside = p .inside; room = p .room }
 
-  gives-placed : {w : World} {d : Done} → Gives w d → Placed input w → Placed input (worldAfter d)
+  gives-placed : {w : World} {d : Done} → GivesVariables w d → Placed input w → Placed input (worldAfter d)
   gives-placed gave p = p
   gives-placed (refused h) p = p
   gives-placed (gives v x g) p = gives-placed g (other-record _ p)
@@ -55,15 +56,15 @@ module _ (input : List ℕ) where
   does-placed i (finishes v f h g) p = other-record _ p
   does-placed i (inputs g) p = gives-placed g p
 
-  onward-placed : (d : Done) (at cr : ℕ) (k : ℕ → World → Ran) → Placed input (worldAfter d) → ((q : ℕ) (w : World) → Placed input w → Placed input (k q w .world))
-      → Placed input (onward d at cr k .world)
-  onward-placed (done on w) at cr k p f = f (suc at) w p
-  onward-placed (done skip w) at cr k p f = f (suc cr) w p
-  onward-placed (done (go q) w) at cr k p f = f q w p
-  onward-placed (done (stop n) w) at cr k p f = p
+  after-placed : (d : Done) (at cr : ℕ) (k : ℕ → World → Ran) → Placed input (worldAfter d) → ((q : ℕ) (w : World) → Placed input w → Placed input (k q w .world))
+      → Placed input (afterStep d at cr k .world)
+  after-placed (done on w) at cr k p f = f (suc at) w p
+  after-placed (done skip w) at cr k p f = f (suc cr) w p
+  after-placed (done (go q) w) at cr k p f = f q w p
+  after-placed (done (stop n) w) at cr k p f = p
 
   pub run-placed : (e : Env) → e .input ≡ input → (k q : ℕ) (w : World) → Placed input w → Placed input (runFrom k e q w .world)
   run-placed e i k q w =
       every-run e (λ k q w r. Placed input w → Placed input (r .world)) (λ k q w h p. p) (λ q w a h p. p) (λ k q w a h g p. p)
-      (λ k q w a m s h g f p. onward-placed (exec (envAt e (endOf e a m)) (m .statement) w) (endOf e a m) (crOf e a) (runFrom k e)
-      (does-placed i (exec-does (envAt e (endOf e a m)) (m .statement) w) p) f) k q w
+      (λ k q w a m s h g f p. after-placed (exec (envAt e (placeEnding e a m)) (m .statement) w) (placeEnding e a m) (crOf e a) (runFrom k e)
+      (does-placed i (exec-does (envAt e (placeEnding e a m)) (m .statement) w) p) f) k q w

@@ -10,16 +10,17 @@ use lib.Seq.{sets, length-sets}
 use lib.Dec.{ltb, leb, eqb}
 use borrow.Author.Tests.{leb-true, eq-eqb, eqb-true}
 use Rattle.nibl.specs.Bytes.{if_then_else_, bytes, all, notCR}
-use Rattle.nibl.specs.Tree.{Op, times, over, both, plus, minus, either, equal, less, greater, atMost, atLeast, unequal}
+use Rattle.nibl.specs.Tree.{Op, times, dividedBy, andBits, plus, minus, orBits, equal, less, greater, atMost, atLeast, unequal}
 use Rattle.nibl.specs.Tree.{Expr, var, const, stat, top, byteAt, invert, negate, modulo, two}
 use Rattle.nibl.specs.Tree.{Item, text, stored, value}
-use Rattle.nibl.specs.Tree.{Stmt, letVar, letStat, letByte, letCopy, letText, goto, gosub, until, return, loop, remark, end, print, ifThen, for, next, input, inputText}
+use Rattle.nibl.specs.Tree.{Stmt, letVar, letStat, letByte, letCopy, letText, goto, gosub, until, return, doLoop, remark, end, print, ifThen, for, next, input, inputText}
 use Rattle.nibl.specs.Read.{replied}
 use Rattle.nibl.specs.Values.{Result, is, no, Value, apply, mod16, quotient16, remainder16, printed}
 use Rattle.nibl.specs.Stack.{pushOf, popOf, pushFor, popFor}
 use Rattle.nibl.specs.Typing.{Gathered, gather}
 use Rattle.nibl.specs.Page.{Stored, isAmong, find}
-use Rattle.nibl.specs.Meaning.{World, Env, on, skip, go, stop, Done, done, withVar, withSession, withInpos, withOutput, bind, given, went, byteOf, stringAt, storeAt, eval, put, putItem, putItems, putEnd, keepIn, lineThere, place, gosubTo, returnBy, doHere, untilBy, forHere, goesOn, nextBy, gathered, asked, assign, assignReply, exec}
+use Rattle.nibl.specs.Meaning.{World, Env, on, skip, go, stop, Done, done, withSession, withInpos, withOutput, bind, given, went, byteOf, stringAt, storeAt, eval, put, putItem, putItems, putEnd, keepIn, lineThere, gosubTo, returnBy, doHere, untilBy, forHere, goesOn, nextBy, gathered, asked, assign, assignReply, exec}
+use Rattle.nibl.specs.Record.{withVar, place}
 use Rattle.nibl.specs.Calls.{listed, listFrom}
 use Rattle.nibl.specs.declared.Top.{Top}
 use Rattle.nibl.specs.declared.Top.the-variants as top
@@ -27,7 +28,7 @@ use Rattle.nibl.specs.declared.TopFor.{TopFor}
 use Rattle.nibl.specs.declared.TopFor.the-variants as topf
 use Rattle.demands.specs.Items.{In, first, further, itemBytes, ItemOf, ofPrint, endOfPrint, ofInput, ofInputText, ofIf, ListItem, ofRecord}
 use Rattle.record.specs.Fors.{forVars}
-use Rattle.demands.specs.Effects.{refusals, Gives, gave, refused, gives, Does, writes, takes, refuses, passes, skips, assigns, assignsFlags, stores, goesTo, saves, returns, loops, repeats, leaves, begins, again, finishes, inputs}
+use Rattle.demands.specs.Effects.{refusals, GivesVariables, gave, refused, gives, Does, writes, takes, refuses, passes, skips, assigns, assignsFlags, stores, goesTo, saves, returns, loops, repeats, leaves, begins, again, finishes, inputs}
 
 abbrev pub allIn : List ℕ → List ℕ → Bool
 allIn [] ns = true
@@ -47,31 +48,31 @@ widen (m ∷ ms) ns h n g = by (λ h g. widen ms ns h n g) (isAmong ns m) refl h
 abbrev pub valueRefusals : List ℕ
 valueRefusals = 8 ∷ 13 ∷ 16 ∷ []
 
-pub data Known {A : Type 0} : Result A → Type 0 where
-  given′ : {a : A} → Known (is a)
-  refused′ : {n : ℕ} → isAmong valueRefusals n ≡ true → Known (no n)
+pub data GivesOrRefuses {A : Type 0} : Result A → Type 0 where
+  given′ : {a : A} → GivesOrRefuses (is a)
+  refused′ : {n : ℕ} → isAmong valueRefusals n ≡ true → GivesOrRefuses (no n)
 
 value-refusal : (n : ℕ) → isAmong valueRefusals n ≡ true → isAmong refusals n ≡ true
 value-refusal n h = widen valueRefusals refusals refl n h
 
 module _ {A B : Type 0} where
-  pub bind-known : (r : Result A) (k : A → Result B) → Known r → ((a : A) → Known (k a)) → Known (bind r k)
+  pub bind-known : (r : Result A) (k : A → Result B) → GivesOrRefuses r → ((a : A) → GivesOrRefuses (k a)) → GivesOrRefuses (bind r k)
   bind-known (is a) k h f = f a
   bind-known (no n) k (refused′ h) f = refused′ h
 
 module _ {A : Type 0} where
-  choice-known : (b : Bool) (r q : Result A) → Known r → Known q → Known (if b then r else q)
+  choice-known : (b : Bool) (r q : Result A) → GivesOrRefuses r → GivesOrRefuses q → GivesOrRefuses (if b then r else q)
   choice-known true r q h g = h
   choice-known false r q h g = g
 
-apply-known : (o : Op) (a b : ℕ) → Known (apply o a b)
+apply-known : (o : Op) (a b : ℕ) → GivesOrRefuses (apply o a b)
 unfolding apply
 apply-known times a b = given′
-apply-known over a b = choice-known (eqb b 0) (no 13) (is (quotient16 a b)) (refused′ refl) given′
-apply-known both a b = given′
+apply-known dividedBy a b = choice-known (eqb b 0) (no 13) (is (quotient16 a b)) (refused′ refl) given′
+apply-known andBits a b = given′
 apply-known plus a b = given′
 apply-known minus a b = given′
-apply-known either a b = given′
+apply-known orBits a b = given′
 apply-known equal a b = given′
 apply-known less a b = given′
 apply-known greater a b = given′
@@ -79,19 +80,19 @@ apply-known atMost a b = given′
 apply-known atLeast a b = given′
 apply-known unequal a b = given′
 
-mod-known : (a b : ℕ) → Known (mod16 a b)
+mod-known : (a b : ℕ) → GivesOrRefuses (mod16 a b)
 unfolding mod16
 mod-known a b = choice-known (eqb b 0) (no 13) (is (remainder16 a b)) (refused′ refl) given′
 
-byte-known : (m : List ℕ) (a : ℕ) → Known (byteOf m a)
+byte-known : (m : List ℕ) (a : ℕ) → GivesOrRefuses (byteOf m a)
 unfolding byteOf
 byte-known m a = choice-known (ltb a (length m)) (is (getD m a 0)) (no 16) given′ (refused′ refl)
 
-pub string-known : (m : List ℕ) (a : ℕ) → Known (stringAt m a)
+pub string-known : (m : List ℕ) (a : ℕ) → GivesOrRefuses (stringAt m a)
 unfolding stringAt
 string-known m a = choice-known (all notCR (drop a m)) (no 16) (is _) (refused′ refl) given′
 
-pub eval-known : (e : Env) (w : World) (a : Expr) → Known (eval e w a)
+pub eval-known : (e : Env) (w : World) (a : Expr) → GivesOrRefuses (eval e w a)
 unfolding eval
 eval-known e w (var v) = given′
 eval-known e w (const n) = given′
@@ -113,18 +114,18 @@ pub given-went : {A : Type 0} (r : Result A) (w : World) (k : A → Done) (j : W
 given-went (is a) w k j = refl
 given-went (no n) w k j = refl
 
-pub store-known : (m : List ℕ) (a : ℕ) (bs : List ℕ) → Known (storeAt m a bs)
+pub store-known : (m : List ℕ) (a : ℕ) (bs : List ℕ) → GivesOrRefuses (storeAt m a bs)
 unfolding storeAt
 store-known m a bs = choice-known (leb (a + length bs) (length m)) (is _) (no 16) given′ (refused′ refl)
 
-pub line-known : (o : Option ℕ) → Known (lineThere o)
+pub line-known : (o : Option ℕ) → GivesOrRefuses (lineThere o)
 line-known none = refused′ refl
 line-known (some q) = given′
 
 module _ (e : Env) (vs : List ℕ) (W : List ℕ → Type 0) where
   module _ {A : Type 0} where
     -- what follows a value that is there
-    given-does : (r : Result A) (w : World) (k : A → Done) → Known r → ((a : A) → r ≡ is a → Does e vs W w (k a)) → Does e vs W w (given r w k)
+    given-does : (r : Result A) (w : World) (k : A → Done) → GivesOrRefuses r → ((a : A) → r ≡ is a → Does e vs W w (k a)) → Does e vs W w (given r w k)
     given-does (is a) w k h f = f a refl
     given-does (no n) w k (refused′ h) f = refuses (value-refusal n h)
 
@@ -166,7 +167,7 @@ module _ (e : Env) (vs : List ℕ) (W : List ℕ → Type 0) where
   end-does true n w = passes
   end-does false n w = put-last (13 ∷ 10 ∷ []) (n refl) w
 
-  keep-does : (w : World) (r : Result (List ℕ)) → Known r → ((m : List ℕ) → r ≡ is m → length m ≡ length (w .memory)) → Does e vs W w (keepIn w r)
+  keep-does : (w : World) (r : Result (List ℕ)) → GivesOrRefuses r → ((m : List ℕ) → r ≡ is m → length m ≡ length (w .memory)) → Does e vs W w (keepIn w r)
   unfolding keepIn
   keep-does w r h f = given-does r w _ h (λ m g. stores m (f m g))
 
@@ -186,7 +187,7 @@ module _ (e : Env) (vs : List ℕ) (W : List ℕ → Type 0) where
   line-there (some p) q h = let g : p ≡ q = cc in ap some g
 
   -- to a line that is there
-  to-line : (r : Value) (w : World) (k : ℕ → Done) → Known r → ((n q : ℕ) → find (e .page) n ≡ some q → Does e vs W w (k q))
+  to-line : (r : Value) (w : World) (k : ℕ → Done) → GivesOrRefuses r → ((n q : ℕ) → find (e .page) n ≡ some q → Does e vs W w (k q))
       → Does e vs W w (given (bind r (λ n. lineThere (find (e .page) n))) w k)
   to-line (is n) w k h f = given-does _ w k (line-known (find (e .page) n)) (λ q g. f n q (line-there (find (e .page) n) q g))
   to-line (no n) w k (refused′ h) f = refuses (value-refusal n h)
@@ -241,13 +242,13 @@ module _ (e : Env) (vs : List ℕ) (W : List ℕ → Type 0) where
   unfolding asked
   asked-does n w k f = put-does (bytes "?") n w _ (λ u. gathered-does u (gather (e .lim) (drop (u .inpos) (e .input))) k refl f)
 
-  assign-gives : (us : List ℕ) (es : List Expr) (w : World) → Gives w (assign e us es w)
+  assign-gives : (us : List ℕ) (es : List Expr) (w : World) → GivesVariables w (assign e us es w)
   unfolding assign
   assign-gives [] es w = gave
   assign-gives (v ∷ us) [] w = gave
   assign-gives (v ∷ us) (a ∷ es) w = by (λ u. assign-gives us es u) (eval e w a) (eval-known e w a) where
-    by : ((u : World) → Gives u (assign e us es u)) → (r : Value) → Known r
-        → Gives w (given r w (λ x. assign e us es (withSession w (withVar (w .session) v x))))
+    by : ((u : World) → GivesVariables u (assign e us es u)) → (r : Value) → GivesOrRefuses r
+        → GivesVariables w (given r w (λ x. assign e us es (withSession w (withVar (w .session) v x))))
     by f (is x) h = gives v x (f _)
     by f (no n) (refused′ h) = refused (value-refusal n h)
 
@@ -274,7 +275,7 @@ module _ (e : Env) (vs : List ℕ) (W : List ℕ → Type 0) where
   exec-in (gosub a) l n w = to-line (eval e w a) w _ (eval-known e w a) (gosub-does w)
   exec-in (until a) l n w = given-does (eval e w a) w _ (eval-known e w a) (λ x h. until-does w x _ refl)
   exec-in return l n w = return-does w _ refl
-  exec-in loop l n w = do-does w
+  exec-in doLoop l n w = do-does w
   exec-in remark l n w = passes
   exec-in end l n w = refuses refl
   exec-in (print is′ b) l n w = items-do is′ (λ i m u bs h. n bs (ofPrint i u m h)) w _ (end-does b (λ h. n _ (endOfPrint h)))

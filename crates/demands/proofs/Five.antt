@@ -11,17 +11,19 @@ use Rattle.nibl.specs.Readings.{LineReading}
 use Rattle.nibl.specs.Read.{typed}
 use Rattle.nibl.specs.Typing.{Gathered, gather}
 use Rattle.nibl.specs.Meaning.{World, Env}
-use Rattle.nibl.specs.Calls.{Lent, Outcome, runFrom, firstRefusal, obey, begun, takeLine, takeLineIn, continueRun, continueRunIn, limit, envOf}
+use Rattle.nibl.specs.Calls.{Lent, Outcome, runFrom, firstRefusal, obey, begun, takeLine, takeLineIn, continueRun, continueRunIn, limit, lentEnv}
 use Rattle.nibl.proofs.Exact.{typed-exact}
 use Rattle.page.specs.Standing.{Stands}
 use Rattle.record.specs.Sound.{Sized, Sound}
 use Rattle.record.proofs.Fitted.{sound-fit}
-use Rattle.demands.proofs.Ways.{Typing, Takes, refused, noCR, overlong, unread, reads, every-line, Continues, refused′, continues, every-continue}
+use Rattle.demands.specs.Leaves.{TakesLine}
+use Rattle.demands.specs.Lent.{Typing}
+use Rattle.demands.proofs.Ways.{Takes, refused, noCR, overlong, unread, reads, every-line, Continues, refused′, continues, every-continue}
 use Rattle.demands.proofs.Numbers.{first-numbers}
 use Rattle.demands.proofs.Running.{run-goes}
 use Rattle.demands.proofs.Obeys.{read-ways, continue-ways}
 use Rattle.demands.proofs.Sound.{unrefused, Settled, settled, goings-number}
-use Rattle.demands.proofs.Fixed.{TakesLine, five-takes-the-line}
+use Rattle.demands.proofs.Fixed.{five-takes-the-line}
 
 -- Of a run, from wherever one may stand: the program's start, the record of a line, after a saved or a paused place
 pub no-grammar-refusal-while-running : (lim : ℕ) (e : Env) → lim ≤ 251 → (k q : ℕ) (w : World) → Sound lim (e .page) (w .session) → Stands (e .page) q
@@ -33,17 +35,17 @@ settled-other s h = false≢true (rw h at (s .number))
 
 module _ (lim : ℕ) (short : lim ≤ 251) (x : Lent) (sized : Sized (x .session)) where
   -- of what a line does that has a reading, RUN, GOTO, GOSUB and RETURN among them
-  read-other : (g : Gathered) (t : Typed) → Typing lim x g → typed (g .line .bytes) ≡ some t → obey (x .call .budget) (envOf lim x) (begun x (g .taken)) t .answer .stop ≡ 5 → ⊥
+  read-other : (g : Gathered) (t : Typed) → Typing lim x g → typed (g .line .bytes) ≡ some t → obey (x .call .budget) (lentEnv lim x) (begun x (g .taken)) t .answer .stop ≡ 5 → ⊥
   read-other g t y e h =
       let s = unrefused lim x sized (y .sound) in
-      settled-other (settled lim (envOf lim x) short (s .good) (read-ways lim x short (s .good) (sound-fit s) g t y e) (x .call .budget)) h
+      settled-other (settled lim (lentEnv lim x) short (s .good) (read-ways lim x short (s .good) (sound-fit s) g t y e) (x .call .budget)) h
 
   -- and of continue, whatever is lent
   continue-other : {o : Outcome} → Continues lim x o → o .answer .stop ≡ 5 → ⊥
   continue-other (refused′ {n = n} e) h = false≢true (rw h at (first-numbers lim x (suc n) e))
   continue-other (continues e) h =
       let s = unrefused lim x sized e in
-      settled-other (settled lim (envOf lim x) short (s .good) (continue-ways lim x short (s .good) (sound-fit s) e) (x .call .budget)) h
+      settled-other (settled lim (lentEnv lim x) short (s .good) (continue-ways lim x short (s .good) (sound-fit s) e) (x .call .budget)) h
 
   pub continued-within : continueRunIn lim x .answer .stop ≡ 5 → ⊥
   continued-within = continue-other (every-continue lim x)

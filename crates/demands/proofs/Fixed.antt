@@ -1,5 +1,5 @@
 -- "Fixed effects" of the calls: what 1, 18, 19, a typed line's 7, and 2, 3 and 5 leave. Assumes nothing.
-use Prim.Native.Nat.{ℕ, suc}
+use Prim.Native.Nat.{ℕ, suc, _-_, _≤_, _<_}
 use mathlib.Core.Path.{_≡_, refl, sym, ap, subst, _∙_}
 use mathlib.Core.Bool.{Bool, true, false, _||_, false≢true, true≢false}
 use mathlib.Core.Logic.{_⊎_, inl, inr}
@@ -7,23 +7,28 @@ use mathlib.Core.List.{List, [], _∷_}
 use mathlib.Core.Option.{Option, none, some}
 use native.Mathlib.Omega.{arith}
 use lib.ListN.{length}
-use lib.Dec.{leb, eqb}
+use lib.Dec.{ltb, leb, eqb}
 use borrow.Author.Tests.{eqb-true}
 use Rattle.nibl.specs.Bytes.{if_then_else_}
 use Rattle.nibl.specs.Tree.{Typed, blank, new, clear, run, delete, list, store, immediate}
 use Rattle.nibl.specs.Read.{typed}
 use Rattle.nibl.specs.Readings.{LineReading}
 use Rattle.nibl.specs.Typing.{Gathered}
-use Rattle.nibl.specs.Page.{lineOf as record-line}
-use Rattle.nibl.specs.Page.{Stored, isAmong, recordsOf, hasLine, without, with, programBytes, onto}
+use Rattle.nibl.specs.Page.{Stored, isAmong, isGood, recordsOf, size, lineIn, lineOf, hasLine, without, with, programBytes, onto}
 use Rattle.nibl.specs.Meaning.{World, Env, stop, Done, withSession, exec}
-use Rattle.nibl.specs.Calls.{Lent, Outcome, stopAt, onward, envAt, runFrom, ended, stops, firstRefusal, begun, envOf, clearStacks, edited, immediately, needsProgram, obey, obeyRead, takeLine, takeLineIn, continueFrom, continueRun, limit}
-use Rattle.nibl.specs.declared.StopLine.the-variants as stopLine
+use Rattle.nibl.specs.Calls.{Lent, Outcome, noLine, stopAt, envAt, runFrom, runOutcome, stops, firstRefusal, begun, lentEnv, edited, afterImmediate, needsProgram, obey, obeyRead, takeLine, takeLineIn, continueFrom, continueRun, limit}
+use Rattle.nibl.specs.Record.{stackless}
+use Rattle.nibl.proofs.Words.{if-split}
 use Rattle.nibl.proofs.Lines.{typed-sound}
-use Rattle.demands.specs.Leaves.{unchanged, lineTaken}
-use Rattle.demands.proofs.Runs.{endOf, crOf, every-run}
-use Rattle.demands.proofs.Ways.{lineOf, Typing, Takes, refused, noCR, overlong, unread, reads, every-line, Continues, refused′, continues, every-continue}
-use Rattle.demands.proofs.Numbers.{OneOf, runNumbers, Obeys, full, unfit, ends, obey-obeys, firstNumbers, first-numbers, paused-numbers}
+use Rattle.page.proofs.Program.{Program, none as no-record, each}
+use Rattle.page.proofs.Laid.{good-laid, laid-program}
+use Rattle.demands.specs.Lent.{gatheredLine, Typing, OneOf, firstRefusals, twoAndThree}
+use Rattle.demands.specs.Leaves.{unchanged, lineTaken, TakesLine}
+use Rattle.demands.specs.Steps.{placeEnding, crOf}
+use Rattle.demands.proofs.Runs.{after-law, every-run}
+use Rattle.demands.proofs.Ways.{Takes, refused, noCR, overlong, unread, reads, every-line, Continues, refused′, continues, every-continue}
+use Rattle.demands.proofs.Accepted.{accepted-of}
+use Rattle.demands.proofs.Numbers.{runNumbers, Obeys, full, unfit, ends, obey-obeys, firstNumbers, first-numbers, paused-numbers}
 use Rattle.demands.proofs.Refusing.{quiet, Refusing, goes, skips, jumps, refuses, exec-refuses, list-refuses, needs-asks}
 use Rattle.demands.proofs.Refusing as refusing
 
@@ -42,16 +47,13 @@ apart (m ∷ ms) ns h n g i = by (λ h g. apart ms ns h n g i) (isAmong ns m) re
   by f false e h false k g = f h g
 
 -- "1, 18, 19 change nothing"
-abbrev pub firstRefusals : List ℕ
-firstRefusals = 1 ∷ 18 ∷ 19 ∷ []
-
 take-first : {x : Lent} {o : Outcome} → Takes limit x o → OneOf firstRefusals (o .answer .stop) → o ≡ unchanged x (o .answer .stop)
 take-first (refused h) i = refl
 take-first (noCR z h) i = absurd (false≢true i)
 take-first (overlong g z h l) i = absurd (false≢true i)
 take-first (unread g h r) i = absurd (false≢true i)
-take-first {x = x} (reads g t h r) i = by (obey-obeys (x .call .budget) (envOf limit x) (begun x (g .taken)) t) i where
-  by : {o : Outcome} → Obeys (envOf limit x) (begun x (g .taken)) o → OneOf firstRefusals (o .answer .stop) → o ≡ unchanged x (o .answer .stop)
+take-first {x = x} (reads g t h r) i = by (obey-obeys (x .call .budget) (lentEnv limit x) (begun x (g .taken)) t) i where
+  by : {o : Outcome} → Obeys (lentEnv limit x) (begun x (g .taken)) o → OneOf firstRefusals (o .answer .stop) → o ≡ unchanged x (o .answer .stop)
   by full i = absurd (false≢true i)
   by unfit i = absurd (false≢true i)
   by (ends {o = o} e) i = absurd (apart firstRefusals runNumbers refl (o .answer .stop) i e)
@@ -68,103 +70,106 @@ pub first-refusals-of-continue : (x : Lent) → OneOf firstRefusals (continueRun
 unfolding continueRun
 first-refusals-of-continue x = continue-first (every-continue limit x)
 
--- A stop of a run has its line, but for 0, 14 and what no good page gives
-pub stop-named : (n l : ℕ) (ls : List ℕ) → stopAt n (l ∷ ls) ≡ stopLine.NoLine → (eqb n 0 || eqb n 14) ≡ true
-stop-named n l [] h = by (eqb n 0 || eqb n 14) h where
-  by : (b : Bool) → (if b then stopLine.NoLine else stopLine.At (record { 0 = l })) ≡ stopLine.NoLine → b ≡ true
-  by true h = refl
-  by false h = let z : _≡_ {A = ℕ} 0 1 = cc in absurd (omega arith)
-stop-named n l (m ∷ ls) h = stop-named n m ls h
+-- No line of a good page has the number of none: a host can tell an answer with a line from one without
+abbrev pub Lined : List ℕ → Type 0
+Lined page = (p : ℕ) → lineOf page p < noLine
 
+line-low : {lim low : ℕ} {rs : List Stored} → Program lim low rs → (p : ℕ) → lineIn p rs < noLine
+line-low no-record p = omega arith
+line-low (each {r = r} l s more) p = if-split (λ n. n < noLine) (ltb p (size r)) (λ _. omega (arith, s .number)) (λ _. line-low more (p - size r))
+
+pub lines-low : (lim : ℕ) (page : List ℕ) → lim ≤ 251 → isGood lim page ≡ true → Lined page
+unfolding lineOf
+lines-low lim page short good = line-low (laid-program (good-laid lim page short good))
+
+-- so a stop of a run has its line, but for 0, 14 and what no good page gives
 abbrev pub unsaid : List ℕ
 unsaid = 0 ∷ 5 ∷ 14 ∷ []
 
-named-step : (n l : ℕ) (ls : List ℕ) → stopAt n (l ∷ ls) ≡ stopLine.NoLine → OneOf unsaid n
-named-step n l ls h = by (eqb n 0) (eqb n 5) (eqb n 14) (stop-named n l ls h) where
-  by : (a b c : Bool) → (a || c) ≡ true → (a || (b || (c || false))) ≡ true
+named-last : (n l : ℕ) → l < noLine → stopAt n (l ∷ []) ≡ noLine → OneOf unsaid n
+named-last n l low h = by (eqb n 0) (eqb n 5) (eqb n 14) h where
+  by : (a b c : Bool) → (if a || c then noLine else l) ≡ noLine → (a || (b || (c || false))) ≡ true
   by true b c h = refl
   by false true c h = refl
   by false false true h = refl
-  by false false false h = h
+  by false false false h = absurd (omega arith)
 
-pub run-named : (k : ℕ) (e : Env) (q : ℕ) (w : World) → stopAt (runFrom k e q w .stop) (runFrom k e q w .lines) ≡ stopLine.NoLine → OneOf unsaid (runFrom k e q w .stop)
-run-named k e q w =
-    every-run e (λ k q w r. stopAt (r .stop) (r .lines) ≡ stopLine.NoLine → OneOf unsaid (r .stop)) (λ k q w h n. refl) (λ q w a h n. refl) (λ k q w a h g n. refl)
-    (λ k q w a m s h g i n.
-    let r = onward (exec (envAt e (endOf e a m)) (m .statement) w) (endOf e a m) (crOf e a) (runFrom k e) in
-    named-step (r .stop) (record-line (e .page) (endOf e a m)) (r .lines) n) k q w
+named-step : (n l : ℕ) (ls : List ℕ) → l < noLine → (stopAt n ls ≡ noLine → OneOf unsaid n) → stopAt n (l ∷ ls) ≡ noLine → OneOf unsaid n
+named-step n l [] low f h = named-last n l low h
+named-step n l (m ∷ ls) low f h = f h
+
+pub run-named : (k : ℕ) (e : Env) (q : ℕ) (w : World) → Lined (e .page) → stopAt (runFrom k e q w .stop) (runFrom k e q w .lines) ≡ noLine → OneOf unsaid (runFrom k e q w .stop)
+run-named k e q w low =
+    every-run e (λ k q w r. stopAt (r .stop) (r .lines) ≡ noLine → OneOf unsaid (r .stop)) (λ k q w h n. refl) (λ q w a h n. refl) (λ k q w a h g n. refl)
+    (λ k q w a m s h g i.
+    let l : ℕ = lineOf (e .page) (placeEnding e a m) in
+    after-law (λ r. stopAt (r .stop) (l ∷ r .lines) ≡ noLine → OneOf unsaid (r .stop)) (exec (envAt e (placeEnding e a m)) (m .statement) w) (placeEnding e a m) (crOf e a) (runFrom k e)
+    (λ q w. named-step (runFrom k e q w .stop) l (runFrom k e q w .lines) (low (placeEnding e a m)) (i q w)) (λ n w. named-last n l (low (placeEnding e a m)))) k q w
 
 -- "a typed line's 7": one with no line
 abbrev Silent : Outcome → Type 0
-Silent o = o .answer .stop ≡ 7 → o .answer .line ≡ stopLine.NoLine → ⊥
+Silent o = o .answer .stop ≡ 7 → o .answer .line ≡ noLine → ⊥
 
-run-silent : (k : ℕ) (e : Env) (q : ℕ) (w : World) → Silent (ended (runFrom k e q w) (e .page))
-run-silent k e q w h l = false≢true (subst (OneOf unsaid) h (run-named k e q w l))
+run-silent : (k : ℕ) (e : Env) (q : ℕ) (w : World) → Lined (e .page) → Silent (runOutcome (runFrom k e q w) (e .page))
+run-silent k e q w low h l = false≢true (subst (OneOf unsaid) h (run-named k e q w low l))
 
 edit-silent : (page : List ℕ) (w : World) (rs : List Stored) → Silent (edited page w rs)
 unfolding edited
 edit-silent page w rs = by (leb (length (programBytes rs)) (length page)) where
-  by : (b : Bool) → Silent (if b then stops 0 (withSession w (clearStacks (w .session))) (onto page rs) else stops 2 w page)
+  by : (b : Bool) → Silent (if b then stops 0 (withSession w (stackless (w .session))) (onto page rs) else stops 2 w page)
   by true h l = omega arith
   by false h l = omega arith
 
-immediate-silent : {us vars : List ℕ} (k : ℕ) (e : Env) {d : Done} → Refusing us false vars d → Silent (immediately k e d)
-immediate-silent k e goes h l = omega arith
-immediate-silent k e skips h l = omega arith
-immediate-silent k e (jumps {w = w} {q = q}) h l = run-silent k e q w h l
-immediate-silent k e refusing.ends h l = omega arith
-immediate-silent k e (refuses i g) h l = false≢true (subst (OneOf quiet) h i)
+immediate-silent : {us vars : List ℕ} (k : ℕ) (e : Env) {d : Done} → Lined (e .page) → Refusing us false vars d → Silent (afterImmediate k e d)
+immediate-silent k e low goes h l = omega arith
+immediate-silent k e low skips h l = omega arith
+immediate-silent k e low (jumps {w = w} {q = q}) h l = run-silent k e q w low h l
+immediate-silent k e low refusing.ends h l = omega arith
+immediate-silent k e low (refuses i g) h l = false≢true (subst (OneOf quiet) h i)
 
-obey-silent : (k : ℕ) (e : Env) (w : World) (t : Typed) → Silent (obey k e w t)
+obey-silent : (k : ℕ) (e : Env) (w : World) (t : Typed) → Lined (e .page) → Silent (obey k e w t)
 unfolding obey
-obey-silent k e w blank = λ h l. omega arith
-obey-silent k e w new = edit-silent (e .page) w []
-obey-silent k e w clear = λ h l. omega arith
-obey-silent k e w run = run-silent k e 0 _
-obey-silent k e w (delete n) = by (hasLine n (recordsOf (e .page))) where
+obey-silent k e w blank low = λ h l. omega arith
+obey-silent k e w new low = edit-silent (e .page) w []
+obey-silent k e w clear low = λ h l. omega arith
+obey-silent k e w run low = run-silent k e 0 _ low
+obey-silent k e w (delete n) low = by (hasLine n (recordsOf (e .page))) where
   by : (b : Bool) → Silent (elim b [ true ↦ edited (e .page) w (without n (recordsOf (e .page))) | false ↦ stops 0 w (e .page) ])
   by true h l = edit-silent (e .page) w (without n (recordsOf (e .page))) h l
   by false h l = omega arith
-obey-silent k e w (list n) = immediate-silent k e (list-refuses [] false n (recordsOf (e .page)) w)
-obey-silent k e w (store n t ms) = edit-silent (e .page) w (with (record { line = n; text = t }) (recordsOf (e .page)))
-obey-silent k e w (immediate q) = by (needsProgram q) refl where
-  by : (b : Bool) → needsProgram q ≡ b → Silent (elim b [ true ↦ stops 3 w (e .page) | false ↦ immediately k e (exec e q w) ])
+obey-silent k e w (list n) low = immediate-silent k e low (list-refuses [] false n (recordsOf (e .page)) w)
+obey-silent k e w (store n t ms) low = edit-silent (e .page) w (with (record { line = n; text = t }) (recordsOf (e .page)))
+obey-silent k e w (immediate q) low = by (needsProgram q) refl where
+  by : (b : Bool) → needsProgram q ≡ b → Silent (elim b [ true ↦ stops 3 w (e .page) | false ↦ afterImmediate k e (exec e q w) ])
   by true n h l = omega arith
-  by false n h l = immediate-silent k e (rw (needs-asks q n .0) at (exec-refuses e q w)) h l
+  by false n h l = immediate-silent k e low (rw (needs-asks q n .0) at (exec-refuses e q w)) h l
 
-take-seven : {x : Lent} {o : Outcome} → Takes limit x o → o .answer .stop ≡ 7 → o .answer .line ≡ stopLine.NoLine → o ≡ unchanged x 7
+take-seven : {x : Lent} {o : Outcome} → Takes limit x o → o .answer .stop ≡ 7 → o .answer .line ≡ noLine → o ≡ unchanged x 7
 take-seven {x = x} (refused h) i l = ap (unchanged x) i
 take-seven (noCR z h) i l = refl
 take-seven (overlong g z h l) i n = absurd (omega arith)
 take-seven (unread g h r) i l = absurd (omega arith)
-take-seven {x = x} (reads g t h r) i l = absurd (obey-silent (x .call .budget) (envOf limit x) (begun x (g .taken)) t i l)
+take-seven {x = x} (reads g t h r) i l =
+    absurd (obey-silent (x .call .budget) (lentEnv limit x) (begun x (g .taken)) t (lines-low limit (x .page) (omega arith) (accepted-of limit x (h .sound) .good)) i l)
 
 -- "and 7 at the typed line, change nothing"
-pub no-cr-changes-nothing : (x : Lent) → takeLine x .answer .stop ≡ 7 → takeLine x .answer .line ≡ stopLine.NoLine → takeLine x ≡ unchanged x 7
+pub no-cr-changes-nothing : (x : Lent) → takeLine x .answer .stop ≡ 7 → takeLine x .answer .line ≡ noLine → takeLine x ≡ unchanged x 7
 unfolding takeLine
 no-cr-changes-nothing x = take-seven (every-line limit x)
 
 -- "2, 3 and 5 take the line and end a pause", and change nothing else
-pub record TakesLine (x : Lent) (n : ℕ) (o : Outcome) : Type 0 where
-  pub gathered : Gathered
-  pub line : lineOf limit x ≡ some gathered
-  pub leaves : o ≡ lineTaken x n (gathered .taken)
-
-abbrev two-three : List ℕ
-two-three = 2 ∷ 3 ∷ []
-
-take-two-three : {x : Lent} {o : Outcome} → Takes limit x o → OneOf two-three (o .answer .stop) → TakesLine x (o .answer .stop) o
-take-two-three {x = x} (refused {n} h) i = absurd (apart two-three firstNumbers refl (suc n) i (first-numbers limit x (suc n) h))
+take-two-three : {x : Lent} {o : Outcome} → Takes limit x o → OneOf twoAndThree (o .answer .stop) → TakesLine x (o .answer .stop) o
+take-two-three {x = x} (refused {n} h) i = absurd (apart twoAndThree firstNumbers refl (suc n) i (first-numbers limit x (suc n) h))
 take-two-three (noCR z h) i = absurd (false≢true i)
 take-two-three (overlong g z h l) i = absurd (false≢true i)
 take-two-three (unread g h r) i = absurd (false≢true i)
-take-two-three {x = x} (reads g t h r) i = by (obey-obeys (x .call .budget) (envOf limit x) (begun x (g .taken)) t) i where
-  by : {o : Outcome} → Obeys (envOf limit x) (begun x (g .taken)) o → OneOf two-three (o .answer .stop) → TakesLine x (o .answer .stop) o
+take-two-three {x = x} (reads g t h r) i = by (obey-obeys (x .call .budget) (lentEnv limit x) (begun x (g .taken)) t) i where
+  by : {o : Outcome} → Obeys (lentEnv limit x) (begun x (g .taken)) o → OneOf twoAndThree (o .answer .stop) → TakesLine x (o .answer .stop) o
   by full i = record { gathered = g; line = h .line; leaves = refl }
   by unfit i = record { gathered = g; line = h .line; leaves = refl }
-  by (ends {o = o} e) i = absurd (apart two-three runNumbers refl (o .answer .stop) i e)
+  by (ends {o = o} e) i = absurd (apart twoAndThree runNumbers refl (o .answer .stop) i e)
 
-pub two-and-three-take-the-line : (x : Lent) → OneOf two-three (takeLine x .answer .stop) → TakesLine x (takeLine x .answer .stop) (takeLine x)
+pub two-and-three-take-the-line : (x : Lent) → OneOf twoAndThree (takeLine x .answer .stop) → TakesLine x (takeLine x .answer .stop) (takeLine x)
 unfolding takeLine
 two-and-three-take-the-line x = take-two-three (every-line limit x)
 
@@ -172,7 +177,7 @@ two-and-three-take-the-line x = take-two-three (every-line limit x)
 module _ (x : Lent) where
   take-five : {o : Outcome} → Takes limit x o
       → ((g : Gathered) (y : Typed) → Typing limit x g → LineReading (g .line .bytes) y
-      → obey (x .call .budget) (envOf limit x) (begun x (g .taken)) y .answer .stop ≡ 5 → ⊥)
+      → obey (x .call .budget) (lentEnv limit x) (begun x (g .taken)) y .answer .stop ≡ 5 → ⊥)
       → o .answer .stop ≡ 5 → TakesLine x 5 o
   take-five (refused {n} h) f i = absurd (apart (5 ∷ []) firstNumbers refl (suc n) (rw i refl) (first-numbers limit x (suc n) h))
   take-five (noCR z h) f i = absurd (omega arith)
@@ -181,19 +186,19 @@ module _ (x : Lent) where
   take-five (reads g t h r) f i = absurd (f g t h (typed-sound (g .line .bytes) t r) i)
 
   pub five-takes-the-line : ((g : Gathered) (y : Typed) → Typing limit x g → LineReading (g .line .bytes) y
-      → obey (x .call .budget) (envOf limit x) (begun x (g .taken)) y .answer .stop ≡ 5 → ⊥)
+      → obey (x .call .budget) (lentEnv limit x) (begun x (g .taken)) y .answer .stop ≡ 5 → ⊥)
       → takeLine x .answer .stop ≡ 5 → TakesLine x 5 (takeLine x)
   unfolding takeLine
   five-takes-the-line = take-five (every-line limit x)
 
   -- over-long, or with no reading
-  pub unread-takes-the-line : firstRefusal limit x ≡ 0 → (g : Gathered) → lineOf limit x ≡ some g
+  pub unread-takes-the-line : firstRefusal limit x ≡ 0 → (g : Gathered) → gatheredLine limit x ≡ some g
       → (g .line .long ≡ true) ⊎ ((y : Typed) → LineReading (g .line .bytes) y → ⊥) → takeLine x ≡ lineTaken x 5 (g .taken)
   unfolding takeLine takeLineIn
   unread-takes-the-line z g h (inl l) = rw (z, takeLineIn) (rw h (rw l))
   unread-takes-the-line z g h (inr f) = rw (z, takeLineIn) (rw h (by (g .line .long) (typed (g .line .bytes)) refl)) where
     by : (b : Bool) (o : Option Typed) → typed (g .line .bytes) ≡ o
-        → elim b [ true ↦ lineTaken x 5 (g .taken) | false ↦ obeyRead (x .call .budget) (envOf limit x) (begun x (g .taken)) o ] ≡ lineTaken x 5 (g .taken)
+        → elim b [ true ↦ lineTaken x 5 (g .taken) | false ↦ obeyRead (x .call .budget) (lentEnv limit x) (begun x (g .taken)) o ] ≡ lineTaken x 5 (g .taken)
     by true o e = refl
     by false none e = refl
     by false (some y) e = absurd (f y (typed-sound (g .line .bytes) y e))

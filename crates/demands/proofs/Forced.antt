@@ -7,13 +7,9 @@ use mathlib.Core.Option.{none}
 use Rattle.nibl.specs.Page.{isGood, fits}
 use Rattle.nibl.specs.Calls.{Lent, inRange, firstRefusal, takeLine, takeLineIn, continueRun, continueRunIn, limit}
 use Rattle.page.proofs.Walk.{by-cases}
-use Rattle.demands.specs.Leaves.{unchanged}
-use Rattle.demands.proofs.Ways.{lineOf}
-use Rattle.demands.proofs.Accepted.{InRange, in-range-of, in-range-is}
-
--- both calls give all back as it came, with the stop n
-abbrev pub BothUnchanged : Lent → ℕ → Type 0
-BothUnchanged x n = (takeLine x ≡ unchanged x n) × (continueRun x ≡ unchanged x n)
+use Rattle.demands.specs.Lent.{gatheredLine, InRange}
+use Rattle.demands.specs.Leaves.{unchanged, BothUnchanged}
+use Rattle.demands.proofs.Accepted.{in-range-of, in-range-is}
 
 module _ (x : Lent) where
   refused-both : (n : ℕ) → firstRefusal limit x ≡ suc n → BothUnchanged x (suc n)
@@ -32,6 +28,6 @@ module _ (x : Lent) where
   unfolding firstRefusal
   a-record-that-does-not-fit-is-19 r g h = refused-both 18 (rw (in-range-is r, g, h))
 
-  pub no-cr-is-7 : firstRefusal limit x ≡ 0 → lineOf limit x ≡ none → takeLine x ≡ unchanged x 7
+  pub no-cr-is-7 : firstRefusal limit x ≡ 0 → gatheredLine limit x ≡ none → takeLine x ≡ unchanged x 7
   unfolding takeLine takeLineIn
   no-cr-is-7 z h = rw (z, takeLineIn) (rw h)

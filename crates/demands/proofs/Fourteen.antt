@@ -9,16 +9,17 @@ use Rattle.nibl.specs.Tree.{Typed, run, immediate}
 use Rattle.nibl.specs.Typing.{Gathered}
 use Rattle.nibl.specs.Readings.{LineReading}
 use Rattle.nibl.specs.Meaning.{World, Env, Next, stop}
-use Rattle.nibl.specs.Calls.{Lent, Outcome, runFrom, firstRefusal, envOf, takeLine, continueRun, limit}
+use Rattle.nibl.specs.Calls.{Lent, Outcome, runFrom, firstRefusal, lentEnv, takeLine, continueRun, limit}
 use Rattle.page.proofs.Walk.{by-cases}
 use Rattle.record.specs.Sound.{Sized}
-use Rattle.demands.specs.Sound.{Answered, byLine, byRun, budgeted}
-use Rattle.demands.specs.Starts.{Starts, byRUN, byStatement, StartsTyped, typed, StartsPaused}
-use Rattle.demands.specs.Steps.{endOf, crOf, GoesTo, afterIt, afterRecord, jumps, Ends, halts, runsOut, pauses, OneMore, StandsAt, begun, later, LeftToRun, NoStepMade, nothingLeft, pausedAtOnce}
+use Rattle.demands.specs.Lent.{budgeted}
+use Rattle.demands.specs.Sound.{Answered, byLine, byRun}
+use Rattle.demands.specs.Starts.{Starts, byRUN, byStatement, StartsTyped, typed, StartsPaused, ranFrom}
+use Rattle.demands.specs.Steps.{placeEnding, crOf, GoesTo, afterIt, afterRecord, jumps, Ends, halts, runsOut, pauses, OneMore, StandsAt, begun, later, LeftToRun, NoStepMade, nothingLeft, pausedAtOnce}
 use Rattle.demands.proofs.Sound.{unrefused}
 use Rattle.demands.proofs.LastStep.{Still, over, waits, unread, no-step}
 use Rattle.demands.proofs.Line.{the-answers-line}
-use Rattle.demands.proofs.Beginning.{ranFrom, a-run-begins, a-paused-run-goes-on, nothing-to-run-is-0, no-budget-pauses-at-once}
+use Rattle.demands.proofs.Beginning.{a-run-begins, a-paused-run-goes-on, nothing-to-run-is-0, no-budget-pauses-at-once}
 use Rattle.demands.proofs.Five.{exactly-5, continuing-never-answers-5}
 use Rattle.demands.proofs.Steps.{the-last-statement, the-last-statement-of-continue}
 
@@ -35,7 +36,7 @@ goes-on jumps e = let z : _≡_ {A = ℕ} 0 1 = cc in omega arith
 
 module _ (x : Lent) (From : ℕ → World → Type 0) (o' o : Outcome) where
   abbrev env : Env
-  env = envOf limit x
+  env = lentEnv limit x
 
   abbrev budget : ℕ
   budget = x .call .budget
@@ -54,7 +55,7 @@ module _ (x : Lent) (From : ℕ → World → Type 0) (o' o : Outcome) where
 
   paused-left : OneMore env budget o' o → o .answer .stop ≡ 14 → (o .answer .steps ≡ budget) × Left
   paused-left m i = by (m .ends) where
-    by : Ends (x .page) (endOf env (m .start) (m .last)) (crOf env (m .start)) (m .how) (m .after) budget o → (o .answer .steps ≡ budget) × Left
+    by : Ends (x .page) (placeEnding env (m .start) (m .last)) (crOf env (m .start)) (m .how) (m .after) budget o → (o .answer .steps ≡ budget) × Left
     by (halts h n s) = absurd (n i)
     by (runsOut q g h n s) = absurd (omega arith)
     by (pauses q a g h n k s) = (k, record { at = q; start = a; stands = later m g; follows = h })
@@ -64,7 +65,7 @@ module _ (x : Lent) (From : ℕ → World → Type 0) (o' o : Outcome) where
     by : StandsAt From env budget o' o (l .at) → o .answer .stop ≡ 14
     by (begun {w = w} b z) = ap (λ o. o .answer .stop) (begins (l .at) w b ∙ no-budget-pauses-at-once x (l .at) (l .start) w (sym n ∙ z) (l .follows))
     by (later m g) = end (m .ends) where
-      end : Ends (x .page) (endOf env (m .start) (m .last)) (crOf env (m .start)) (m .how) (m .after) budget o → o .answer .stop ≡ 14
+      end : Ends (x .page) (placeEnding env (m .start) (m .last)) (crOf env (m .start)) (m .how) (m .after) budget o → o .answer .stop ≡ 14
       end (halts h c s) = absurd (goes-on g h)
       end (runsOut q f h c s) =
           let same = goes-once f g in
@@ -84,7 +85,7 @@ module _ (x : Lent) (From : ℕ → World → Type 0) (o' o : Outcome) where
 pub fourteen-exactly : (x : Lent) → Sized (x .session) → firstRefusal limit x ≡ 0
     → (takeLine x .answer .stop ≡ 14)
     ↔ ((takeLine x .answer .steps ≡ x .call .budget)
-    × LeftToRun (StartsTyped limit x) (envOf limit x) (x .call .budget) (takeLine (budgeted (takeLine x .answer .steps - 1) x)) (takeLine x))
+    × LeftToRun (StartsTyped limit x) (lentEnv limit x) (x .call .budget) (takeLine (budgeted (takeLine x .answer .steps - 1) x)) (takeLine x))
 fourteen-exactly x sized z =
     exactly x (StartsTyped limit x) (takeLine (budgeted (takeLine x .answer .steps - 1) x)) (takeLine x) (the-answers-line x (unrefused limit x sized z) .0)
     (λ q w b. a-run-begins x b) (the-last-statement x sized)
@@ -92,15 +93,15 @@ fourteen-exactly x sized z =
 pub fourteen-exactly-of-continue : (x : Lent) → Sized (x .session) → firstRefusal limit x ≡ 0
     → (continueRun x .answer .stop ≡ 14)
     ↔ ((continueRun x .answer .steps ≡ x .call .budget)
-    × LeftToRun (StartsPaused limit x) (envOf limit x) (x .call .budget) (continueRun (budgeted (continueRun x .answer .steps - 1) x)) (continueRun x))
+    × LeftToRun (StartsPaused limit x) (lentEnv limit x) (x .call .budget) (continueRun (budgeted (continueRun x .answer .steps - 1) x)) (continueRun x))
 fourteen-exactly-of-continue x sized z =
     exactly x (StartsPaused limit x) (continueRun (budgeted (continueRun x .answer .steps - 1) x)) (continueRun x) (the-answers-line x (unrefused limit x sized z) .1)
     (λ q w b. a-paused-run-goes-on x b) (the-last-statement-of-continue x sized)
 
 -- The first step of a run is missing only where nothing is left to run, or at a budget of 0
 no-step-made : (x : Lent) (q : ℕ) (w : World) (o : Outcome) → o ≡ ranFrom x q w → o .answer .steps ≡ 0 → (o .answer .stop ≡ 5 → ⊥) → NoStepMade (x .page) (x .call .budget) q w o
-no-step-made x q w o e z five = by (no-step (x .call .budget) (envOf limit x) q w (sym (ap (λ o. o .answer .steps) e) ∙ z) .still) where
-  by : Still (x .page) (x .call .budget) q (runFrom (x .call .budget) (envOf limit x) q w) → NoStepMade (x .page) (x .call .budget) q w o
+no-step-made x q w o e z five = by (no-step (x .call .budget) (lentEnv limit x) q w (sym (ap (λ o. o .answer .steps) e) ∙ z) .still) where
+  by : Still (x .page) (x .call .budget) q (runFrom (x .call .budget) (lentEnv limit x) q w) → NoStepMade (x .page) (x .call .budget) q w o
   by (over h n) = nothingLeft h (e ∙ nothing-to-run-is-0 x q w h)
   by (waits a h n k at) = pausedAtOnce a h k (e ∙ no-budget-pauses-at-once x q a w k h)
   by (unread n) = absurd (five (ap (λ o. o .answer .stop) e ∙ n))
@@ -113,7 +114,7 @@ a-run-of-no-steps x sized {q = q} {w = w} b z = no-step-made x q w (takeLine x) 
   read (byStatement s r n e) f = f (immediate s) r
 
   five : {q : ℕ} {w : World} → StartsTyped limit x q w → takeLine x .answer .stop ≡ 5 → ⊥
-  five (typed g i h s b) c = read b (exactly-5 x g sized i h s .0 c)
+  five (typed g h b) c = read b (exactly-5 x g sized (h .sound) (h .line) (h .short) .0 c)
 
 pub a-continued-run-of-no-steps : (x : Lent) → Sized (x .session) → {q : ℕ} {w : World} → StartsPaused limit x q w → continueRun x .answer .steps ≡ 0
     → NoStepMade (x .page) (x .call .budget) q w (continueRun x)

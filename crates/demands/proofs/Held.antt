@@ -11,30 +11,31 @@ use borrow.Author.Tests.{eqb-true}
 use Rattle.nibl.specs.Bytes.{if_then_else_}
 use Rattle.nibl.specs.Tree.{Stmt}
 use Rattle.nibl.specs.Stack.{popOf}
-use Rattle.nibl.specs.Page.{Stored, isAmong, mark}
-use Rattle.nibl.specs.Meaning.{World, Env, on, skip, go, stop, Done, done, withGosubs, withSession, exec}
-use Rattle.nibl.specs.Calls.{Ran, envAt, runFrom, listFrom}
-use Rattle.nibl.specs.Calls.{onward as onwards}
+use Rattle.nibl.specs.Page.{Stored, isAmong}
+use Rattle.nibl.specs.Meaning.{World, Env, on, skip, go, stop, Done, done, withSession, exec}
+use Rattle.nibl.specs.Record.{mark, withGosubs}
+use Rattle.nibl.specs.Calls.{Ran, envAt, afterStep, runFrom, listFrom}
 use Rattle.nibl.specs.declared.Place.{Place}
 use Rattle.nibl.specs.declared.Session.{Session}
 use Rattle.nibl.specs.declared.Top.the-variants as top
-use Rattle.demands.specs.Effects.{refusals, Gives, gave, refused, gives, Does, writes, takes, refuses, passes, skips, assigns, assignsFlags, stores, goesTo, saves, returns, loops, repeats, leaves, begins, again, finishes, inputs}
+use Rattle.demands.specs.Effects.{refusals, GivesVariables, gave, refused, gives, Does, writes, takes, refuses, passes, skips, assigns, assignsFlags, stores, goesTo, saves, returns, loops, repeats, leaves, begins, again, finishes, inputs}
 use Rattle.demands.specs.Asks.{inputVars}
 use Rattle.demands.specs.Items.{ItemOf, ListItem}
-use Rattle.demands.specs.Leaves.{Items, noItem, item, Lines, noLine, line, SameButVars, Refused, Returned, Grown}
+use Rattle.demands.specs.Leaves.{WholeItems, noItem, item, WholeLines, noneTaken, line, SameButVars, Refused, Returned, Grown}
 use Rattle.demands.proofs.Effects.{exec-does, list-does}
-use Rattle.demands.proofs.Runs.{endOf, crOf, every-run}
+use Rattle.demands.specs.Steps.{placeEnding, crOf}
+use Rattle.demands.proofs.Runs.{every-run}
 use Rattle.demands.proofs.Refusing.{Refusing, exec-refuses, list-refuses}
 use Rattle.demands.proofs.Refusing as refusing
 
 -- memory, output and input
 record Around (e : Env) (W : List ℕ → Type 0) (w u : World) : Type 0 where
   memory : u .memory ≡ w .memory
-  items : Items W (w .output) (w .outpos) (u .output) (u .outpos)
-  lines : Lines (e .lim) (e .input) (w .inpos) (u .inpos)
+  items : WholeItems W (w .output) (w .outpos) (u .output) (u .outpos)
+  lines : WholeLines (e .lim) (e .input) (w .inpos) (u .inpos)
 
 data Leaves (e : Env) (W : List ℕ → Type 0) (w : World) : Done → Type 0 where
-  onward : {u : World} → Leaves e W w (done on u)
+  wentOn : {u : World} → Leaves e W w (done on u)
   skipped : {u : World} → Leaves e W w (done skip u)
   jumped : {u : World} {q : ℕ} → Leaves e W w (done (go q) u)
   returned : {u : World} → Returned (w .session) (u .session) → Around e W w u → Leaves e W w (done (stop 0) u)
@@ -42,48 +43,48 @@ data Leaves (e : Env) (W : List ℕ → Type 0) (w : World) : Done → Type 0 wh
 
 module _ (e : Env) (W : List ℕ → Type 0) where
   still : (w : World) → Around e W w w
-  still w = record { memory = refl; items = noItem; lines = noLine }
+  still w = record { memory = refl; items = noItem; lines = noneTaken }
 
   same : (s : Session) → SameButVars s s
   same s = record { flags = refl; gosubs = refl; dos = refl; fors = refl; paused = refl }
 
   -- after a change that is not of the record
   behind : {v w : World} → w .session ≡ v .session → ((u : World) → Around e W w u → Around e W v u) → {d : Done} → Leaves e W w d → Leaves e W v d
-  behind h f onward = onward
+  behind h f wentOn = wentOn
   behind h f skipped = skipped
   behind h f jumped = jumped
   behind h f (returned {u = u} r a) = returned (subst (λ s. Returned s (u .session)) h r) (f u a)
   behind h f (stopped {u = u} n k a) = stopped n (subst (λ s. SameButVars s (u .session)) h k) (f u a)
 
-  gives-leave : (v : World) {w : World} {d : Done} → SameButVars (v .session) (w .session) → Around e W v w → Gives w d → Leaves e W v d
-  gives-leave v k a gave = onward
+  gives-leave : (v : World) {w : World} {d : Done} → SameButVars (v .session) (w .session) → Around e W v w → GivesVariables w d → Leaves e W v d
+  gives-leave v k a gave = wentOn
   gives-leave v k a (refused h) = stopped h k a
   gives-leave v k a (gives x y g) =
       gives-leave v (record { flags = k .flags; gosubs = k .gosubs; dos = k .dos; fors = k .fors; paused = k .paused }) (record { memory = a .memory; items = a .items; lines = a .lines }) g
 
   return-leaves : (w : World) (p : Place) → popOf (w .session .gosubs) .top ≡ top.At p → (b : Bool) → eqb (p .0) mark ≡ b
       → Leaves e W w (done (if b then stop 0 else go (suc (p .0))) (withSession w (withGosubs (w .session) (popOf (w .session .gosubs) .stack))))
-  return-leaves w p h true m = returned (record { place = p; top = h; mark = eqb-true (p .0) mark m; rest = refl }) (record { memory = refl; items = noItem; lines = noLine })
+  return-leaves w p h true m = returned (record { place = p; top = h; mark = eqb-true (p .0) mark m; rest = refl }) (record { memory = refl; items = noItem; lines = noneTaken })
   return-leaves w p h false m = jumped
 
   does-leave : {vs : List ℕ} {w : World} {d : Done} → Does e vs W w d → Leaves e W w d
   does-leave (writes bs n h d) = behind refl (λ u a. record { memory = a .memory; items = item bs n h (a .items); lines = a .lines }) (does-leave d)
   does-leave (takes g h d) = behind refl (λ u a. record { memory = a .memory; items = a .items; lines = line g h (a .lines) }) (does-leave d)
   does-leave (refuses {w = w} h) = stopped h (same (w .session)) (still w)
-  does-leave passes = onward
+  does-leave passes = wentOn
   does-leave skips = skipped
-  does-leave (assigns v x) = onward
-  does-leave (assignsFlags x) = onward
-  does-leave (stores m h) = onward
+  does-leave (assigns v x) = wentOn
+  does-leave (assignsFlags x) = wentOn
+  does-leave (stores m h) = wentOn
   does-leave (goesTo n h) = jumped
   does-leave (saves n h g) = jumped
   does-leave (returns {w = w} p h) = return-leaves w p h (eqb (p .0) mark) refl
-  does-leave (loops h) = onward
+  does-leave (loops h) = wentOn
   does-leave (repeats p h) = jumped
-  does-leave (leaves p h) = onward
-  does-leave (begins v x y z l h) = onward
+  does-leave (leaves p h) = wentOn
+  does-leave (begins v x y z l h) = wentOn
   does-leave (again v f h g) = jumped
-  does-leave (finishes v f h g) = onward
+  does-leave (finishes v f h g) = wentOn
   does-leave {w = w} (inputs g) = gives-leave w (same (w .session)) (still w) g
 
 refused-by : {e : Env} {W : List ℕ → Type 0} {us : List ℕ} {b : Bool} {w u : World} {n : ℕ} → Leaves e W w (done (stop n) u) → Refusing us b (w .session .vars) (done (stop n) u) → (n ≡ 0 → ⊥)
@@ -108,7 +109,7 @@ pub refusing-list : (e : Env) (n : ℕ) (rs : List Stored) (w u : World) (m : �
 refusing-list e n rs w u m h z = refused-by (rw h at (does-leave e (ListItem n rs) (list-does e [] n rs w))) (rw h at (list-refuses [] false n rs w)) z
 
 -- items of one kind are items of another
-pub items-as : {Y W : List ℕ → Type 0} {out out' : List ℕ} {at at' : ℕ} → ((bs : List ℕ) → Y bs → W bs) → Items Y out at out' at' → Items W out at out' at'
+pub items-as : {Y W : List ℕ → Type 0} {out out' : List ℕ} {at at' : ℕ} → ((bs : List ℕ) → Y bs → W bs) → WholeItems Y out at out' at' → WholeItems W out at out' at'
 items-as f noItem = noItem
 items-as f (item bs n h r) = item bs (f bs n) h (items-as f r)
 
@@ -132,7 +133,7 @@ sets-behind out at bs k h i =
     ∙ drop-drop (k - (at + length bs)) (at + length bs) out
     ∙ ap (λ (j : ℕ). drop j out) n)
 
-pub items-grow : {W : List ℕ → Type 0} {out out' : List ℕ} {at at' : ℕ} → Items W out at out' at' → Grown out at out' at'
+pub items-grow : {W : List ℕ → Type 0} {out out' : List ℕ} {at at' : ℕ} → WholeItems W out at out' at' → Grown out at out' at'
 items-grow noItem = record { forward = omega arith; long = refl; before = refl; behind = refl }
 items-grow (item {out = out} {out' = out'} {at = at} {at' = at'} bs n h r) =
     let g = items-grow r in
@@ -146,8 +147,8 @@ items-grow (item {out = out} {out' = out'} {at = at} {at' = at'} bs n h r) =
     }
 
 -- "input only by whole lines"
-pub lines-forward : {lim : ℕ} {input : List ℕ} {at at' : ℕ} → Lines lim input at at' → at ≤ at'
-lines-forward noLine = omega arith
+pub lines-forward : {lim : ℕ} {input : List ℕ} {at at' : ℕ} → WholeLines lim input at at' → at ≤ at'
+lines-forward noneTaken = omega arith
 lines-forward (line g h r) = omega (arith, lines-forward r)
 
 -- What no step changes: the lengths of memory and output, and where a run is paused
@@ -178,7 +179,7 @@ recorded s h = record { lengths = record { memory = refl; output = refl }; pause
 then-steady : {w u v : World} → Steady w u → Steady u v → Steady w v
 then-steady a b = record { lengths = then-lengths (a .lengths) (b .lengths); paused = b .paused ∙ a .paused }
 
-gives-steady : {w : World} {d : Done} → Gives w d → Steady w (worldAfter d)
+gives-steady : {w : World} {d : Done} → GivesVariables w d → Steady w (worldAfter d)
 gives-steady gave = steady
 gives-steady (refused h) = steady
 gives-steady (gives v x g) = then-steady (recorded _ refl) (gives-steady g)
@@ -204,15 +205,15 @@ does-steady (again v f h g) = recorded _ refl
 does-steady (finishes v f h g) = recorded _ refl
 does-steady (inputs g) = gives-steady g
 
-onward-steady : (w : World) (d : Done) (p cr : ℕ) (k : ℕ → World → Ran) → Steady w (worldAfter d) → ((q : ℕ) (u : World) → Steady u (k q u .world))
-    → Steady w (onwards d p cr k .world)
-onward-steady w (done on u) p cr k l f = then-steady l (f (suc p) u)
-onward-steady w (done skip u) p cr k l f = then-steady l (f (suc cr) u)
-onward-steady w (done (go q) u) p cr k l f = then-steady l (f q u)
-onward-steady w (done (stop n) u) p cr k l f = l
+after-steady : (w : World) (d : Done) (p cr : ℕ) (k : ℕ → World → Ran) → Steady w (worldAfter d) → ((q : ℕ) (u : World) → Steady u (k q u .world))
+    → Steady w (afterStep d p cr k .world)
+after-steady w (done on u) p cr k l f = then-steady l (f (suc p) u)
+after-steady w (done skip u) p cr k l f = then-steady l (f (suc cr) u)
+after-steady w (done (go q) u) p cr k l f = then-steady l (f q u)
+after-steady w (done (stop n) u) p cr k l f = l
 
 pub run-steady : (k : ℕ) (e : Env) (q : ℕ) (w : World) → Steady w (runFrom k e q w .world)
 run-steady k e q w =
     every-run e (λ k q w r. Steady w (r .world)) (λ k q w h. steady) (λ q w a h. steady) (λ k q w a h g. steady)
-    (λ k q w a m s h g i. onward-steady w (exec (envAt e (endOf e a m)) (m .statement) w) (endOf e a m) (crOf e a) (runFrom k e)
-    (does-steady (exec-does (envAt e (endOf e a m)) (m .statement) w)) i) k q w
+    (λ k q w a m s h g i. after-steady w (exec (envAt e (placeEnding e a m)) (m .statement) w) (placeEnding e a m) (crOf e a) (runFrom k e)
+    (does-steady (exec-does (envAt e (placeEnding e a m)) (m .statement) w)) i) k q w

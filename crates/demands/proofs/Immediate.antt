@@ -6,11 +6,12 @@ use mathlib.Core.List.{List, [], _∷_}
 use lib.ListN.{length}
 use lib.Dec.{leb, eqb}
 use Rattle.nibl.specs.Tree.{Item, text, stored, value}
-use Rattle.nibl.specs.Tree.{Stmt, letVar, letStat, letByte, letCopy, letText, goto, gosub, until, return, loop, remark, end, print, ifThen, for, next, input, inputText}
+use Rattle.nibl.specs.Tree.{Stmt, letVar, letStat, letByte, letCopy, letText, goto, gosub, until, return, doLoop, remark, end, print, ifThen, for, next, input, inputText}
 use Rattle.nibl.specs.Values.{Result, is, no, printed}
 use Rattle.nibl.specs.Stack.{pushOf}
 use Rattle.nibl.specs.Page.{Stored, find}
-use Rattle.nibl.specs.Meaning.{World, Env, on, skip, go, stop, Done, done, place, bind, given, went, eval, stringAt, lineThere, put, putItem, putItems, putEnd, keepIn, gosubTo, returnBy, exec}
+use Rattle.nibl.specs.Meaning.{World, Env, on, skip, go, stop, Done, done, bind, given, went, eval, stringAt, lineThere, put, putItem, putItems, putEnd, keepIn, gosubTo, returnBy, exec}
+use Rattle.nibl.specs.Record.{place}
 use Rattle.nibl.specs.Calls.{needsProgram, listed, listFrom}
 use Rattle.nibl.specs.declared.Top.{Top}
 use Rattle.nibl.specs.declared.Top.the-variants as top
@@ -77,7 +78,7 @@ exec-keeps e (goto a) w h = given-keeps (bind (eval e w a) (λ n. lineThere (fin
 exec-keeps e (gosub a) w h = given-keeps (bind (eval e w a) (λ n. lineThere (find (e .page) n))) w _ (gosub-keeps e w)
 exec-keeps e (until a) w h = absurd (true≢false h)
 exec-keeps e return w h = return-keeps w _
-exec-keeps e loop w h = absurd (true≢false h)
+exec-keeps e doLoop w h = absurd (true≢false h)
 exec-keeps e remark w h = kept refl
 exec-keeps e end w h = kept refl
 exec-keeps e (print items b) w h = went-keeps w (putItems e items w) (putEnd b) (items-keep e items w) (end-keeps b)

@@ -1,5 +1,5 @@
 -- A run of one or more steps is the run with one step less, which pauses, and one statement more. Assumes nothing.
-use Prim.Native.Nat.{ℕ, zero, suc, _≤_}
+use Prim.Native.Nat.{ℕ, suc, _≤_}
 use mathlib.Core.Path.{_≡_, refl, sym, ap, _∙_}
 use mathlib.Core.List.{List}
 use mathlib.Core.Bool.{true}
@@ -13,15 +13,13 @@ use Rattle.nibl.specs.Tree.{Member}
 use Rattle.nibl.specs.Read.{Found, found, member}
 use Rattle.nibl.specs.Page.{isAmong, lineOf}
 use Rattle.nibl.specs.Meaning.{World, Env, Next, on, skip, go, stop, Done, done, exec}
-use Rattle.nibl.specs.Calls.{Ran, ran, stepped, textFrom, lineFrom, envAt, onward, step, runFrom, pausedAt, stops}
+use Rattle.nibl.specs.Calls.{Ran, ran, stepped, textFrom, lineFrom, envAt, afterStep, step, runFrom, stops}
+use Rattle.nibl.specs.Record.{nowhere, withPaused, unpaused}
 use Rattle.nibl.specs.declared.Session.{Session}
-use Rattle.nibl.specs.declared.Paused.the-variants.{Nowhere}
-use Rattle.demands.specs.Leaves.{unpaused}
-use Rattle.demands.specs.Starts.{resumes}
-use Rattle.demands.proofs.Runs.{run-zero, run-suc, oneStep, endOf, crOf, every-run}
-use Rattle.demands.specs.Steps.{GoesTo, afterIt, afterRecord, jumps}
+use Rattle.demands.proofs.Runs.{run-zero, run-suc, oneStep, every-run}
+use Rattle.demands.specs.Lent.{OneOf}
+use Rattle.demands.specs.Steps.{placeEnding, crOf, GoesTo, afterIt, afterRecord, jumps}
 use Rattle.demands.proofs.Budget.{stopNumbers, StopsWith, stopped, exec-stops}
-use Rattle.demands.proofs.Numbers.{OneOf}
 use Rattle.demands.proofs.Fixed.{unsaid}
 
 -- how a run ends, within the budget k, whose last member ended so
@@ -42,10 +40,10 @@ pub record LastStep (e : Env) (k q : ℕ) (w : World) (r : Ran) : Type 0 where
   pub rest : List ℕ
   pub stands : member (lineFrom (e .page) start) ≡ found last rest
   pub how : Next
-  pub goes : exec (envAt e (endOf e start last)) (last .statement) (runFrom before e q w .world) ≡ done how (r .world)
+  pub goes : exec (envAt e (placeEnding e start last)) (last .statement) (runFrom before e q w .world) ≡ done how (r .world)
   pub stops : (OneOf unsaid (r .stop) → ⊥) → how ≡ stop (r .stop)
-  pub place : (OneOf unsaid (r .stop) → ⊥) → r .at ≡ endOf e start last
-  pub ends : RunEnds (e .page) (endOf e start last) (crOf e start) how k r
+  pub place : (OneOf unsaid (r .stop) → ⊥) → r .at ≡ placeEnding e start last
+  pub ends : RunEnds (e .page) (placeEnding e start last) (crOf e start) how k r
 
 -- a run of no steps
 pub data Still (page : List ℕ) (k q : ℕ) (r : Ran) : Type 0 where
@@ -69,17 +67,17 @@ stop-among (stopped h) = h
 
 module _ (e : Env) (q : ℕ) (w : World) (a : ℕ) (m : Member) (s : List ℕ) (h : textFrom (e .page) q ≡ some a) (g : member (lineFrom (e .page) a) ≡ found m s) where
   abbrev d : Done
-  d = exec (envAt e (endOf e a m)) (m .statement) w
+  d = exec (envAt e (placeEnding e a m)) (m .statement) w
 
   abbrev l : ℕ
-  l = lineOf (e .page) (endOf e a m)
+  l = lineOf (e .page) (placeEnding e a m)
 
   a-step : (k : ℕ) → runFrom (suc k) e q w ≡ oneStep e a m w (runFrom k e)
   a-step k = run-suc k e q w a h ∙ ap (λ (f : Found Member). step e a w f (runFrom k e)) g
 
   -- this step was the last
-  last-here : (k : ℕ) (r : Ran) (c : Next) → length (r .lines) ≡ 0 → d ≡ done c (r .world) → ((OneOf unsaid (r .stop) → ⊥) → c ≡ stop (r .stop)) → ((OneOf unsaid (r .stop) → ⊥) → r .at ≡ endOf e a m)
-      → RunEnds (e .page) (endOf e a m) (crOf e a) c k (stepped l r) → LastStep e k q w (stepped l r)
+  last-here : (k : ℕ) (r : Ran) (c : Next) → length (r .lines) ≡ 0 → d ≡ done c (r .world) → ((OneOf unsaid (r .stop) → ⊥) → c ≡ stop (r .stop)) → ((OneOf unsaid (r .stop) → ⊥) → r .at ≡ placeEnding e a m)
+      → RunEnds (e .page) (placeEnding e a m) (crOf e a) c k (stepped l r) → LastStep e k q w (stepped l r)
   last-here k r c n f i j o =
       record {
         before = 0;
@@ -104,7 +102,7 @@ module _ (e : Env) (q : ℕ) (w : World) (a : ℕ) (m : Member) (s : List ℕ) (
   longer k r (pauses q b g h i n j) = pauses q b g h i (ap suc n) j
   longer k r (breaks h) = breaks h
 
-  last-later : (k q' : ℕ) (u : World) → ((k : ℕ) → onward d (endOf e a m) (crOf e a) (runFrom k e) ≡ runFrom k e q' u) → LastStep e k q' u (runFrom k e q' u)
+  last-later : (k q' : ℕ) (u : World) → ((k : ℕ) → afterStep d (placeEnding e a m) (crOf e a) (runFrom k e) ≡ runFrom k e q' u) → LastStep e k q' u (runFrom k e q' u)
       → LastStep e (suc k) q w (stepped l (runFrom k e q' u))
   last-later k q' u f t =
       let b = t .before in
@@ -125,16 +123,16 @@ module _ (e : Env) (q : ℕ) (w : World) (a : ℕ) (m : Member) (s : List ℕ) (
         ends = longer k (runFrom k e q' u) (t .ends);
       }
 
-  stood : (k q' : ℕ) (r : Ran) (c : Next) → GoesTo (endOf e a m) (crOf e a) c q' → length (r .lines) ≡ 0 → Still (e .page) k q' r
-      → RunEnds (e .page) (endOf e a m) (crOf e a) c (suc k) (stepped l r)
+  stood : (k q' : ℕ) (r : Ran) (c : Next) → GoesTo (placeEnding e a m) (crOf e a) c q' → length (r .lines) ≡ 0 → Still (e .page) k q' r
+      → RunEnds (e .page) (placeEnding e a m) (crOf e a) c (suc k) (stepped l r)
   stood k q' r c to z (over h i) = runsOut q' to h i
   stood k q' r c to z (waits b h i n j) = pauses q' b to h i (ap suc (z ∙ sym n)) j
   stood k q' r c to z (unread i) = breaks i
 
-  goes-on : (k : ℕ) → ((q : ℕ) (w : World) → 1 ≤ length (runFrom k e q w .lines) → LastStep e k q w (runFrom k e q w)) → (c : Next) (u : World) → d ≡ done c u → (q' : ℕ) → GoesTo (endOf e a m) (crOf e a) c q'
-      → ((k : ℕ) → onward (done c u) (endOf e a m) (crOf e a) (runFrom k e) ≡ runFrom k e q' u) → LastStep e (suc k) q w (oneStep e a m w (runFrom k e))
+  goes-on : (k : ℕ) → ((q : ℕ) (w : World) → 1 ≤ length (runFrom k e q w .lines) → LastStep e k q w (runFrom k e q w)) → (c : Next) (u : World) → d ≡ done c u → (q' : ℕ) → GoesTo (placeEnding e a m) (crOf e a) c q'
+      → ((k : ℕ) → afterStep (done c u) (placeEnding e a m) (crOf e a) (runFrom k e) ≡ runFrom k e q' u) → LastStep e (suc k) q w (oneStep e a m w (runFrom k e))
   goes-on k i c u f q' to j =
-      let t : (k : ℕ) → onward d (endOf e a m) (crOf e a) (runFrom k e) ≡ runFrom k e q' u = λ k. ap (λ (c : Done). onward c (endOf e a m) (crOf e a) (runFrom k e)) f ∙ j k in
+      let t : (k : ℕ) → afterStep d (placeEnding e a m) (crOf e a) (runFrom k e) ≡ runFrom k e q' u = λ k. ap (λ (c : Done). afterStep c (placeEnding e a m) (crOf e a) (runFrom k e)) f ∙ j k in
       rw (t k)
       (by-cases (eqb (length (runFrom k e q' u .lines)) 0)
       (λ n.
@@ -144,19 +142,15 @@ module _ (e : Env) (q : ℕ) (w : World) (a : ℕ) (m : Member) (s : List ℕ) (
       (λ n. last-later k q' u t (i q' u (omega (arith, eqb-false (length (runFrom k e q' u .lines)) 0 n)))))
 
   last-of : (k : ℕ) → ((q : ℕ) (w : World) → 1 ≤ length (runFrom k e q w .lines) → LastStep e k q w (runFrom k e q w)) → (c : Done) → d ≡ c → LastStep e (suc k) q w (oneStep e a m w (runFrom k e))
-  last-of k i (done on u) f = goes-on k i on u f (suc (endOf e a m)) afterIt (λ k. refl)
+  last-of k i (done on u) f = goes-on k i on u f (suc (placeEnding e a m)) afterIt (λ k. refl)
   last-of k i (done skip u) f = goes-on k i skip u f (suc (crOf e a)) afterRecord (λ k. refl)
   last-of k i (done (go q') u) f = goes-on k i (go q') u f q' jumps (λ k. refl)
-  last-of k i (done (stop n) u) f = rw f (last-here (suc k) (ran n (endOf e a m) u) (stop n) refl f (λ v. refl) (λ v. refl) (halts refl (stop-among (rw f at (exec-stops (envAt e (endOf e a m)) (m .statement) w)))))
+  last-of k i (done (stop n) u) f = rw f (last-here (suc k) (ran n (placeEnding e a m) u) (stop n) refl f (λ v. refl) (λ v. refl) (halts refl (stop-among (rw f at (exec-stops (envAt e (placeEnding e a m)) (m .statement) w)))))
 
 pub last-step : (k : ℕ) (e : Env) (q : ℕ) (w : World) → 1 ≤ length (runFrom k e q w .lines) → LastStep e k q w (runFrom k e q w)
 last-step k e q w =
     every-run e (λ k q w r. 1 ≤ length (r .lines) → LastStep e k q w r) (λ k q w h n. absurd (omega arith)) (λ q w a h n. absurd (omega arith)) (λ k q w a h g n. absurd (omega arith))
-    (λ k q w a m s h g i n. last-of e q w a m s h g k i (exec (envAt e (endOf e a m)) (m .statement) w) refl) k q w
+    (λ k q w a m s h g i n. last-of e q w a m s h g k i (exec (envAt e (placeEnding e a m)) (m .statement) w) refl) k q w
 
-pub resumes-at : (q : ℕ) → resumes (pausedAt q) ≡ q
-resumes-at zero = refl
-resumes-at (suc q) = refl
-
-pub unpaused-same : (s : Session) → s .paused ≡ Nowhere → unpaused s ≡ s
-unpaused-same s h = λ i. record { vars = s .vars; flags = s .flags; gosubs = s .gosubs; dos = s .dos; fors = s .fors; paused = sym h i }
+pub unpaused-same : (s : Session) → s .paused ≡ nowhere → unpaused s ≡ s
+unpaused-same s h = ap (withPaused s) (sym h)

@@ -29,3 +29,4 @@ pub mod Fourteen
 pub mod Within
 pub mod Written
 pub mod Printing
+pub mod Left

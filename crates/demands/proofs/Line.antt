@@ -11,22 +11,21 @@ use lib.Dec.{eqb}
 use borrow.Author.Tests.{eqb-true, eqb-false}
 use Rattle.nibl.specs.Page.{isAmong, isGood, placesOf, lineOf}
 use Rattle.nibl.specs.Meaning.{World, Env}
-use Rattle.nibl.specs.Calls.{Lent, Outcome, Ran, runFrom, stopAt, stops, worldOf, firstRefusal, takeLine, continueRun, envOf, limit}
-use Rattle.nibl.specs.declared.StopLine.{StopLine}
-use Rattle.nibl.specs.declared.StopLine.the-variants as stopLine
+use Rattle.nibl.specs.Calls.{Lent, Outcome, Ran, noLine, runFrom, stopAt, stops, lentWorld, firstRefusal, takeLine, continueRun, lentEnv, limit}
 use Rattle.page.proofs.Walk.{by-cases, or-false}
 use Rattle.nibl.proofs.Words.{or-cases}
 use Rattle.page.specs.Standing.{Stands, LiesIn}
 use Rattle.page.proofs.Standing.{place-lies}
 use Rattle.record.specs.Sound.{Sound}
 use Rattle.record.proofs.Fitted.{sound-fit, fit-sound}
-use Rattle.demands.specs.Sound.{Shows, noLine, aLine, Answered, byLine, byRun}
+use Rattle.demands.specs.Lent.{OneOf}
+use Rattle.demands.specs.Sound.{Shows, without, itsLine, Answered, byLine, byRun}
 use Rattle.demands.specs.Starts.{StartsTyped, StartsPaused}
 use Rattle.demands.proofs.Ways.{Takes, refused, noCR, overlong, unread, reads, every-line, Continues, refused′, continues, every-continue}
-use Rattle.demands.proofs.Runs.{endOf}
-use Rattle.demands.proofs.Numbers.{OneOf, first-numbers}
-use Rattle.demands.proofs.Fixed.{unsaid}
-use Rattle.demands.proofs.LastStep.{LastStep, last-step}
+use Rattle.demands.specs.Steps.{placeEnding}
+use Rattle.demands.proofs.Numbers.{first-numbers}
+use Rattle.demands.proofs.Fixed.{unsaid, lines-low}
+use Rattle.demands.proofs.LastStep.{LastStep}
 use Rattle.demands.proofs.Five.{no-grammar-refusal-while-running}
 use Rattle.demands.proofs.Running.{Goings, runsOut, pauses, steps, run-goes}
 use Rattle.demands.proofs.Running.{stops as halts}
@@ -37,7 +36,7 @@ data LastIs (l : ℕ) : List ℕ → Type 0 where
   here : LastIs l (l ∷ [])
   later : {m : ℕ} {ls : List ℕ} → LastIs l ls → LastIs l (m ∷ ls)
 
-pub silent : (n : ℕ) (ls : List ℕ) → (eqb n 0 || eqb n 14) ≡ true → stopAt n ls ≡ stopLine.NoLine
+pub silent : (n : ℕ) (ls : List ℕ) → (eqb n 0 || eqb n 14) ≡ true → stopAt n ls ≡ noLine
 silent n [] h = refl
 silent n (l ∷ []) h = rw h
 silent n (l ∷ m ∷ ls) h = silent n (m ∷ ls) h
@@ -46,7 +45,7 @@ one-more : {l : ℕ} {ls : List ℕ} (n m : ℕ) → LastIs l ls → stopAt n (m
 one-more n m here = refl
 one-more n m (later t) = refl
 
-spoken : {l : ℕ} {ls : List ℕ} (n : ℕ) → (eqb n 0 || eqb n 14) ≡ false → LastIs l ls → stopAt n ls ≡ stopLine.At (record { 0 = l })
+spoken : {l : ℕ} {ls : List ℕ} (n : ℕ) → (eqb n 0 || eqb n 14) ≡ false → LastIs l ls → stopAt n ls ≡ l
 spoken n h here = rw h
 spoken n h (later {m = m} t) = one-more n m t ∙ spoken n h t
 
@@ -72,12 +71,14 @@ module _ (lim : ℕ) (e : Env) (short : lim ≤ 251) (good : isGood lim (e .page
   goings-show r g =
       by-cases (eqb (r .stop) 0 || eqb (r .stop) 14)
       (λ h. rw (silent (r .stop) (r .lines) h)
-      (noLine (or-cases (eqb (r .stop) 0) (eqb (r .stop) 14) h (λ i. inl (eqb-true (r .stop) 0 i)) (λ i. inr (eqb-true (r .stop) 14 i)))))
+      (without (or-cases (eqb (r .stop) 0) (eqb (r .stop) 14) h (λ i. inl (eqb-true (r .stop) 0 i)) (λ i. inr (eqb-true (r .stop) 14 i)))))
       (λ h.
       let n = or-false (eqb (r .stop) 0) (eqb (r .stop) 14) h in
+      let m = eqb-false (r .stop) 0 (n .0) in
+      let o = eqb-false (r .stop) 14 (n .1) in
       let s = goings-stopped g h in
       rw (spoken (r .stop) h (s .last))
-      (aLine (eqb-false (r .stop) 0 (n .0)) (eqb-false (r .stop) 14 (n .1)) (s .place) (place-lies lim (e .page) short good (r .at) (s .place))))
+      (itsLine m o (some-step g m o) (s .place) (place-lies lim (e .page) short good (r .at) (s .place)) (lines-low lim (e .page) short good (r .at))))
 
 -- "when an answer has a line number, it is that of the record the last step's place lies in"
 pub run-shows : (lim : ℕ) (e : Env) → lim ≤ 251 → (k q : ℕ) (w : World) → Sound lim (e .page) (w .session) → Stands (e .page) q
@@ -86,12 +87,8 @@ run-shows lim e short k q w h s = goings-show lim e short (h .good) (runFrom k e
 
 -- and the last step is the one that gave the stop
 pub record LineOf {e : Env} {k q : ℕ} {w : World} {r : Ran} (t : LastStep e k q w r) : Type 0 where
-  pub line : stopAt (r .stop) (r .lines) ≡ stopLine.At (record { 0 = lineOf (e .page) (endOf e (t .start) (t .last)) })
-  pub lies : LiesIn (e .page) (endOf e (t .start) (t .last)) (lineOf (e .page) (endOf e (t .start) (t .last)))
-
-pub record StepsLine (e : Env) (k q : ℕ) (w : World) (r : Ran) : Type 0 where
-  pub step : LastStep e k q w r
-  pub its : LineOf step
+  pub line : stopAt (r .stop) (r .lines) ≡ lineOf (e .page) (placeEnding e (t .start) (t .last))
+  pub lies : LiesIn (e .page) (placeEnding e (t .start) (t .last)) (lineOf (e .page) (placeEnding e (t .start) (t .last)))
 
 module _ (lim : ℕ) (e : Env) (short : lim ≤ 251) (k q : ℕ) (w : World) (h : Sound lim (e .page) (w .session)) (s : Stands (e .page) q)
     (m : runFrom k e q w .stop ≡ 0 → ⊥) (n : runFrom k e q w .stop ≡ 14 → ⊥) where
@@ -105,26 +102,21 @@ module _ (lim : ℕ) (e : Env) (short : lim ≤ 251) (k q : ℕ) (w : World) (h 
 
   pub a-last-steps-line : (t : LastStep e k q w r) → LineOf t
   a-last-steps-line t = by (run-shows lim e short k q w h s) refl where
-    by : {l : StopLine} → Shows (e .page) r l → stopAt (r .stop) (r .lines) ≡ l → LineOf t
-    by (noLine (inl i)) f = absurd (m i)
-    by (noLine (inr i)) f = absurd (n i)
-    by (aLine i j p d) f = let at = t .place stopped in record { line = rw (← at) f; lies = rw (← at) d }
-
-  pub the-last-steps-line : StepsLine e k q w r
-  the-last-steps-line =
-      let t = last-step k e q w (some-step (run-goes lim e short (h .good) k q w s (sound-fit h)) m n) in
-      record { step = t; its = a-last-steps-line t }
+    by : {l : ℕ} → Shows (e .page) r l → stopAt (r .stop) (r .lines) ≡ l → LineOf t
+    by (without (inl i)) f = absurd (m i)
+    by (without (inr i)) f = absurd (n i)
+    by (itsLine i j l p d c) f = let at = t .place stopped in record { line = rw (← at) f; lies = rw (← at) d }
 
 -- Of the calls
 module _ (lim : ℕ) (short : lim ≤ 251) (x : Lent) (sound : Sound lim (x .page) (x .session)) where
-  obeyed-answer : {v : World} {From : ℕ → World → Type 0} {o : ℕ → Outcome} → Obeyed lim (envOf lim x) v From o → Answered lim x From (o (x .call .budget))
+  obeyed-answer : {v : World} {From : ℕ → World → Type 0} {o : ℕ → Outcome} → Obeyed lim (lentEnv lim x) v From o → Answered lim x From (o (x .call .budget))
   obeyed-answer (stands h f) = byLine refl refl (λ e. false≢true (rw e at h))
   obeyed-answer (edits p n f) = byLine refl refl (λ e. omega arith)
   obeyed-answer (runs q w s f i j b) =
       let h = fit-sound lim (sound .good) f in
-      byRun q w b s h refl (run-shows lim (envOf lim x) short (x .call .budget) q w h s)
+      byRun q w b s h refl (run-shows lim (lentEnv lim x) short (x .call .budget) q w h s)
 
-  first-answer : {From : ℕ → World → Type 0} (n : ℕ) → firstRefusal lim x ≡ suc n → Answered lim x From (stops (suc n) (worldOf x) (x .page))
+  first-answer : {From : ℕ → World → Type 0} (n : ℕ) → firstRefusal lim x ≡ suc n → Answered lim x From (stops (suc n) (lentWorld x) (x .page))
   first-answer n e = byLine refl refl (λ h. false≢true (rw h at (first-numbers lim x (suc n) e)))
 
   take-answer : {o : Outcome} → Takes lim x o → Answered lim x (StartsTyped lim x) o

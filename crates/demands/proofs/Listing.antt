@@ -10,7 +10,7 @@ use lib.ListN.{length, take, drop, length-append, length-drop}
 use lib.Seq.{sets, sets-eq, length-sets, take-at, drop-at, drop-drop, drop-append-add, length-take-le}
 use lib.Dec.{ltb}
 use borrow.Author.Tests.{le-leb, le-ltb, ne-eqb}
-use Rattle.nibl.specs.Bytes.{bytes, isDigit, all, All, starts, decimalValue}
+use Rattle.nibl.specs.Bytes.{bytes, isDigit, All, starts, decimalValue}
 use Rattle.nibl.specs.Bytes as plain
 use Rattle.nibl.specs.Words.{decimal, Run, Word, keywords}
 use Rattle.nibl.specs.Words as words
@@ -21,8 +21,9 @@ use Rattle.nibl.specs.Readings.{LineReading}
 use Rattle.nibl.specs.Typing.{kept, Gathered, gather}
 use Rattle.nibl.specs.Values.{digits}
 use Rattle.nibl.specs.Page.{Stored, programBytes, recordsOf, usedBy, used, fits, with, onto}
+use Rattle.nibl.specs.Record.{unpaused, stackless}
 use Rattle.nibl.specs.Meaning.{World, withSession, withOutput, on, done, put}
-use Rattle.nibl.specs.Calls.{Lent, stops, firstRefusal, begun, envOf, listed, listFrom, immediately, edited, obey, takeLine, limit}
+use Rattle.nibl.specs.Calls.{Lent, stops, firstRefusal, begun, lentEnv, listed, listFrom, afterImmediate, edited, obey, takeLine, limit}
 use Rattle.nibl.specs.declared.Session.{Session}
 use Rattle.nibl.proofs.Ends.{line-text}
 use Rattle.nibl.proofs.Lines.{reading-sound}
@@ -31,23 +32,23 @@ use Rattle.letter.proofs.Classes.{isPlain}
 use Rattle.letter.proofs.Typed as letters
 use Rattle.value.proofs.Digits.{value-digits, digits-are, digits-some}
 use Rattle.value.proofs.Writing.{sets-append}
-use Rattle.page.proofs.Program.{Bytes, Storable, Program, none, each, program-length}
+use Rattle.page.specs.Standing.{Bytes, Storable}
+use Rattle.page.proofs.Program.{Program, none, each, program-length}
 use Rattle.page.proofs.Stored.{stored-read, stored-undigit, stored-short}
 use Rattle.page.proofs.Laid.{good-bytes}
 use Rattle.page.proofs.Listings.{listed-length}
 use Rattle.page.proofs.Changes.{lower, onto-good, onto-records}
-use Rattle.record.proofs.Fitted.{fits-parts}
-use Rattle.demands.specs.Leaves.{stackless}
-use Rattle.demands.specs.Listing.{listing, listingRoom, written, Lists, lentNext, afterLines, answers, Stops0, lastLF, RoundTrip}
+use Rattle.record.proofs.Fitted.{fits-tests}
+use Rattle.demands.specs.Lent.{Typing}
+use Rattle.demands.specs.Listing.{listingOf, listingRoom, written, Lists, lentNext, afterLines, answers, Stops0, lastLF, RoundTrip}
 use Rattle.demands.specs.Listing as listings
-use Rattle.demands.proofs.Ways.{Typing}
 use Rattle.demands.proofs.Accepted.{Accepted, accepted-of, accepted-is}
 use Rattle.demands.proofs.Retyping.{program, program-room, line-read, edited-fits, onto-length, onto-after, onto-used}
 
 -- What LIST writes
-pub listing-length : (rs : List Stored) → length (listing rs) ≡ listingRoom rs
+pub listing-length : (rs : List Stored) → length (listingOf rs) ≡ listingRoom rs
 listing-length [] = refl
-listing-length (r ∷ rs) = length-append (listed r) (listing rs) ∙ omega (arith, listed-length r, listing-length rs)
+listing-length (r ∷ rs) = length-append (listed r) (listingOf rs) ∙ omega (arith, listed-length r, listing-length rs)
 
 abbrev wrote : World → List ℕ → World
 wrote w bs = withOutput w (sets (w .output) (w .outpos) bs) (w .outpos + length bs)
@@ -61,25 +62,25 @@ wrote-more w a b =
     let e : w .outpos + length a + length b ≡ w .outpos + length (a ++ b) = omega (arith, length-append a b) in
     λ i. withOutput w (sym (sets-append a b (w .output) (w .outpos)) i) (e i)
 
-list-whole : (rs : List Stored) (w : World) → w .outpos + length (listing rs) ≤ length (w .output) → listFrom 0 rs w ≡ done on (wrote w (listing rs))
+list-whole : (rs : List Stored) (w : World) → w .outpos + length (listingOf rs) ≤ length (w .output) → listFrom 0 rs w ≡ done on (wrote w (listingOf rs))
 unfolding listFrom
 list-whole [] w h = ap (λ (n : ℕ). done on (withOutput w (w .output) n)) (sym (add-zero (w .outpos)))
 list-whole (r ∷ rs) w h =
-    let a = length-append (listed r) (listing rs) in
+    let a = length-append (listed r) (listingOf rs) in
     rw (le-leb 0 (r .line) (omega arith), listFrom) (rw (put-fits (listed r) w (omega arith))
-    (list-whole rs (wrote w (listed r)) (omega (arith, length-sets (w .output) (w .outpos) (listed r))) ∙ ap (done on) (wrote-more w (listed r) (listing rs))))
+    (list-whole rs (wrote w (listed r)) (omega (arith, length-sets (w .output) (w .outpos) (listed r))) ∙ ap (done on) (wrote-more w (listed r) (listingOf rs))))
 
 module _ (x : Lent) (g : Gathered) (h : Typing limit x g) (r : LineReading (g .line .bytes) (list 0))
     (room : x .call .outpos + listingRoom (recordsOf (x .page)) ≤ length (x .output)) where
-  list-outcome : takeLine x ≡ immediately (x .call .budget) (envOf limit x) (done on (wrote (begun x (g .taken)) (listing (recordsOf (x .page)))))
+  list-outcome : takeLine x ≡ afterImmediate (x .call .budget) (lentEnv limit x) (done on (wrote (begun x (g .taken)) (listingOf (recordsOf (x .page)))))
   unfolding obey
   list-outcome =
       line-read x g (list 0) h (typed-complete r)
-      ∙ ap (immediately (x .call .budget) (envOf limit x)) (list-whole (recordsOf (x .page)) (begun x (g .taken)) (omega (arith, listing-length (recordsOf (x .page)))))
+      ∙ ap (afterImmediate (x .call .budget) (lentEnv limit x)) (list-whole (recordsOf (x .page)) (begun x (g .taken)) (omega (arith, listing-length (recordsOf (x .page)))))
 
-  list-written : written x (takeLine x) ≡ listing (recordsOf (x .page))
+  list-written : written x (takeLine x) ≡ listingOf (recordsOf (x .page))
   list-written =
-      let bs : List ℕ = listing (recordsOf (x .page)) in
+      let bs : List ℕ = listingOf (recordsOf (x .page)) in
       let p : ℕ = x .call .outpos in
       let l = listing-length (recordsOf (x .page)) in
       let f : p + length bs - p ≡ length bs = omega arith in
@@ -116,7 +117,7 @@ module _ (r : Stored) (s : Storable limit r) where
       let ds : List ℕ = digits (r .line) in
       let run : Run isDigit ds (r .text) = record { some = some-digit ds (digits-are (r .line)) (digits-some (r .line)); each = digits-are (r .line); longest = stored-undigit s } in
       let v : decimalValue 0 ds ≡ r .line = value-digits (r .line) (omega (arith, s .number)) in
-      subst (λ (n : ℕ). Word keywords (typedLine r) (decimal n) (r .text)) v (words.digits run (omega (arith, s .number)))
+      subst (λ (n : ℕ). Word keywords (typedLine r) (decimal n) (r .text)) v (words.decimalDigits run (omega (arith, s .number)))
 
   -- it is read as the line that was stored
   pub listed-read : {P : Type 0} → ((ms : List Member) → LineReading (typedLine r) (store (r .line) (r .text) ms) → P) → P
@@ -132,10 +133,10 @@ data Before : List ℕ → Type 0 where
 
 module _ (r : Stored) (s : Storable limit r) (rs : List Stored) where
   -- the first line of a listing, gathered
-  abbrev gatheredLine : List ℕ → Gathered
-  gatheredLine lead = record { line = kept (typedLine r) false; taken = length lead + (length (typedLine r) + 1) }
+  abbrev listedLine : List ℕ → Gathered
+  listedLine lead = record { line = kept (typedLine r) false; taken = length lead + (length (typedLine r) + 1) }
 
-  listing-split : listing (r ∷ rs) ≡ typedLine r ++ 13 ∷ 10 ∷ listing rs
+  listing-split : listingOf (r ∷ rs) ≡ typedLine r ++ 13 ∷ 10 ∷ listingOf rs
   listing-split = simp append-assoc
 
   abbrev took : ℕ → Gathered
@@ -144,16 +145,16 @@ module _ (r : Stored) (s : Storable limit r) (rs : List Stored) where
   by-taken : {m n : ℕ} → m ≡ n → some (took m) ≡ some (took n)
   by-taken e = ap (λ (n : ℕ). some (took n)) e
 
-  line-gathered : {lead : List ℕ} → Before lead → gather limit (lead ++ listing (r ∷ rs)) ≡ some (gatheredLine lead)
-  line-gathered start = ap (gather limit) listing-split ∙ letters.typed limit (typedLine r) (10 ∷ listing rs) (line-plain r s) (short r s) ∙ by-taken (omega arith)
+  line-gathered : {lead : List ℕ} → Before lead → gather limit (lead ++ listingOf (r ∷ rs)) ≡ some (listedLine lead)
+  line-gathered start = ap (gather limit) listing-split ∙ letters.typed limit (typedLine r) (10 ∷ listingOf rs) (line-plain r s) (short r s) ∙ by-taken (omega arith)
   line-gathered afterLF =
-      ap (λ (l : List ℕ). gather limit (10 ∷ l)) listing-split ∙ letters.typed-lf limit (typedLine r) (10 ∷ listing rs) (line-plain r s) (short r s) ∙ by-taken (omega arith)
+      ap (λ (l : List ℕ). gather limit (10 ∷ l)) listing-split ∙ letters.typed-lf limit (typedLine r) (10 ∷ listingOf rs) (line-plain r s) (short r s) ∙ by-taken (omega arith)
 
-  line-left : (lead : List ℕ) → drop (gatheredLine lead .taken) (lead ++ listing (r ∷ rs)) ≡ 10 ∷ listing rs
+  line-left : (lead : List ℕ) → drop (listedLine lead .taken) (lead ++ listingOf (r ∷ rs)) ≡ 10 ∷ listingOf rs
   line-left lead =
-      drop-append-add lead (listing (r ∷ rs)) (length (typedLine r) + 1)
+      drop-append-add lead (listingOf (r ∷ rs)) (length (typedLine r) + 1)
       ∙ ap (drop (length (typedLine r) + 1)) listing-split
-      ∙ drop-append-add (typedLine r) (13 ∷ 10 ∷ listing rs) 1
+      ∙ drop-append-add (typedLine r) (13 ∷ 10 ∷ listingOf rs) 1
 
 -- The records so far, and one more
 low-last : {lim low : ℕ} (q : Stored) (ds rs : List Stored) → Program lim low (ds ++ q ∷ rs) → low ≤ q .line
@@ -195,9 +196,9 @@ record Stage (m : Lent) (ds rs : List Stored) (lead : List ℕ) (y : Lent) : Typ
   memory : y .memory ≡ m .memory
   output : y .output ≡ m .output
   input : y .input ≡ m .input
-  left : drop (y .call .inpos) (y .input) ≡ lead ++ listing rs
+  left : drop (y .call .inpos) (y .input) ≡ lead ++ listingOf rs
 
-stackless-fits : (page : List ℕ) (s : Session) → ltb (s .flags) 8 ≡ true → fits page (stackless s) ≡ true
+stackless-fits : (page : List ℕ) (s : Session) → ltb (s .flags) 8 ≡ true → fits page (stackless (unpaused s)) ≡ true
 unfolding fits
 stackless-fits page s h = rw h
 
@@ -209,7 +210,7 @@ module _ (m : Lent) (ds rs : List Stored) (r : Stored) (p : Program limit 0 (ds 
     first (each l s q) = s
 
   abbrev g : Gathered
-  g = gatheredLine r storable rs lead
+  g = listedLine r storable rs lead
 
   typing : Typing limit y g
   typing = record { sound = accepted-is (t .sound); line = rw (t .left) (line-gathered r storable rs b); short = refl }
@@ -229,13 +230,13 @@ module _ (m : Lent) (ds rs : List Stored) (r : Stored) (p : Program limit 0 (ds 
   long : length (y .page) ≡ length (m .page)
   long = rw (t .page) (onto-length (m .page) ds (omega (arith, used-front ds (r ∷ rs))))
 
-  line-stored : takeLine y ≡ stops 0 (withSession (begun y (g .taken)) (stackless (y .session))) (onto (m .page) more)
+  line-stored : takeLine y ≡ stops 0 (withSession (begun y (g .taken)) (stackless (unpaused (y .session)))) (onto (m .page) more)
   unfolding obey
   line-stored = listed-read r storable (λ ms l.
       line-read y g (store (r .line) (r .text) ms) typing (typed-complete l)
       ∙ ap (λ (l : List Stored). edited (y .page) (begun y (g .taken)) l) (ap (with r) records ∙ last-with r ds rs p)
       ∙ edited-fits (y .page) (begun y (g .taken)) more (omega (arith, more-room, long))
-      ∙ ap (λ (q : List ℕ). stops 0 (withSession (begun y (g .taken)) (stackless (y .session))) q)
+      ∙ ap (λ (q : List ℕ). stops 0 (withSession (begun y (g .taken)) (stackless (unpaused (y .session)))) q)
       (ap (λ (q : List ℕ). onto q more) (t .page) ∙ onto-onto (m .page) ds more (used-front ds (r ∷ []))))
 
   inside : y .call .inpos + g .taken ≤ length (y .input)
@@ -258,7 +259,7 @@ module _ (m : Lent) (ds rs : List Stored) (r : Stored) (p : Program limit 0 (ds 
             budget = r′ .budget;
           };
           good = onto-good (m .page) more-program;
-          fit = stackless-fits (onto (m .page) more) (y .session) (fits-parts (y .page) (y .session) (t .sound .fit) .flags);
+          fit = stackless-fits (onto (m .page) more) (y .session) (fits-tests (y .page) (y .session) (t .sound .fit) .flags);
         };
         page = refl;
         memory = t .memory;
@@ -273,28 +274,28 @@ module _ (m : Lent) (ds rs : List Stored) (r : Stored) (p : Program limit 0 (ds 
   one-answered n h = listings.each {a = takeLine y .answer} (rw line-stored) (rw line-stored) (rw line-stored) h
 
 -- Stage by stage
-record Typed (m : Lent) (rs : List Stored) (lead : List ℕ) (n : ℕ) (y : Lent) : Type 0 where
+record AllTyped (m : Lent) (rs : List Stored) (lead : List ℕ) (n : ℕ) (y : Lent) : Type 0 where
   after : Stage m rs [] lead (afterLines n y)
   answers : Stops0 (answers n y)
 
 step-typed : {m : Lent} {rs : List Stored} {lead : List ℕ} {n : ℕ} (y : Lent) → (Stops0 (answers n (lentNext y (takeLine y))) → Stops0 (answers (suc n) y))
-    → Typed m rs lead n (lentNext y (takeLine y)) → Typed m rs lead (suc n) y
+    → AllTyped m rs lead n (lentNext y (takeLine y)) → AllTyped m rs lead (suc n) y
 unfolding afterLines
 step-typed y f t = record { after = t .after; answers = f (t .answers) }
 
-none-typed : {m : Lent} {rs : List Stored} {lead : List ℕ} (y : Lent) → Stage m rs [] lead y → Typed m rs lead 0 y
+none-typed : {m : Lent} {rs : List Stored} {lead : List ℕ} (y : Lent) → Stage m rs [] lead y → AllTyped m rs lead 0 y
 unfolding afterLines answers
 none-typed y t = record { after = t; answers = listings.none }
 
 more-typed : (m : Lent) (ds rs : List Stored) → Program limit 0 (ds ++ rs) → usedBy (ds ++ rs) ≤ length (m .page) → (y : Lent) → Stage m ds rs (10 ∷ []) y
-    → Typed m (ds ++ rs) (10 ∷ []) (length rs) y
+    → AllTyped m (ds ++ rs) (10 ∷ []) (length rs) y
 more-typed m ds [] p h y t = none-typed y (rw (append-nil ds) t)
 more-typed m ds (r ∷ rs) p h y t =
     let a : ds ++ (r ∷ []) ++ rs ≡ ds ++ r ∷ rs = append-assoc ds (r ∷ []) rs in
     step-typed y (one-answered m ds rs r p h (10 ∷ []) afterLF y t (length rs))
     (rw a at (more-typed m (ds ++ (r ∷ [])) rs (rw a p) (rw a h) (lentNext y (takeLine y)) (one-typed m ds rs r p h (10 ∷ []) afterLF y t)))
 
-all-typed : (m : Lent) (rs : List Stored) → Program limit 0 rs → usedBy rs ≤ length (m .page) → (y : Lent) → Stage m [] rs [] y → Typed m rs (lastLF rs) (length rs) y
+all-typed : (m : Lent) (rs : List Stored) → Program limit 0 rs → usedBy rs ≤ length (m .page) → (y : Lent) → Stage m [] rs [] y → AllTyped m rs (lastLF rs) (length rs) y
 all-typed m [] p h y t = none-typed y t
 all-typed m (r ∷ rs) p h y t =
     step-typed y (one-answered m [] rs r p h [] start y t (length rs)) (more-typed m (r ∷ []) rs p h (lentNext y (takeLine y)) (one-typed m [] rs r p h [] start y t))
@@ -306,7 +307,7 @@ module _ (x : Lent) (bytes′ : Bytes (x .page)) (g : Gathered) (h : Typing limi
   abbrev lines : ℕ
   lines = length (recordsOf (x .page))
 
-  typed-back : Typed y (recordsOf (x .page)) (lastLF (recordsOf (x .page))) lines y
+  typed-back : AllTyped y (recordsOf (x .page)) (lastLF (recordsOf (x .page))) lines y
   typed-back =
       all-typed y (recordsOf (x .page)) (program x g h) (omega (arith, long, program-room x g h)) y
       (record {
@@ -342,7 +343,7 @@ module _ (x : Lent) (bytes′ : Bytes (x .page)) (g : Gathered) (h : Typing limi
         left = t .left ∙ append-nil (lastLF (recordsOf (x .page)));
       }
 
-  pub listing-round-trip : Lists x g (takeLine x) × (Stops0 (answers lines y) × RoundTrip x y (afterLines lines y))
+  pub listing-round-trip : Lists x g (takeLine x) × (Stops0 (answers (length (recordsOf (x .page))) y) × RoundTrip x y (afterLines (length (recordsOf (x .page))) y))
   listing-round-trip = (list-lists x g h r room, (typed-back .answers, back))
 
 -- "LIST" itself is such a line

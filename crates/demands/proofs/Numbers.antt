@@ -1,5 +1,5 @@
 -- "Every reply is one of the numbers" of document 01's table. Assumes nothing.
-use Prim.Native.Nat.{ℕ, suc}
+use Prim.Native.Nat.{ℕ, zero, suc}
 use mathlib.Core.Path.{_≡_, refl, subst}
 use mathlib.Core.Bool.{Bool, true, false, not}
 use mathlib.Core.List.{List, [], _∷_}
@@ -7,31 +7,23 @@ use lib.ListN.{length}
 use lib.Dec.{leb}
 use Rattle.nibl.specs.Bytes.{if_then_else_}
 use Rattle.nibl.specs.Tree.{Typed, blank, new, clear, run, delete, list, store, immediate}
-use Rattle.nibl.specs.Page.{Stored, isAmong, isGood, fits, recordsOf, hasLine, without, with, programBytes, onto}
+use Rattle.nibl.specs.Page.{Stored, isGood, fits, recordsOf, hasLine, without, with, programBytes, onto}
 use Rattle.nibl.specs.Meaning.{World, Env, on, skip, go, stop, Done, done, withSession, exec}
-use Rattle.nibl.specs.Calls.{Lent, Outcome, Ran, stepped, onward, envAt, runFrom, stops, inRange, firstRefusal, edited, listFrom, immediately, needsProgram, clearStacks, obey, takeLine, continueFrom, continueRun, limit, begun, envOf}
-use Rattle.nibl.specs.declared.Paused.{Paused}
-use Rattle.nibl.specs.declared.Paused.the-variants.{Nowhere, Start, At}
-use Rattle.demands.proofs.Runs.{endOf, crOf, every-run}
+use Rattle.nibl.specs.Calls.{Lent, Outcome, Ran, stepped, afterStep, envAt, runFrom, stops, inRange, firstRefusal, edited, listFrom, afterImmediate, needsProgram, obey, takeLine, continueFrom, continueRun, limit, begun, lentEnv}
+use Rattle.nibl.specs.Record.{stackless}
+use Rattle.demands.specs.Lent.{OneOf, replyNumbers, Numbered}
+use Rattle.demands.specs.Steps.{placeEnding, crOf}
+use Rattle.demands.proofs.Runs.{every-run}
 use Rattle.demands.proofs.Budget.{StopsWith, stopped, stopNumbers, does-stops, exec-stops}
 use Rattle.demands.proofs.Effects.{widen, list-does}
 use Rattle.demands.proofs.Ways.{Takes, refused, noCR, overlong, unread, reads, every-line, Continues, refused′, continues, every-continue}
-
-abbrev pub replyNumbers : List ℕ
-replyNumbers = 0 ∷ 1 ∷ 2 ∷ 3 ∷ 5 ∷ 6 ∷ 7 ∷ 8 ∷ 9 ∷ 10 ∷ 11 ∷ 12 ∷ 13 ∷ 14 ∷ 15 ∷ 16 ∷ 17 ∷ 18 ∷ 19 ∷ 20 ∷ []
 
 -- past the first refusals: 2 and 3 are a typed line's, and these a run's or a statement's too
 abbrev pub runNumbers : List ℕ
 runNumbers = 0 ∷ 5 ∷ 6 ∷ 7 ∷ 8 ∷ 9 ∷ 10 ∷ 11 ∷ 12 ∷ 13 ∷ 14 ∷ 15 ∷ 16 ∷ 17 ∷ 20 ∷ []
 
-abbrev pub OneOf : List ℕ → ℕ → Type 0
-OneOf ns n = isAmong ns n ≡ true
-
-abbrev pub Numbered : Outcome → Type 0
-Numbered o = OneOf replyNumbers (o .answer .stop)
-
 step-numbers : (d : Done) → StopsWith d → (l p cr : ℕ) (k : ℕ → World → Ran) → ((q : ℕ) (w : World) → OneOf runNumbers (k q w .stop))
-    → OneOf runNumbers (stepped l (onward d p cr k) .stop)
+    → OneOf runNumbers (stepped l (afterStep d p cr k) .stop)
 step-numbers (done on w) s l p cr k f = f (suc p) w
 step-numbers (done skip w) s l p cr k f = f (suc cr) w
 step-numbers (done (go q) w) s l p cr k f = f q w
@@ -40,7 +32,7 @@ step-numbers (done (stop n) w) (stopped h) l p cr k f = widen stopNumbers runNum
 pub run-numbers : (k : ℕ) (e : Env) (q : ℕ) (w : World) → OneOf runNumbers (runFrom k e q w .stop)
 run-numbers k e q w =
     every-run e (λ k q w r. OneOf runNumbers (r .stop)) (λ k q w h. refl) (λ q w a h. refl) (λ k q w a h g. refl)
-    (λ k q w a m s h g i. step-numbers (exec (envAt e (endOf e a m)) (m .statement) w) (exec-stops (envAt e (endOf e a m)) (m .statement) w) 0 (endOf e a m) (crOf e a) (runFrom k e) i) k q w
+    (λ k q w a m s h g i. step-numbers (exec (envAt e (placeEnding e a m)) (m .statement) w) (exec-stops (envAt e (placeEnding e a m)) (m .statement) w) 0 (placeEnding e a m) (crOf e a) (runFrom k e) i) k q w
 
 -- the first refusals, and 0 for none
 abbrev pub firstNumbers : List ℕ
@@ -64,11 +56,11 @@ pub data Obeys (e : Env) (w : World) : Outcome → Type 0 where
 edit-obeys : (e : Env) (w : World) (rs : List Stored) → Obeys e w (edited (e .page) w rs)
 unfolding edited
 edit-obeys e w rs = by (leb (length (programBytes rs)) (length (e .page))) where
-  by : (b : Bool) → Obeys e w (if b then stops 0 (withSession w (clearStacks (w .session))) (onto (e .page) rs) else stops 2 w (e .page))
+  by : (b : Bool) → Obeys e w (if b then stops 0 (withSession w (stackless (w .session))) (onto (e .page) rs) else stops 2 w (e .page))
   by true = ends refl
   by false = full
 
-immediate-numbers : (k : ℕ) (e : Env) (d : Done) → StopsWith d → OneOf runNumbers (immediately k e d .answer .stop)
+immediate-numbers : (k : ℕ) (e : Env) (d : Done) → StopsWith d → OneOf runNumbers (afterImmediate k e d .answer .stop)
 immediate-numbers k e (done on w) s = refl
 immediate-numbers k e (done skip w) s = refl
 immediate-numbers k e (done (go q) w) s = run-numbers k e q w
@@ -87,7 +79,7 @@ obey-obeys k e w (delete n) = by (hasLine n (recordsOf (e .page))) where
 obey-obeys k e w (list n) = ends (immediate-numbers k e (listFrom n (recordsOf (e .page)) w) (does-stops (list-does e [] n (recordsOf (e .page)) w)))
 obey-obeys k e w (store n t ms) = edit-obeys e w (with (record { line = n; text = t }) (recordsOf (e .page)))
 obey-obeys k e w (immediate q) = by (needsProgram q) where
-  by : (b : Bool) → Obeys e w (elim b [ true ↦ stops 3 w (e .page) | false ↦ immediately k e (exec e q w) ])
+  by : (b : Bool) → Obeys e w (elim b [ true ↦ stops 3 w (e .page) | false ↦ afterImmediate k e (exec e q w) ])
   by true = unfit
   by false = ends (immediate-numbers k e (exec e q w) (exec-stops e q w))
 
@@ -101,12 +93,11 @@ take-numbers {lim = lim} {x = x} (refused {n} h) = widen firstNumbers replyNumbe
 take-numbers (noCR z h) = refl
 take-numbers (overlong g z h l) = refl
 take-numbers (unread g h r) = refl
-take-numbers {lim = lim} {x = x} (reads g t h r) = obey-numbers (obey-obeys (x .call .budget) (envOf lim x) (begun x (g .taken)) t)
+take-numbers {lim = lim} {x = x} (reads g t h r) = obey-numbers (obey-obeys (x .call .budget) (lentEnv lim x) (begun x (g .taken)) t)
 
-pub paused-numbers : (lim : ℕ) (x : Lent) (p : Paused) → OneOf runNumbers (continueFrom lim x p .answer .stop)
-paused-numbers lim x Nowhere = refl
-paused-numbers lim x Start = run-numbers (x .call .budget) (envOf lim x) 0 (begun x 0)
-paused-numbers lim x (At p) = run-numbers (x .call .budget) (envOf lim x) (suc (p .0)) (begun x 0)
+pub paused-numbers : (lim : ℕ) (x : Lent) (p : ℕ) → OneOf runNumbers (continueFrom lim x p .answer .stop)
+paused-numbers lim x zero = refl
+paused-numbers lim x (suc q) = run-numbers (x .call .budget) (lentEnv lim x) q (begun x 0)
 
 continue-numbers : {lim : ℕ} {x : Lent} {o : Outcome} → Continues lim x o → Numbered o
 continue-numbers {lim = lim} {x = x} (refused′ {n} h) = widen firstNumbers replyNumbers refl (suc n) (first-numbers lim x (suc n) h)

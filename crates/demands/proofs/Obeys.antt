@@ -1,6 +1,6 @@
 -- The ways in which a read line and a continued run end, whatever the budget, on a good page with a fitting record. Assumes nothing.
-use Prim.Native.Nat.{ℕ, suc, _+_, _≤_}
-use mathlib.Core.Path.{_≡_, refl, ap, sym, subst, _∙_}
+use Prim.Native.Nat.{ℕ, zero, suc, _+_, _≤_}
+use mathlib.Core.Path.{_≡_, refl, ap, _∙_}
 use mathlib.Core.Bool.{Bool, true, false}
 use mathlib.Core.List.{List, [], _∷_}
 use mathlib.Core.Option.{some}
@@ -12,9 +12,8 @@ use Rattle.nibl.specs.Read.{typed}
 use Rattle.nibl.specs.Typing.{Gathered}
 use Rattle.nibl.specs.Page.{Stored, isAmong, isGood, fitsPaused, placesOf, recordsOf, hasLine, without, with, programBytes, onto}
 use Rattle.nibl.specs.Meaning.{World, Env, Done, done, on, skip, go, stop, withSession, exec}
-use Rattle.nibl.specs.Calls.{Lent, Outcome, runFrom, ended, stops, edited, listFrom, immediately, needsProgram, clearStacks, cleared, obey, continueFrom, firstRefusal, begun, envOf}
-use Rattle.nibl.specs.declared.Paused.{Paused}
-use Rattle.nibl.specs.declared.Paused.the-variants.{Nowhere, Start, At}
+use Rattle.nibl.specs.Calls.{Lent, Outcome, runFrom, runOutcome, stops, edited, listFrom, afterImmediate, needsProgram, obey, continueFrom, firstRefusal, begun, lentEnv}
+use Rattle.nibl.specs.Record.{nowhere, stackless, cleared}
 use Rattle.nibl.proofs.Words.{if-split}
 use Rattle.nibl.proofs.Lines.{typed-sound}
 use Rattle.letter.proofs.Typed.{taken}
@@ -22,18 +21,18 @@ use Rattle.page.proofs.Program.{Program, none as no-record}
 use Rattle.page.proofs.Changes.{with-program, without-program}
 use Rattle.page.specs.Standing.{Stands}
 use Rattle.page.proofs.Laid.{good-laid, laid-program}
-use Rattle.record.proofs.Fitted.{Fit, fit-vars, fit-paused, fit-cleared}
-use Rattle.record.proofs.Statements.{Goes, toNext, toRecord, toPlace, toEnd}
-use Rattle.demands.specs.Sound.{budgeted}
-use Rattle.demands.specs.Starts.{worldCleared, byRUN, byStatement, StartsTyped, typed as typed-at, resumes, StartsPaused, paused}
+use Rattle.record.specs.Fit.{Fit, Goes, toNext, toRecord, toPlace, toEnd}
+use Rattle.record.proofs.Fitted.{fit-vars, fit-paused, fit-cleared}
+use Rattle.demands.specs.Leaves.{worldCleared}
+use Rattle.demands.specs.Lent.{budgeted, Typing}
+use Rattle.demands.specs.Starts.{byRUN, byStatement, StartsTyped, typed as typed-at, StartsPaused, paused}
 use Rattle.demands.proofs.Effects.{widen, exec-does, list-does}
 use Rattle.demands.proofs.Budget.{StopsWith, stopped, stopNumbers}
-use Rattle.demands.proofs.Ways.{Typing}
 use Rattle.demands.proofs.Storing.{stored-storable}
 use Rattle.demands.proofs.Accepted.{accepted-of}
 use Rattle.demands.proofs.Held.{worldAfter, Steady, same-lengths, does-steady}
 use Rattle.demands.proofs.Carried.{Placed, gathered-inside, other-record, does-placed}
-use Rattle.demands.proofs.Running.{Left, statement-left, list-left, list-stays}
+use Rattle.demands.proofs.Running.{LeavesFit, statement-left, list-left, list-stays}
 
 -- what a read line answers where nothing runs
 abbrev pub lineNumbers : List ℕ
@@ -44,23 +43,23 @@ pub data Obeyed (lim : ℕ) (e : Env) (v : World) (From : ℕ → World → Type
   -- a stop with no run
   stands : {n : ℕ} {w : World} → isAmong lineNumbers n ≡ true → Fit (placesOf (e .page)) (w .session) → Obeyed lim e v From (λ k. stops n w (e .page))
   -- the page with other records
-  edits : {w : World} {rs : List Stored} → Program lim 0 rs → w .session .paused ≡ Nowhere → Fit (placesOf (e .page)) (w .session)
-      → Obeyed lim e v From (λ k. stops 0 (withSession w (clearStacks (w .session))) (onto (e .page) rs))
+  edits : {w : World} {rs : List Stored} → Program lim 0 rs → w .session .paused ≡ nowhere → Fit (placesOf (e .page)) (w .session)
+      → Obeyed lim e v From (λ k. stops 0 (withSession w (stackless (w .session))) (onto (e .page) rs))
   -- a run within the budget
   runs : (q : ℕ) (w : World) → Stands (e .page) q → Fit (placesOf (e .page)) (w .session) → Placed (e .input) w → Steady v w → From q w
-      → Obeyed lim e v From (λ k. ended (runFrom k e q w) (e .page))
+      → Obeyed lim e v From (λ k. runOutcome (runFrom k e q w) (e .page))
 
 module _ (lim : ℕ) (e : Env) (v : World) (From : ℕ → World → Type 0) where
-  edit-ways : (w : World) (rs : List Stored) → w .session .paused ≡ Nowhere → Fit (placesOf (e .page)) (w .session) → Program lim 0 rs → Obeyed lim e v From (λ k. edited (e .page) w rs)
+  edit-ways : (w : World) (rs : List Stored) → w .session .paused ≡ nowhere → Fit (placesOf (e .page)) (w .session) → Program lim 0 rs → Obeyed lim e v From (λ k. edited (e .page) w rs)
   unfolding edited
   edit-ways w rs n f p =
       if-split (λ (o : Outcome). Obeyed lim e v From (λ k. o)) (leb (length (programBytes rs)) (length (e .page))) (λ h. edits p n f) (λ h. stands refl f)
 
-  left-ways : (d : Done) → Left (e .page) d → Placed (e .input) (worldAfter d) → Steady v (worldAfter d) → ((q : ℕ) (w : World) → d ≡ done (go q) w → From q w)
-      → Obeyed lim e v From (λ k. immediately k e d)
+  left-ways : (d : Done) → LeavesFit (e .page) d → Placed (e .input) (worldAfter d) → Steady v (worldAfter d) → ((q : ℕ) (w : World) → d ≡ done (go q) w → From q w)
+      → Obeyed lim e v From (λ k. afterImmediate k e d)
   left-ways d l i j b = by d (l .goes) (l .stops) i j b where
     by : (d : Done) → Goes (e .page) d → StopsWith d → Placed (e .input) (worldAfter d) → Steady v (worldAfter d)
-        → ((q : ℕ) (w : World) → d ≡ done (go q) w → From q w) → Obeyed lim e v From (λ k. immediately k e d)
+        → ((q : ℕ) (w : World) → d ≡ done (go q) w → From q w) → Obeyed lim e v From (λ k. afterImmediate k e d)
     by (done on w) (toNext f) s i j b = stands refl f
     by (done skip w) (toRecord f) s i j b = stands refl f
     by (done (go q) w) (toPlace h f) s i j b = runs q w h f i j (b q w refl)
@@ -68,13 +67,13 @@ module _ (lim : ℕ) (e : Env) (v : World) (From : ℕ → World → Type 0) whe
 
 module _ (lim : ℕ) (x : Lent) (short : lim ≤ 251) (good : isGood lim (x .page) ≡ true) (fit : Fit (placesOf (x .page)) (x .session)) where
   abbrev env : Env
-  env = envOf lim x
+  env = lentEnv lim x
 
   program : Program lim 0 (recordsOf (x .page))
   program = laid-program (good-laid lim (x .page) short good)
 
   pub begun-fit : (n : ℕ) → Fit (placesOf (x .page)) (begun x n .session)
-  begun-fit n = fit-paused fit Nowhere refl
+  begun-fit n = fit-paused fit nowhere refl
 
   cleared-all : (n : ℕ) → Fit (placesOf (x .page)) (cleared (begun x n .session))
   cleared-all n = fit-vars (fit-cleared (begun-fit n) (placesOf (x .page)) refl) _ refl
@@ -110,7 +109,7 @@ module _ (lim : ℕ) (x : Lent) (short : lim ≤ 251) (good : isGood lim (x .pag
       (λ q w e. absurd (list-stays l (recordsOf (x .page)) (begun x n) q w e))
   obey-ways From n (store l s ms) p i b = edit-ways lim env (begun x 0) From (begun x n) _ refl (begun-fit n) (p l s ms refl)
   obey-ways From n (immediate q) p i c = by (needsProgram q) refl where
-    by : (b : Bool) → needsProgram q ≡ b → Obeyed lim env (begun x 0) From (λ k. elim b [ true ↦ stops 3 (begun x n) (x .page) | false ↦ immediately k env (exec env q (begun x n)) ])
+    by : (b : Bool) → needsProgram q ≡ b → Obeyed lim env (begun x 0) From (λ k. elim b [ true ↦ stops 3 (begun x n) (x .page) | false ↦ afterImmediate k env (exec env q (begun x n)) ])
     by true h = stands refl (begun-fit n)
     by false h = left-ways lim env (begun x 0) From (exec env q (begun x n)) (statement-left lim env short good q (begun x n) refl h (begun-fit n))
         (does-placed (x .input) refl (exec-does env q (begun x n)) i) (carried n (does-steady (exec-does env q (begun x n)))) (λ p w e. c .bySome q p w refl h e)
@@ -123,8 +122,8 @@ module _ (lim : ℕ) (x : Lent) (short : lim ≤ 251) (good : isGood lim (x .pag
       begins : Beginning (StartsTyped lim x) (g .taken) t
       begins =
           record {
-            byRun = λ e. typed-at g (y .sound) (y .line) (y .short) (byRUN (typed-sound (g .line .bytes) run (r ∙ ap some e)));
-            bySome = λ s q w e n d. typed-at g (y .sound) (y .line) (y .short) (byStatement s (typed-sound (g .line .bytes) (immediate s) (r ∙ ap some e)) n d);
+            byRun = λ e. typed-at g y (byRUN (typed-sound (g .line .bytes) run (r ∙ ap some e)));
+            bySome = λ s q w e n d. typed-at g y (byStatement s (typed-sound (g .line .bytes) (immediate s) (r ∙ ap some e)) n d);
           }
 
       by : Storing t
@@ -137,10 +136,6 @@ module _ (lim : ℕ) (x : Lent) (short : lim ≤ 251) (good : isGood lim (x .pag
     r : x .call .inpos + 0 ≤ length (x .input)
     r = omega (arith, accepted-of lim x z .range .inpos)
 
-    from : (p : Paused) → x .session .paused ≡ p → (p ≡ Nowhere → ⊥) → StartsPaused lim x (resumes p) (begun x 0)
-    from p e n = subst (λ (o : Paused). StartsPaused lim x (resumes o) (begun x 0)) e (paused z (λ h. n (sym e ∙ h)))
-
-    by : (p : Paused) → x .session .paused ≡ p → fitsPaused (placesOf (x .page)) p ≡ true → Obeyed lim env (begun x 0) (StartsPaused lim x) (λ k. continueFrom lim (budgeted k x) p)
-    by Nowhere e h = stands refl (begun-fit 0)
-    by Start e h = runs 0 (begun x 0) refl (begun-fit 0) (begun-placed 0 z r) (record { lengths = same-lengths; paused = refl }) (from Start e (λ i. let z : _≡_ {A = ℕ} 0 1 = cc in omega arith))
-    by (At p) e h = runs (suc (p .0)) (begun x 0) h (begun-fit 0) (begun-placed 0 z r) (record { lengths = same-lengths; paused = refl }) (from (At p) e (λ i. let z : _≡_ {A = ℕ} 0 1 = cc in omega arith))
+    by : (p : ℕ) → x .session .paused ≡ p → fitsPaused (placesOf (x .page)) p ≡ true → Obeyed lim env (begun x 0) (StartsPaused lim x) (λ k. continueFrom lim (budgeted k x) p)
+    by zero e h = stands refl (begun-fit 0)
+    by (suc q) e h = runs q (begun x 0) h (begun-fit 0) (begun-placed 0 z r) (record { lengths = same-lengths; paused = refl }) (paused z e)

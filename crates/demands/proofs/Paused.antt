@@ -14,16 +14,14 @@ use Rattle.nibl.specs.Tree.{Typed}
 use Rattle.nibl.specs.Read.{typed}
 use Rattle.nibl.specs.Typing.{Gathered}
 use Rattle.nibl.specs.Meaning.{World, Env}
-use Rattle.nibl.specs.Calls.{Lent, Outcome, Ran, ran, textFrom, runFrom, stops, firstRefusal, begun, envOf, obeyRead, obeyLine, takeLine, takeLineIn, continueRun, continueRunIn, limit}
+use Rattle.nibl.specs.Calls.{Lent, Outcome, Ran, ran, textFrom, runFrom, stops, firstRefusal, begun, lentEnv, obeyRead, obeyLine, takeLine, takeLineIn, continueRun, continueRunIn, limit}
 use Rattle.page.proofs.Walk.{by-cases}
-use Rattle.page.specs.Standing.{Stands}
-use Rattle.page.proofs.Standing.{Ready}
+use Rattle.page.specs.Standing.{Stands, Ready}
 use Rattle.record.specs.Sound.{Sized, Sound}
 use Rattle.record.proofs.Fitted.{sound-fit, fit-sound}
-use Rattle.demands.specs.Sound.{budgeted}
+use Rattle.demands.specs.Lent.{budgeted, gatheredLine, Typing}
 use Rattle.demands.proofs.Runs.{run-none, run-suc}
-use Rattle.demands.proofs.Budget.{joined, split-run, steps-within}
-use Rattle.demands.proofs.Ways.{lineOf, Typing}
+use Rattle.demands.proofs.Budget.{wentOnWith, split-run, steps-within}
 use Rattle.demands.proofs.Running.{Goings, runsOut, pauses, steps, run-goes}
 use Rattle.demands.proofs.Running.{stops as halts}
 use Rattle.demands.proofs.Obeys.{Obeyed, stands, edits, runs, read-ways, continue-ways}
@@ -71,7 +69,7 @@ module _ (lim : ℕ) (e : Env) (short : lim ≤ 251) (q : ℕ) (w : World) (h : 
 
   no-more : (k : ℕ) → eqb (runFrom k e q w .stop) 14 ≡ false → length (runFrom (suc k) e q w .lines) ≤ k
   no-more k i =
-      let same : runFrom (suc k) e q w ≡ runFrom k e q w = ap (λ (n : ℕ). runFrom n e q w) (sym (add-one k)) ∙ split-run k 1 e q w ∙ rw (i, joined) in
+      let same : runFrom (suc k) e q w ≡ runFrom k e q w = ap (λ (n : ℕ). runFrom n e q w) (sym (add-one k)) ∙ split-run k 1 e q w ∙ rw (i, wentOnWith) in
       omega (arith, ap (λ (y : Ran). length (y .lines)) same, steps-within k e q w)
 
   pub run-pauses-exactly : (k : ℕ) → Exactly (runFrom k e q w .stop) k (length (runFrom k e q w .lines)) (length (runFrom (suc k) e q w .lines))
@@ -81,28 +79,28 @@ module _ (lim : ℕ) (e : Env) (short : lim ≤ 251) (q : ℕ) (w : World) (h : 
   )
 
 -- Of the calls. A stop without a step is none
-unpaused : (stop k : ℕ) → (stop ≡ 14 → ⊥) → Exactly stop k 0 0
-unpaused stop k n = (λ i. absurd (n i), λ i. absurd (omega arith))
+no-pause : (stop k : ℕ) → (stop ≡ 14 → ⊥) → Exactly stop k 0 0
+no-pause stop k n = (λ i. absurd (n i), λ i. absurd (omega arith))
 
 abbrev pub Pausing : ℕ → (ℕ → Outcome) → Type 0
 Pausing k o = Exactly (o k .answer .stop) k (o k .answer .steps) (o (suc k) .answer .steps)
 
 module _ (lim : ℕ) (short : lim ≤ 251) (x : Lent) (h : Sound lim (x .page) (x .session)) (k : ℕ) where
-  obeyed-pauses : {v : World} {From : ℕ → World → Type 0} {o : ℕ → Outcome} → Obeyed lim (envOf lim x) v From o → Pausing k o
-  obeyed-pauses (stands {n = n} i f) = unpaused n k (λ e. false≢true (rw e at i))
-  obeyed-pauses (edits p n f) = unpaused 0 k (λ e. omega arith)
-  obeyed-pauses (runs q w s f i j b) = run-pauses-exactly lim (envOf lim x) short q w (fit-sound lim (h .good) f) s k
+  obeyed-pauses : {v : World} {From : ℕ → World → Type 0} {o : ℕ → Outcome} → Obeyed lim (lentEnv lim x) v From o → Pausing k o
+  obeyed-pauses (stands {n = n} i f) = no-pause n k (λ e. false≢true (rw e at i))
+  obeyed-pauses (edits p n f) = no-pause 0 k (λ e. omega arith)
+  obeyed-pauses (runs q w s f i j b) = run-pauses-exactly lim (lentEnv lim x) short q w (fit-sound lim (h .good) f) s k
 
-  read-pauses : (g : Gathered) → Typing lim x g → (t : Option Typed) → typed (g .line .bytes) ≡ t → Pausing k (λ n. obeyRead n (envOf lim x) (begun x (g .taken)) t)
-  read-pauses g y none e = unpaused 5 k (λ e. omega arith)
+  read-pauses : (g : Gathered) → Typing lim x g → (t : Option Typed) → typed (g .line .bytes) ≡ t → Pausing k (λ n. obeyRead n (lentEnv lim x) (begun x (g .taken)) t)
+  read-pauses g y none e = no-pause 5 k (λ e. omega arith)
   read-pauses g y (some t) e = obeyed-pauses (read-ways lim x short (h .good) (sound-fit h) g t y e)
 
-  line-pauses : firstRefusal lim x ≡ 0 → (g : Option Gathered) → lineOf lim x ≡ g → Pausing k (λ n. obeyLine lim (budgeted n x) g)
-  line-pauses z none e = unpaused 7 k (λ e. omega arith)
+  line-pauses : firstRefusal lim x ≡ 0 → (g : Option Gathered) → gatheredLine lim x ≡ g → Pausing k (λ n. obeyLine lim (budgeted n x) g)
+  line-pauses z none e = no-pause 7 k (λ e. omega arith)
   line-pauses z (some g) e = by (g .line .long) refl where
     by : (b : Bool) → g .line .long ≡ b
-        → Pausing k (λ n. elim b [ true ↦ stops 5 (begun x (g .taken)) (x .page) | false ↦ obeyRead n (envOf lim x) (begun x (g .taken)) (typed (g .line .bytes)) ])
-    by true l = unpaused 5 k (λ e. omega arith)
+        → Pausing k (λ n. elim b [ true ↦ stops 5 (begun x (g .taken)) (x .page) | false ↦ obeyRead n (lentEnv lim x) (begun x (g .taken)) (typed (g .line .bytes)) ])
+    by true l = no-pause 5 k (λ e. omega arith)
     by false l = read-pauses g (record { sound = z; line = e; short = l }) (typed (g .line .bytes)) refl
 
 module _ (lim : ℕ) (short : lim ≤ 251) (x : Lent) (sized : Sized (x .session)) (k : ℕ) (z : firstRefusal lim (budgeted (suc k) x) ≡ 0) where
@@ -110,7 +108,7 @@ module _ (lim : ℕ) (short : lim ≤ 251) (x : Lent) (sized : Sized (x .session
   pauses-within =
       let y = accepted-less lim x k (suc k) (omega arith) z in
       let h = unrefused lim (budgeted k x) sized y in (
-        rw (take-at lim (budgeted k x) y, take-at lim (budgeted (suc k) x) z) (line-pauses lim short (budgeted k x) h k y (lineOf lim x) refl),
+        rw (take-at lim (budgeted k x) y, take-at lim (budgeted (suc k) x) z) (line-pauses lim short (budgeted k x) h k y (gatheredLine lim x) refl),
         rw (continue-at lim (budgeted k x) y, continue-at lim (budgeted (suc k) x) z) (obeyed-pauses lim short (budgeted k x) h k (continue-ways lim (budgeted k x) short (h .good) (sound-fit h) y)),
       )
 

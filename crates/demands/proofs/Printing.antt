@@ -12,11 +12,11 @@ use Rattle.nibl.specs.Values.{Result, is, no, Value, printed}
 use Rattle.nibl.specs.Page.{Stored}
 use Rattle.nibl.specs.Meaning.{World, Env, on, skip, go, stop, Done, done, bind, given, went, eval, put, putItem, putItems, putEnd, exec}
 use Rattle.nibl.specs.Calls.{listed, listFrom}
-use Rattle.demands.specs.Items.{itemBytes, wroteItem, Room, NoRoom, Prints, writes, refused, noRoom, noEnd, end, noRoomForEnd, ListsLines, over, below, listsLine, noRoomForLine}
+use Rattle.demands.specs.Items.{itemBytes, wroteItem, HasRoom, NoRoom, Prints, writes, refused, noRoom, noEnd, end, noRoomForEnd, ListsLines, over, below, listsLine, noRoomForLine}
 use Rattle.demands.proofs.Effects.{went-went}
 
 -- an item, and what follows it
-put-split : (P : Done → Type 0) (bs : List ℕ) (w : World) (k : World → Done) → (Room w bs → P (k (wroteItem w bs))) → (NoRoom w bs → P (done (stop 17) w)) → P (went (put bs w) k)
+put-split : (P : Done → Type 0) (bs : List ℕ) (w : World) (k : World → Done) → (HasRoom w bs → P (k (wroteItem w bs))) → (NoRoom w bs → P (done (stop 17) w)) → P (went (put bs w) k)
 unfolding put
 put-split P bs w k f g = by (leb (w .outpos + length bs) (length (w .output))) refl where
   by : (b : Bool) → leb (w .outpos + length bs) (length (w .output)) ≡ b → P (went (if b then done on (wroteItem w bs) else done (stop 17) w) k)

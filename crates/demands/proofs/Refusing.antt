@@ -9,13 +9,14 @@ use lib.Seq.{sets}
 use lib.Dec.{leb, eqb}
 use Rattle.nibl.specs.Bytes.{if_then_else_, bytes}
 use Rattle.nibl.specs.Tree.{Expr, Item, text, stored, value}
-use Rattle.nibl.specs.Tree.{Stmt, letVar, letStat, letByte, letCopy, letText, goto, gosub, until, return, loop, remark, end, print, ifThen, for, next, input, inputText}
+use Rattle.nibl.specs.Tree.{Stmt, letVar, letStat, letByte, letCopy, letText, goto, gosub, until, return, doLoop, remark, end, print, ifThen, for, next, input, inputText}
 use Rattle.nibl.specs.Read.{replied}
 use Rattle.nibl.specs.Values.{Result, is, no, printed}
 use Rattle.nibl.specs.Stack.{pushOf, pushFor}
 use Rattle.nibl.specs.Typing.{Gathered, gather}
-use Rattle.nibl.specs.Page.{Stored, isAmong, mark, find}
-use Rattle.nibl.specs.Meaning.{World, Env, on, skip, go, stop, Done, done, withVar, withSession, withInpos, withOutput, bind, given, went, stringAt, eval, put, putItem, putItems, putEnd, keepIn, lineThere, place, gosubTo, returnBy, doHere, untilBy, forHere, goesOn, nextBy, gathered, asked, assign, assignReply, exec}
+use Rattle.nibl.specs.Page.{Stored, isAmong, find}
+use Rattle.nibl.specs.Meaning.{World, Env, on, skip, go, stop, Done, done, withSession, withInpos, withOutput, bind, given, went, stringAt, eval, put, putItem, putItems, putEnd, keepIn, lineThere, gosubTo, returnBy, doHere, untilBy, forHere, goesOn, nextBy, gathered, asked, assign, assignReply, exec}
+use Rattle.nibl.specs.Record.{mark, withVar, place}
 use Rattle.nibl.specs.Calls.{needsProgram, listed, listFrom}
 use Rattle.nibl.specs.declared.Top.{Top}
 use Rattle.nibl.specs.declared.Top.the-variants as top
@@ -23,7 +24,7 @@ use Rattle.nibl.specs.declared.TopFor.{TopFor}
 use Rattle.nibl.specs.declared.TopFor.the-variants as topf
 use Rattle.demands.specs.Effects.{refusals}
 use Rattle.demands.specs.Asks.{asks, inputVars, GivenIn, stay, give}
-use Rattle.demands.proofs.Effects.{valueRefusals, widen, Known, refused′, bind-known, string-known, store-known, line-known, eval-known, went-went, given-went}
+use Rattle.demands.proofs.Effects.{valueRefusals, widen, GivesOrRefuses, refused′, bind-known, string-known, store-known, line-known, eval-known, went-went, given-went}
 
 -- 6 and 7 are INPUT's
 abbrev pub quiet : List ℕ
@@ -53,7 +54,7 @@ module _ (us : List ℕ) (b : Bool) where
   refuse : (n : ℕ) (w : World) → isAmong quiet n ≡ true → R (w .session .vars) (done (stop n) w)
   refuse n w h = refuses (of-either b n h) stay
 
-  given-refuses : {A : Type 0} (r : Result A) (w : World) (k : A → Done) → Known r → ((a : A) → R (w .session .vars) (k a)) → R (w .session .vars) (given r w k)
+  given-refuses : {A : Type 0} (r : Result A) (w : World) (k : A → Done) → GivesOrRefuses r → ((a : A) → R (w .session .vars) (k a)) → R (w .session .vars) (given r w k)
   given-refuses (is a) w k h f = f a
   given-refuses (no n) w k (refused′ h) f = refuse n w (widen valueRefusals quiet refl n h)
 
@@ -101,7 +102,7 @@ module _ (us : List ℕ) (b : Bool) where
   end-refuses true w = goes
   end-refuses false w = rw (← (went-on (put (13 ∷ 10 ∷ []) w))) (put-refuses (13 ∷ 10 ∷ []) w (λ w. done on w) (λ u h. goes))
 
-  keep-refuses : (w : World) (r : Result (List ℕ)) → Known r → R (w .session .vars) (keepIn w r)
+  keep-refuses : (w : World) (r : Result (List ℕ)) → GivesOrRefuses r → R (w .session .vars) (keepIn w r)
   unfolding keepIn
   keep-refuses w r h = given-refuses r w _ h (λ m. goes)
 
@@ -195,7 +196,7 @@ exec-refuses e (goto a) w = line-refuses [] false e a w _ (λ q. jumps)
 exec-refuses e (gosub a) w = line-refuses [] false e a w _ (gosub-refuses [] false e w)
 exec-refuses e (until a) w = given-refuses [] false (eval e w a) w _ (eval-known e w a) (λ x. until-refuses [] false w x _)
 exec-refuses e return w = return-refuses [] false w _
-exec-refuses e loop w = do-refuses [] false e w
+exec-refuses e doLoop w = do-refuses [] false e w
 exec-refuses e remark w = goes
 exec-refuses e end w = refuse [] false 20 w refl
 exec-refuses e (print is′ c) w = items-refuse [] false e is′ w _ (λ u h. again [] false w u _ h (end-refuses [] false c u))
@@ -235,7 +236,7 @@ needs-asks (goto a) h = (refl, refl)
 needs-asks (gosub a) h = (refl, refl)
 needs-asks (until a) h = (refl, refl)
 needs-asks return h = (refl, refl)
-needs-asks loop h = (refl, refl)
+needs-asks doLoop h = (refl, refl)
 needs-asks remark h = (refl, refl)
 needs-asks end h = (refl, refl)
 needs-asks (print is′ b) h = (refl, refl)

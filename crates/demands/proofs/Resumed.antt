@@ -1,5 +1,5 @@
 -- "Run with a, continue with b, is run with a + b", of the calls, any number of pauses. Assumes nothing.
-use Prim.Native.Nat.{ℕ, zero, suc, _+_, _≤_}
+use Prim.Native.Nat.{ℕ, _+_, _≤_}
 use mathlib.Core.Path.{_≡_, refl, sym, ap, _∙_}
 use mathlib.Core.Bool.{Bool, true, false, false≢true}
 use mathlib.Core.List.{List, [], _∷_, _++_}
@@ -14,17 +14,19 @@ use Rattle.nibl.specs.Read.{typed}
 use Rattle.nibl.specs.Typing.{Gathered}
 use Rattle.nibl.specs.Page.{isGood, placesOf}
 use Rattle.nibl.specs.Meaning.{World, Env, withSession}
-use Rattle.nibl.specs.Calls.{Lent, Outcome, Ran, runFrom, stopAt, ended, stops, outcome, pausing, firstRefusal, begun, envOf, withPaused, pausedAt, obeyRead, obeyLine, takeLine, takeLineIn, continueFrom, continueRun, continueRunIn, limit}
+use Rattle.nibl.specs.Calls.{Lent, Outcome, Ran, runFrom, stopAt, runOutcome, stops, outcome, pausing, firstRefusal, begun, lentEnv, obeyRead, obeyLine, takeLine, takeLineIn, continueFrom, continueRun, continueRunIn, limit}
+use Rattle.nibl.specs.Record.{withPaused, pausedAt}
 use Rattle.page.proofs.Walk.{by-cases}
+use Rattle.demands.specs.Lent.{budgeted, gatheredLine, Typing, InRange}
 use Rattle.demands.specs.Listing.{lentNext}
 use Rattle.page.specs.Standing.{Stands}
+use Rattle.record.specs.Fit.{Fit}
 use Rattle.record.specs.Sound.{Sized, Sound}
-use Rattle.record.proofs.Fitted.{Fit, sound-fit}
-use Rattle.demands.specs.Sound.{budgeted, resumed, continued, total}
-use Rattle.demands.proofs.Budget.{joined, split-run}
-use Rattle.demands.proofs.Ways.{lineOf, Typing}
+use Rattle.record.proofs.Fitted.{sound-fit}
+use Rattle.demands.specs.Sound.{resumed, continued, total}
+use Rattle.demands.proofs.Budget.{wentOnWith, split-run}
 use Rattle.demands.proofs.Held.{Steady, run-steady, then-lengths}
-use Rattle.demands.proofs.Accepted.{accepted-of, accepted-is, accepted-less, InRange, take-at, continue-at}
+use Rattle.demands.proofs.Accepted.{accepted-of, accepted-is, accepted-less, take-at, continue-at}
 use Rattle.demands.proofs.Running.{Goings, runsOut, pauses, steps, run-goes}
 use Rattle.demands.proofs.Running.{stops as halts}
 use Rattle.demands.proofs.Carried.{Placed, run-placed}
@@ -45,18 +47,13 @@ goings-line (pauses h r s f) ks = silent 14 (ks ++ []) refl
 goings-line (halts h m f) ks = line-joined _ _ ks []
 goings-line (steps {r = r} p h g) ks = line-joined (r .stop) _ ks (r .lines)
 
--- a paused run goes on where it stands
-from-pause : (lim : ℕ) (y : Lent) (q : ℕ) → continueFrom lim y (pausedAt q) ≡ ended (runFrom (y .call .budget) (envOf lim y) q (begun y 0)) (y .page)
-from-pause lim y zero = refl
-from-pause lim y (suc p) = refl
-
 module _ (lim : ℕ) (short : lim ≤ 251) (x : Lent) (good : isGood lim (x .page) ≡ true) (q : ℕ) (w : World) (s : Stands (x .page) q)
     (f : Fit (placesOf (x .page)) (w .session)) (p : Placed (x .input) w) (l : Steady (begun x 0) w) where
   abbrev r : ℕ → Ran
-  r a = runFrom a (envOf lim x) q w
+  r a = runFrom a (lentEnv lim x) q w
 
   abbrev o : ℕ → Outcome
-  o a = ended (r a) (x .page)
+  o a = runOutcome (r a) (x .page)
 
   -- what is lent to continue it
   abbrev y : ℕ → ℕ → Lent
@@ -64,7 +61,7 @@ module _ (lim : ℕ) (short : lim ≤ 251) (x : Lent) (good : isGood lim (x .pag
 
   module _ (a b : ℕ) (z : firstRefusal lim (budgeted (a + b) x) ≡ 0) (e : r a .stop ≡ 14) where
     left : Placed (x .input) (r a .world)
-    left = run-placed (x .input) (envOf lim x) refl a q w p
+    left = run-placed (x .input) (lentEnv lim x) refl a q w p
 
     paused : pausing (r a .stop) (r a .at) (r a .world) ≡ withSession (r a .world) (withPaused (r a .world .session) (pausedAt (r a .at)))
     paused = rw (eq-eqb (r a .stop) 14 e)
@@ -72,8 +69,8 @@ module _ (lim : ℕ) (short : lim ≤ 251) (x : Lent) (good : isGood lim (x .pag
     accepted : firstRefusal lim (y a b) ≡ 0
     accepted =
         let c = accepted-of lim (budgeted (a + b) x) z .range in
-        let n = then-lengths (l .lengths) (run-steady a (envOf lim x) q w .lengths) in
-        let d = run-settled lim (envOf lim x) short good a q w s f .sound in
+        let n = then-lengths (l .lengths) (run-steady a (lentEnv lim x) q w .lengths) in
+        let d = run-settled lim (lentEnv lim x) short good a q w s f .sound in
         let h : InRange (y a b) =
         rw paused
         (record {
@@ -92,29 +89,28 @@ module _ (lim : ℕ) (short : lim ≤ 251) (x : Lent) (good : isGood lim (x .pag
     world-back =
         rw paused
         (λ i. record {
-          session = unpaused-same (r a .world .session) (run-steady a (envOf lim x) q w .paused ∙ l .paused) i;
+          session = unpaused-same (r a .world .session) (run-steady a (lentEnv lim x) q w .paused ∙ l .paused) i;
           memory = r a .world .memory;
           output = r a .world .output;
           outpos = r a .world .outpos;
           inpos = add-zero (r a .world .inpos) i;
         })
 
-    goes-on : continueRunIn lim (y a b) ≡ ended (runFrom b (envOf lim x) (r a .at) (r a .world)) (x .page)
+    goes-on : continueRunIn lim (y a b) ≡ runOutcome (runFrom b (lentEnv lim x) (r a .at) (r a .world)) (x .page)
     goes-on =
         continue-at lim (y a b) accepted
         ∙ ap (continueFrom lim (y a b)) (ap (λ (u : World). u .session .paused) paused)
-        ∙ from-pause lim (y a b) (r a .at)
-        ∙ ap (λ (u : World). ended (runFrom b (envOf lim x) (r a .at) u) (x .page)) world-back
+        ∙ ap (λ (u : World). runOutcome (runFrom b (lentEnv lim x) (r a .at) u) (x .page)) world-back
 
     after-pause : o (a + b) ≡ resumed (o a) (continueRunIn lim (y a b))
     after-pause =
-        let env : Env = envOf lim x in
+        let env : Env = lentEnv lim x in
         let t : Ran = runFrom b env (r a .at) (r a .world) in
         let g = run-goes lim env short good a q w s f in
         let h = run-goes lim env short good b (r a .at) (r a .world) (goings-stands g e) (goings-fit g) in
         let whole : r (a + b) ≡ record { stop = t .stop; lines = r a .lines ++ t .lines; at = t .at; world = t .world } =
-        split-run a b env q w ∙ rw (eq-eqb (r a .stop) 14 e, joined) in
-        ap (λ (k : Ran). ended k (x .page)) whole
+        split-run a b env q w ∙ rw (eq-eqb (r a .stop) 14 e, wentOnWith) in
+        ap (λ (k : Ran). runOutcome k (x .page)) whole
         ∙ (λ i. outcome (t .stop) (goings-line h (r a .lines) i) (length-append (r a .lines) (t .lines) i) (pausing (t .stop) (t .at) (t .world)) (x .page))
         ∙ ap (resumed (o a)) (sym goes-on)
 
@@ -124,32 +120,32 @@ pub record Resumes (lim : ℕ) (x : Lent) (b : ℕ) (u v : Outcome) : Type 0 whe
   pub over : (u .answer .stop ≡ 14 → ⊥) → v ≡ u
 
 module _ (lim : ℕ) (short : lim ≤ 251) (x : Lent) (h : Sound lim (x .page) (x .session)) (a b : ℕ) (z : firstRefusal lim (budgeted (a + b) x) ≡ 0) where
-  unpaused : (u : Outcome) → (u .answer .stop ≡ 14 → ⊥) → Resumes lim x b u u
-  unpaused u n = record { after = λ e. absurd (n e); over = λ e. refl }
+  no-pause : (u : Outcome) → (u .answer .stop ≡ 14 → ⊥) → Resumes lim x b u u
+  no-pause u n = record { after = λ e. absurd (n e); over = λ e. refl }
 
-  obeyed-resumes : {From : ℕ → World → Type 0} {o : ℕ → Outcome} → Obeyed lim (envOf lim x) (begun x 0) From o → Resumes lim x b (o a) (o (a + b))
-  obeyed-resumes (stands {n = n} {w = w} i f) = unpaused (stops n w (x .page)) (λ e. false≢true (rw e at i))
-  obeyed-resumes (edits p n f) = unpaused _ (λ e. omega arith)
+  obeyed-resumes : {From : ℕ → World → Type 0} {o : ℕ → Outcome} → Obeyed lim (lentEnv lim x) (begun x 0) From o → Resumes lim x b (o a) (o (a + b))
+  obeyed-resumes (stands {n = n} {w = w} i f) = no-pause (stops n w (x .page)) (λ e. false≢true (rw e at i))
+  obeyed-resumes (edits p n f) = no-pause _ (λ e. omega arith)
   obeyed-resumes (runs q w s f p l c) = record { after = after-pause lim short x (h .good) q w s f p l a b z; over = by } where
-    by : (runFrom a (envOf lim x) q w .stop ≡ 14 → ⊥) → ended (runFrom (a + b) (envOf lim x) q w) (x .page) ≡ ended (runFrom a (envOf lim x) q w) (x .page)
+    by : (runFrom a (lentEnv lim x) q w .stop ≡ 14 → ⊥) → runOutcome (runFrom (a + b) (lentEnv lim x) q w) (x .page) ≡ runOutcome (runFrom a (lentEnv lim x) q w) (x .page)
     by n =
-        let same : runFrom (a + b) (envOf lim x) q w ≡ runFrom a (envOf lim x) q w =
-        split-run a b (envOf lim x) q w ∙ rw (ne-eqb (runFrom a (envOf lim x) q w .stop) 14 n, joined) in
-        ap (λ (k : Ran). ended k (x .page)) same
+        let same : runFrom (a + b) (lentEnv lim x) q w ≡ runFrom a (lentEnv lim x) q w =
+        split-run a b (lentEnv lim x) q w ∙ rw (ne-eqb (runFrom a (lentEnv lim x) q w .stop) 14 n, wentOnWith) in
+        ap (λ (k : Ran). runOutcome k (x .page)) same
 
   read-resumes : (g : Gathered) → Typing lim x g → (t : Option Typed) → typed (g .line .bytes) ≡ t
-      → Resumes lim x b (obeyRead a (envOf lim x) (begun x (g .taken)) t) (obeyRead (a + b) (envOf lim x) (begun x (g .taken)) t)
-  read-resumes g y none e = unpaused _ (λ e. omega arith)
+      → Resumes lim x b (obeyRead a (lentEnv lim x) (begun x (g .taken)) t) (obeyRead (a + b) (lentEnv lim x) (begun x (g .taken)) t)
+  read-resumes g y none e = no-pause _ (λ e. omega arith)
   read-resumes g y (some t) e = obeyed-resumes (read-ways lim x short (h .good) (sound-fit h) g t y e)
 
-  line-resumes : firstRefusal lim x ≡ 0 → (g : Option Gathered) → lineOf lim x ≡ g → Resumes lim x b (obeyLine lim (budgeted a x) g) (obeyLine lim (budgeted (a + b) x) g)
-  line-resumes i none e = unpaused _ (λ e. omega arith)
+  line-resumes : firstRefusal lim x ≡ 0 → (g : Option Gathered) → gatheredLine lim x ≡ g → Resumes lim x b (obeyLine lim (budgeted a x) g) (obeyLine lim (budgeted (a + b) x) g)
+  line-resumes i none e = no-pause _ (λ e. omega arith)
   line-resumes i (some g) e = by (g .line .long) refl where
     at : Bool → ℕ → Outcome
-    at c n = elim c [ true ↦ stops 5 (begun x (g .taken)) (x .page) | false ↦ obeyRead n (envOf lim x) (begun x (g .taken)) (typed (g .line .bytes)) ]
+    at c n = elim c [ true ↦ stops 5 (begun x (g .taken)) (x .page) | false ↦ obeyRead n (lentEnv lim x) (begun x (g .taken)) (typed (g .line .bytes)) ]
 
     by : (c : Bool) → g .line .long ≡ c → Resumes lim x b (at c a) (at c (a + b))
-    by true l = unpaused _ (λ e. omega arith)
+    by true l = no-pause _ (λ e. omega arith)
     by false l = read-resumes g (record { sound = i; line = e; short = l }) (typed (g .line .bytes)) refl
 
 module _ (lim : ℕ) (short : lim ≤ 251) (x : Lent) (sized : Sized (x .session)) (a b : ℕ) (z : firstRefusal lim (budgeted (a + b) x) ≡ 0) where
@@ -158,7 +154,7 @@ module _ (lim : ℕ) (short : lim ≤ 251) (x : Lent) (sized : Sized (x .session
       let c : Lent = budgeted (a + b) x in
       let y = accepted-less lim x a (a + b) (omega arith) z in
       let h = unrefused lim c sized z in
-      let t = line-resumes lim short c h a b z z (lineOf lim x) refl in
+      let t = line-resumes lim short c h a b z z (gatheredLine lim x) refl in
       let k = obeyed-resumes lim short c h a b z (continue-ways lim c short (h .good) (sound-fit h) z) in (
         rw (take-at lim (budgeted a x) y, take-at lim c z) (record { after = t .after; over = t .over }),
         rw (continue-at lim (budgeted a x) y, continue-at lim c z) (record { after = k .after; over = k .over }),

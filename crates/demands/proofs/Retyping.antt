@@ -15,7 +15,8 @@ use Rattle.nibl.specs.Read.{typed}
 use Rattle.nibl.specs.Readings.{LineReading}
 use Rattle.nibl.specs.Typing.{Gathered}
 use Rattle.nibl.specs.Page.{Stored, programBytes, fits, recordsOf, size, used, usedBy, hasLine, with, without, onto}
-use Rattle.nibl.specs.Calls.{Lent, stops, begun, envOf, clearStacks, edited, obey, takeLine, takeLineIn, limit}
+use Rattle.nibl.specs.Calls.{Lent, stops, begun, lentEnv, edited, obey, takeLine, takeLineIn, limit}
+use Rattle.nibl.specs.Record.{stackless}
 use Rattle.nibl.specs.Meaning.{World, withSession}
 use Rattle.nibl.proofs.Whole.{typed-complete}
 use Rattle.letter.proofs.Typed.{taken}
@@ -23,14 +24,14 @@ use Rattle.page.proofs.Walk.{by-cases}
 use Rattle.page.proofs.Program.{Program, none, each, program-length}
 use Rattle.page.proofs.Laid.{Laid, laid-program, laid-room, good-laid}
 use Rattle.page.proofs.Changes.{with-program, without-program, onto-good, onto-records}
+use Rattle.demands.specs.Lent.{Typing}
 use Rattle.demands.specs.Leaves.{ofLine, others, Rising, alone, rises, lineTaken, Edits, Replaces, Deletes}
-use Rattle.demands.proofs.Ways.{Typing}
 use Rattle.demands.proofs.Storing.{stored-storable}
 use Rattle.demands.proofs.Accepted.{accepted-of}
 
 -- what a line that was read does
 pub line-read : (x : Lent) (g : Gathered) (y : Typed) → Typing limit x g → typed (g .line .bytes) ≡ some y
-    → takeLine x ≡ obey (x .call .budget) (envOf limit x) (begun x (g .taken)) y
+    → takeLine x ≡ obey (x .call .budget) (lentEnv limit x) (begun x (g .taken)) y
 unfolding takeLine takeLineIn
 line-read x g y h e = rw (h .sound, takeLineIn) (rw (h .line) (rw (h .short) (rw e)))
 
@@ -112,7 +113,7 @@ module _ (q : Stored) where
         record { one = rw m (w .one); rest = rw m (ap (λ (l : List Stored). r ∷ l) (w .rest)); room = rw m (omega (arith, w .room)) }
 
 -- What an edit leaves
-pub edited-fits : (page : List ℕ) (w : World) (rs : List Stored) → usedBy rs ≤ length page → edited page w rs ≡ stops 0 (withSession w (clearStacks (w .session))) (onto page rs)
+pub edited-fits : (page : List ℕ) (w : World) (rs : List Stored) → usedBy rs ≤ length page → edited page w rs ≡ stops 0 (withSession w (stackless (w .session))) (onto page rs)
 unfolding edited
 edited-fits page w rs h = rw (program-length rs, le-leb (usedBy rs) (length page) h)
 

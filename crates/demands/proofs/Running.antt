@@ -9,26 +9,28 @@ use native.Mathlib.Omega.{arith}
 use lib.ListN.{length}
 use lib.Dec.{leb}
 use Rattle.nibl.specs.Tree.{Stmt}
-use Rattle.nibl.specs.Page.{Stored, isAmong, mark, isGood, placesOf, lineOf}
+use Rattle.nibl.specs.Page.{Stored, isAmong, isGood, placesOf, lineOf}
+use Rattle.nibl.specs.Record.{mark}
 use Rattle.nibl.specs.Meaning.{World, Env, on, skip, go, stop, Done, done, put, went, exec}
-use Rattle.nibl.specs.Calls.{Ran, ran, stepped, textFrom, lineFrom, envAt, onward, runFrom, needsProgram, listed, listFrom}
+use Rattle.nibl.specs.Calls.{Ran, ran, stepped, textFrom, lineFrom, envAt, afterStep, runFrom, needsProgram, listed, listFrom}
 use Rattle.nibl.proofs.Words.{if-split}
-use Rattle.page.specs.Standing.{Stands}
-use Rattle.page.proofs.Standing.{Ready, ready-read, ready-end, stands-ready}
-use Rattle.record.proofs.Fitted.{Fit}
-use Rattle.record.proofs.Statements.{Goes, toNext, toRecord, toPlace, toEnd, list-goes, immediate-goes, member-goes}
+use Rattle.page.specs.Standing.{Stands, Ready}
+use Rattle.page.proofs.Standing.{ready-read, ready-end, stands-ready}
+use Rattle.record.specs.Fit.{Fit, Goes, toNext, toRecord, toPlace, toEnd}
+use Rattle.record.proofs.Statements.{list-goes, immediate-goes, member-goes}
 use Rattle.demands.proofs.Effects.{exec-does, list-does}
-use Rattle.demands.proofs.Runs.{endOf, crOf, every-run}
+use Rattle.demands.specs.Steps.{placeEnding, crOf}
+use Rattle.demands.proofs.Runs.{every-run}
 use Rattle.demands.proofs.Budget.{StopsWith, stopped, stopNumbers, does-stops}
 
 -- a statement left a fitting record, and goes on to where a run may stand, or stops with one of its numbers
-pub record Left (page : List ℕ) (d : Done) : Type 0 where
+pub record LeavesFit (page : List ℕ) (d : Done) : Type 0 where
   pub goes : Goes page d
   pub stops : StopsWith d
 
 -- LIST goes nowhere
 data Unmoved : Done → Type 0 where
-  onward′ : {w : World} → Unmoved (done on w)
+  stayed : {w : World} → Unmoved (done on w)
   halted : {n : ℕ} {w : World} → Unmoved (done (stop n) w)
 
 went-unmoved : (d : Done) (k : World → Done) → Unmoved d → ((u : World) → Unmoved (k u)) → Unmoved (went d k)
@@ -37,23 +39,23 @@ went-unmoved (done (stop n) u) k h f = halted
 
 list-unmoved : (n : ℕ) (rs : List Stored) (w : World) → Unmoved (listFrom n rs w)
 unfolding listFrom put
-list-unmoved n [] w = onward′
+list-unmoved n [] w = stayed
 list-unmoved n (r ∷ rs) w = by (leb n (r .line)) (list-unmoved n rs) where
   by : (b : Bool) → ((u : World) → Unmoved (listFrom n rs u)) → Unmoved (elim b [ true ↦ went (put (listed r) w) (listFrom n rs) | false ↦ listFrom n rs w ])
-  by true f = went-unmoved (put (listed r) w) (listFrom n rs) (if-split Unmoved (leb (w .outpos + length (listed r)) (length (w .output))) (λ _. onward′) (λ _. halted)) f
+  by true f = went-unmoved (put (listed r) w) (listFrom n rs) (if-split Unmoved (leb (w .outpos + length (listed r)) (length (w .output))) (λ _. stayed) (λ _. halted)) f
   by false f = f w
 
 pub list-stays : (n : ℕ) (rs : List Stored) (w : World) (q : ℕ) (u : World) → listFrom n rs w ≡ done (go q) u → ⊥
 list-stays n rs w q u e = by (list-unmoved n rs w) e where
   by : {d : Done} → Unmoved d → d ≡ done (go q) u → ⊥
-  by onward′ e = let z : _≡_ {A = ℕ} 0 1 = cc in omega arith
+  by stayed e = let z : _≡_ {A = ℕ} 0 1 = cc in omega arith
   by halted e = let z : _≡_ {A = ℕ} 0 1 = cc in omega arith
 
-pub list-left : (e : Env) (n : ℕ) (rs : List Stored) (w : World) → Fit (placesOf (e .page)) (w .session) → Left (e .page) (listFrom n rs w)
+pub list-left : (e : Env) (n : ℕ) (rs : List Stored) (w : World) → Fit (placesOf (e .page)) (w .session) → LeavesFit (e .page) (listFrom n rs w)
 list-left e n rs w f = record { goes = list-goes (e .page) n rs w f; stops = does-stops (list-does e [] n rs w) }
 
 pub statement-left : (lim : ℕ) (e : Env) → lim ≤ 251 → isGood lim (e .page) ≡ true → (q : Stmt) (w : World) → e .here ≡ mark → needsProgram q ≡ false
-    → Fit (placesOf (e .page)) (w .session) → Left (e .page) (exec e q w)
+    → Fit (placesOf (e .page)) (w .session) → LeavesFit (e .page) (exec e q w)
 statement-left lim e short good q w h n f = record { goes = immediate-goes e lim short good q w h n f; stops = does-stops (exec-does e q w) }
 
 -- The ways in which a run goes, within its budget
@@ -72,10 +74,10 @@ module _ (lim : ℕ) (e : Env) (short : lim ≤ 251) (good : isGood lim (e .page
   abbrev Sure : ℕ → (ℕ → World → Ran) → Type 0
   Sure k f = (q : ℕ) (w : World) → Stands (e .page) q → Fit (placesOf (e .page)) (w .session) → Goings (e .page) k (f q w)
 
-  step-goes : (k p cr : ℕ) (d : Done) (f : ℕ → World → Ran) → isAmong (placesOf (e .page)) p ≡ true → isAmong (placesOf (e .page)) cr ≡ true → Left (e .page) d → Sure k f
-      → Goings (e .page) (suc k) (stepped (lineOf (e .page) p) (onward d p cr f))
+  step-goes : (k p cr : ℕ) (d : Done) (f : ℕ → World → Ran) → isAmong (placesOf (e .page)) p ≡ true → isAmong (placesOf (e .page)) cr ≡ true → LeavesFit (e .page) d → Sure k f
+      → Goings (e .page) (suc k) (stepped (lineOf (e .page) p) (afterStep d p cr f))
   step-goes k p cr d f h c l s = by d (l .goes) (l .stops) where
-    by : (d : Done) → Goes (e .page) d → StopsWith d → Goings (e .page) (suc k) (stepped (lineOf (e .page) p) (onward d p cr f))
+    by : (d : Done) → Goes (e .page) d → StopsWith d → Goings (e .page) (suc k) (stepped (lineOf (e .page) p) (afterStep d p cr f))
     by (done on w) (toNext i) n = steps p h (s (suc p) w h i)
     by (done skip w) (toRecord i) n = steps p h (s (suc cr) w c i)
     by (done (go q) w) (toPlace t i) n = steps p h (s q w t i)
@@ -89,9 +91,9 @@ module _ (lim : ℕ) (e : Env) (short : lim ≤ 251) (good : isGood lim (e .page
       (λ k q w a h g s f. absurd (ready-read (stands-ready lim (e .page) short good q a s h) g))
       (λ k q w a m t h g i s f.
       let r = stands-ready lim (e .page) short good q a s h in
-      let end : isAmong (placesOf (e .page)) (endOf e a m) ≡ true = ready-end r m t g in
-      step-goes k (endOf e a m) (crOf e a) _ (runFrom k e) end (r .cr)
+      let end : isAmong (placesOf (e .page)) (placeEnding e a m) ≡ true = ready-end r m t g in
+      step-goes k (placeEnding e a m) (crOf e a) _ (runFrom k e) end (r .cr)
       (record {
-        goes = member-goes lim e short good (endOf e a m) (lineFrom (e .page) a) t m w end g f;
-        stops = does-stops (exec-does (envAt e (endOf e a m)) (m .statement) w);
+        goes = member-goes lim e short good (placeEnding e a m) (lineFrom (e .page) a) t m w end g f;
+        stops = does-stops (exec-does (envAt e (placeEnding e a m)) (m .statement) w);
       }) i) k q w

@@ -7,8 +7,8 @@ use Rattle.nibl.specs.Tree.{Member}
 use Rattle.nibl.specs.Read.{Found, nothing, found, member}
 use Rattle.nibl.specs.Page.{lineOf}
 use Rattle.nibl.specs.Meaning.{World, Env, on, skip, go, stop, Done, done, exec}
-use Rattle.nibl.specs.Calls.{Ran, ran, stepped, textFrom, lineFrom, envAt, onward, step, runFrom}
-pub use Rattle.demands.specs.Steps.{endOf, crOf}
+use Rattle.nibl.specs.Calls.{Ran, ran, stepped, textFrom, lineFrom, envAt, afterStep, step, runFrom}
+use Rattle.demands.specs.Steps.{placeEnding, crOf}
 
 pub run-none : (k : ℕ) (e : Env) (q : ℕ) (w : World) → textFrom (e .page) q ≡ none → runFrom k e q w ≡ ran 0 q w
 unfolding runFrom
@@ -25,15 +25,15 @@ unfolding runFrom
 run-suc k e q w a h = rw (h, runFrom)
 
 abbrev pub oneStep : Env → ℕ → Member → World → (ℕ → World → Ran) → Ran
-oneStep e a m w k = stepped (lineOf (e .page) (endOf e a m)) (onward (exec (envAt e (endOf e a m)) (m .statement) w) (endOf e a m) (crOf e a) k)
+oneStep e a m w k = stepped (lineOf (e .page) (placeEnding e a m)) (afterStep (exec (envAt e (placeEnding e a m)) (m .statement) w) (placeEnding e a m) (crOf e a) k)
 
 -- what holds of each stop here and of all that follows holds after a step
-pub onward-law : (Q : Ran → Type 0) (d : Done) (p cr : ℕ) (k : ℕ → World → Ran) → ((q : ℕ) (w : World) → Q (k q w)) → ((n : ℕ) (w : World) → Q (ran n p w))
-    → Q (onward d p cr k)
-onward-law Q (done on w) p cr k f g = f (suc p) w
-onward-law Q (done skip w) p cr k f g = f (suc cr) w
-onward-law Q (done (go q) w) p cr k f g = f q w
-onward-law Q (done (stop n) w) p cr k f g = g n w
+pub after-law : (Q : Ran → Type 0) (d : Done) (p cr : ℕ) (k : ℕ → World → Ran) → ((q : ℕ) (w : World) → Q (k q w)) → ((n : ℕ) (w : World) → Q (ran n p w))
+    → Q (afterStep d p cr k)
+after-law Q (done on w) p cr k f g = f (suc p) w
+after-law Q (done skip w) p cr k f g = f (suc cr) w
+after-law Q (done (go q) w) p cr k f g = f q w
+after-law Q (done (stop n) w) p cr k f g = g n w
 
 -- What holds past the last line, at a pause, where no member is read, and after a step if it holds of what follows the step, holds of every run
 module _ (e : Env) (P : ℕ → ℕ → World → Ran → Type 0)

@@ -7,11 +7,11 @@ use Rattle.nibl.specs.Page.{recordsOf}
 use Rattle.nibl.specs.Readings.{LineReading}
 use Rattle.nibl.specs.Typing.{Gathered}
 use Rattle.nibl.specs.Meaning.{World, Next, on, skip, stop, done, exec}
-use Rattle.nibl.specs.Calls.{Lent, stops, begun, envOf, listFrom, immediately, needsProgram, obey, takeLine, limit}
+use Rattle.nibl.specs.Calls.{Lent, stops, begun, lentEnv, listFrom, afterImmediate, needsProgram, obey, takeLine, limit}
 use Rattle.nibl.proofs.Whole.{typed-complete}
+use Rattle.demands.specs.Lent.{Typing}
 use Rattle.demands.specs.Leaves.{lineTaken, lineCleared}
 use Rattle.demands.specs.Starts.{Settles, goesOn, skips, gives}
-use Rattle.demands.proofs.Ways.{Typing}
 use Rattle.demands.proofs.Retyping.{line-read}
 
 module _ (x : Lent) (g : Gathered) (h : Typing limit x g) where
@@ -30,14 +30,14 @@ module _ (x : Lent) (g : Gathered) (h : Typing limit x g) where
   unfolding obey
   needing-a-program-is-3 s r n = line-read x g (immediate s) h (typed-complete r) ∙ rw (n, obey)
 
-  at-once : (how : Next) (n : ℕ) (w : World) → Settles how n → immediately (x .call .budget) (envOf limit x) (done how w) ≡ stops n w (x .page)
+  at-once : (how : Next) (n : ℕ) (w : World) → Settles how n → afterImmediate (x .call .budget) (lentEnv limit x) (done how w) ≡ stops n w (x .page)
   at-once on n w goesOn = refl
   at-once skip n w skips = refl
   at-once (stop m) n w gives = refl
 
   -- any other immediate statement is done at once, and so is the line, unless it goes to the program
   pub an-immediate-statement-is-done : (s : Stmt) (how : Next) (n : ℕ) (w : World) → LineReading (g .line .bytes) (immediate s) → needsProgram s ≡ false
-      → exec (envOf limit x) s (begun x (g .taken)) ≡ done how w → Settles how n → takeLine x ≡ stops n w (x .page)
+      → exec (lentEnv limit x) s (begun x (g .taken)) ≡ done how w → Settles how n → takeLine x ≡ stops n w (x .page)
   unfolding obey
   an-immediate-statement-is-done s how n w r p e c = line-read x g (immediate s) h (typed-complete r) ∙ rw (p, obey) (rw e (at-once how n w c))
 

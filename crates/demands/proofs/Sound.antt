@@ -8,12 +8,14 @@ use lib.Dec.{eqb}
 use borrow.Author.Tests.{eqb-true}
 use Rattle.nibl.specs.Page.{isAmong, isGood, placesOf, onto}
 use Rattle.nibl.specs.Meaning.{World, Env}
-use Rattle.nibl.specs.Calls.{Lent, Outcome, Ran, runFrom, ended, stops, firstRefusal, pausedAt, takeLine, takeLineIn, continueRun, continueRunIn, begun, envOf, limit}
+use Rattle.nibl.specs.Calls.{Lent, Outcome, Ran, runFrom, runOutcome, stops, firstRefusal, takeLine, takeLineIn, continueRun, continueRunIn, begun, lentEnv, limit}
+use Rattle.nibl.specs.Record.{pausedAt}
 use Rattle.nibl.proofs.Words.{if-split}
 use Rattle.page.proofs.Changes.{onto-good}
 use Rattle.page.specs.Standing.{Stands}
+use Rattle.record.specs.Fit.{Fit}
 use Rattle.record.specs.Sound.{Sized, Sound}
-use Rattle.record.proofs.Fitted.{Fit, fit-paused, fit-cleared, sound-fit, fit-sound}
+use Rattle.record.proofs.Fitted.{fit-paused, fit-cleared, sound-fit, fit-sound}
 use Rattle.demands.proofs.Effects.{widen}
 use Rattle.demands.proofs.Budget.{stopNumbers}
 use Rattle.demands.proofs.Ways.{Takes, refused, noCR, overlong, unread, reads, every-line, Continues, refused′, continues, every-continue}
@@ -54,7 +56,7 @@ pub record Settled (lim : ℕ) (o : Outcome) : Type 0 where
   pub number : isAmong obeyNumbers (o .answer .stop) ≡ true
 
 module _ (lim : ℕ) (e : Env) (short : lim ≤ 251) (good : isGood lim (e .page) ≡ true) where
-  pub run-settled : (k q : ℕ) (w : World) → Stands (e .page) q → Fit (placesOf (e .page)) (w .session) → Settled lim (ended (runFrom k e q w) (e .page))
+  pub run-settled : (k q : ℕ) (w : World) → Stands (e .page) q → Fit (placesOf (e .page)) (w .session) → Settled lim (runOutcome (runFrom k e q w) (e .page))
   run-settled k q w s f =
       let r : Ran = runFrom k e q w in
       let g = run-goes lim e short good k q w s f in
@@ -84,11 +86,11 @@ module _ (lim : ℕ) (short : lim ≤ 251) (x : Lent) (h : Sound lim (x .page) (
   take-sound (noCR z e) = h
   take-sound (overlong g z e l) = begun-sound 5 (g .taken)
   take-sound (unread g y e) = begun-sound 5 (g .taken)
-  take-sound (reads g t y e) = settled lim (envOf lim x) short (h .good) (read-ways lim x short (h .good) (sound-fit h) g t y e) (x .call .budget) .sound
+  take-sound (reads g t y e) = settled lim (lentEnv lim x) short (h .good) (read-ways lim x short (h .good) (sound-fit h) g t y e) (x .call .budget) .sound
 
   continue-sound : {o : Outcome} → Continues lim x o → Stays o
   continue-sound (refused′ e) = h
-  continue-sound (continues e) = settled lim (envOf lim x) short (h .good) (continue-ways lim x short (h .good) (sound-fit h) e) (x .call .budget) .sound
+  continue-sound (continues e) = settled lim (lentEnv lim x) short (h .good) (continue-ways lim x short (h .good) (sound-fit h) e) (x .call .budget) .sound
 
   pub sound-within : Stays (takeLineIn lim x) × Stays (continueRunIn lim x)
   sound-within = (take-sound (every-line lim x), continue-sound (every-continue lim x))

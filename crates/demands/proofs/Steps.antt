@@ -15,33 +15,29 @@ use Rattle.nibl.specs.Tree.{Typed, blank, new, clear, run, delete, list, store,
 use Rattle.nibl.specs.Read.{typed}
 use Rattle.nibl.specs.Page.{Stored, isGood, recordsOf, usedBy, hasLine, with, without}
 use Rattle.nibl.specs.Meaning.{World, Env, Next, on, skip, go, stop, Done, done, withSession, exec}
-use Rattle.nibl.specs.Calls.{Lent, Outcome, Ran, envAt, runFrom, withPaused, pausedAt, ended, stops, firstRefusal, begun, envOf, edited, listFrom, immediately, needsProgram, obey, takeLine, continueFrom, continueRun, limit}
-use Rattle.nibl.specs.declared.StopLine.the-variants as stopLine
+use Rattle.nibl.specs.Calls.{Lent, Outcome, Ran, noLine, envAt, runFrom, runOutcome, stops, firstRefusal, begun, lentEnv, edited, listFrom, afterImmediate, needsProgram, obey, takeLine, continueFrom, continueRun, limit}
+use Rattle.nibl.specs.Record.{nowhere, pausedAt, withPaused, unpaused}
 use Rattle.nibl.specs.Typing.{Gathered}
 use Rattle.nibl.specs.Readings.{LineReading}
-use Rattle.nibl.specs.declared.Paused.{Paused}
-use Rattle.nibl.specs.declared.Paused.the-variants.{Nowhere}
 use Rattle.nibl.proofs.Whole.{typed-complete}
+use Rattle.demands.specs.Lent.{budgeted, Typing, OneOf}
 use Rattle.demands.specs.Asks.{inputVars, GivenIn, stay}
 use Rattle.demands.specs.Items.{ItemOf, TypedItem, ofList, ofStatement}
-use Rattle.demands.specs.Leaves.{unpaused, noItem, noLine, Refused}
+use Rattle.demands.specs.Leaves.{noItem, noneTaken, Refused}
 use Rattle.page.specs.Standing.{Stands}
 use Rattle.record.specs.Sound.{Sized, Sound}
 use Rattle.record.proofs.Fitted.{sound-fit, fit-sound}
-use Rattle.demands.specs.Sound.{budgeted}
-use Rattle.demands.specs.Steps.{worldLeft, Ends, halts, runsOut, pauses, OneMore, RefusedLine}
-use Rattle.demands.proofs.Runs.{endOf}
+use Rattle.demands.specs.Steps.{placeEnding, worldLeft, Ends, halts, runsOut, pauses, OneMore, RefusedLine}
 use Rattle.demands.proofs.Budget.{steps-within}
-use Rattle.demands.proofs.Ways.{Typing, Takes, refused, noCR, overlong, unread, reads, every-line, Continues, refused′, continues, every-continue}
-use Rattle.demands.proofs.Numbers.{OneOf}
-use Rattle.demands.proofs.Accepted.{accepted-less, continue-at}
+use Rattle.demands.proofs.Ways.{Takes, refused, noCR, overlong, unread, reads, every-line, Continues, refused′, continues, every-continue}
+use Rattle.demands.proofs.Accepted.{accepted-of, accepted-less, continue-at}
 use Rattle.demands.proofs.Retyping.{edited-fits, edited-full, line-read}
 use Rattle.demands.proofs.Refusing.{needs-asks}
-use Rattle.demands.proofs.Fixed.{unsaid, run-named}
+use Rattle.demands.proofs.Fixed.{unsaid, lines-low, run-named}
 use Rattle.demands.proofs.Five.{no-grammar-refusal-while-running, exactly-5}
 use Rattle.demands.proofs.Held.{worldAfter, run-steady, refusing-statement, refusing-list, refused-as}
 use Rattle.demands.proofs.Immediate.{exec-keeps, list-keeps}
-use Rattle.demands.proofs.LastStep.{LastStep, RunEnds, last-step, resumes-at, unpaused-same}
+use Rattle.demands.proofs.LastStep.{LastStep, RunEnds, last-step, unpaused-same}
 use Rattle.demands.proofs.LastStep as lastStep
 use Rattle.demands.proofs.Line.{a-last-steps-line}
 use Rattle.demands.proofs.Sound.{unrefused}
@@ -60,25 +56,25 @@ record Pausing (w u : World) : Type 0 where
   outpos : u .outpos ≡ w .outpos
   inpos : u .inpos ≡ w .inpos
 
-set-or-not : (b : Bool) (w : World) (p : Paused) → w .session .paused ≡ Nowhere → Pausing w (if b then withSession w (withPaused (w .session) p) else w)
+set-or-not : (b : Bool) (w : World) (p : ℕ) → w .session .paused ≡ nowhere → Pausing w (if b then withSession w (withPaused (w .session) p) else w)
 set-or-not true w p h = record { session = unpaused-same (w .session) h; memory = refl; output = refl; outpos = refl; inpos = refl }
 set-or-not false w p h = record { session = unpaused-same (w .session) h; memory = refl; output = refl; outpos = refl; inpos = refl }
 
 -- Of a run
-module _ (e : Env) (k q : ℕ) (w : World) (sound : Sound limit (e .page) (w .session)) (stands : Stands (e .page) q) (h : w .session .paused ≡ Nowhere) where
+module _ (e : Env) (k q : ℕ) (w : World) (sound : Sound limit (e .page) (w .session)) (stands : Stands (e .page) q) (h : w .session .paused ≡ nowhere) where
   abbrev r : Ran
   r = runFrom k e q w
 
   five : r .stop ≡ 5 → ⊥
   five = no-grammar-refusal-while-running limit e (omega arith) k q w sound stands
 
-  run-ends : {p cr : ℕ} {how : Next} → RunEnds (e .page) p cr how k r → Ends (e .page) p cr how (r .world) k (ended r (e .page))
+  run-ends : {p cr : ℕ} {how : Next} → RunEnds (e .page) p cr how k r → Ends (e .page) p cr how (r .world) k (runOutcome r (e .page))
   run-ends (lastStep.halts i m) = halts i (λ c. false≢true (rw c at m)) (rw (ne-eqb (r .stop) 14 (λ c. false≢true (rw c at m))))
   run-ends (lastStep.runsOut p g i c) = runsOut p g i c (rw c)
   run-ends (lastStep.pauses p a g i c n at) = pauses p a g i c n (rw (c, at))
   run-ends (lastStep.breaks c) = absurd (five c)
 
-  run-more : (t : LastStep e k q w r) → OneMore e k (ended (runFrom (t .before) e q w) (e .page)) (ended r (e .page))
+  run-more : (t : LastStep e k q w r) → OneMore e k (runOutcome (runFrom (t .before) e q w) (e .page)) (runOutcome r (e .page))
   run-more t =
       let r′ = runFrom (t .before) e q w in
       let c : eqb (r′ .stop) 14 ≡ true = eq-eqb (r′ .stop) 14 (t .pauses) in
@@ -88,16 +84,19 @@ module _ (e : Env) (k q : ℕ) (w : World) (sound : Sound limit (e .page) (w .se
       let p = set-or-not (eqb (r .stop) 14) (r .world) (pausedAt (r .at)) clear in
       record {
         paused = t .pauses;
+        at = r′ .at;
+        waits = rw c;
         start = t .start;
-        follows = rw (c, resumes-at (r′ .at)) (t .follows);
+        follows = t .follows;
         last = t .last;
         rest = t .rest;
         stands = t .stands;
         how = t .how;
         after = r .world;
-        runs = rw c (ap (exec (envAt e (endOf e (t .start) (t .last))) (t .last .statement)) same ∙ t .goes);
+        runs = rw c (ap (exec (envAt e (placeEnding e (t .start) (t .last))) (t .last .statement)) same ∙ t .goes);
         stops = λ a b. t .stops (λ i. of-unsaid (r .stop) i a five b);
         line = λ a b. a-last-steps-line limit e (omega arith) k q w sound stands a b t .line;
+        named = lines-low limit (e .page) (omega arith) (sound .good) (placeEnding e (t .start) (t .last));
         lies = λ a b. a-last-steps-line limit e (omega arith) k q w sound stands a b t .lies;
         clear = clear;
         ends = run-ends (t .ends);
@@ -110,13 +109,13 @@ module _ (e : Env) (k q : ℕ) (w : World) (sound : Sound limit (e .page) (w .se
       }
 
   -- a call that runs from q on, at any budget up to its own
-  more-by-one : (call : ℕ → Outcome) → ((b : ℕ) → b ≤ k → call b ≡ ended (runFrom b e q w) (e .page)) → 1 ≤ call k .answer .steps
+  more-by-one : (call : ℕ → Outcome) → ((b : ℕ) → b ≤ k → call b ≡ runOutcome (runFrom b e q w) (e .page)) → 1 ≤ call k .answer .steps
       → OneMore e k (call (call k .answer .steps - 1)) (call k)
   more-by-one call same n = rw o (by (rw o at n)) where
-    o : call k ≡ ended r (e .page)
+    o : call k ≡ runOutcome r (e .page)
     o = same k (omega arith)
 
-    by : 1 ≤ length (r .lines) → OneMore e k (call (length (r .lines) - 1)) (ended r (e .page))
+    by : 1 ≤ length (r .lines) → OneMore e k (call (length (r .lines) - 1)) (runOutcome r (e .page))
     by n =
         let t = last-step k e q w n in
         let b : length (r .lines) - 1 ≡ t .before = omega (arith, t .count) in
@@ -124,7 +123,7 @@ module _ (e : Env) (k q : ℕ) (w : World) (sound : Sound limit (e .page) (w .se
 
 -- How a read line goes, at any budget: it runs the program, is done, or is refused
 data Kind (e : Env) (w : World) (y : Typed) : Type 0 where
-  runs : (q : ℕ) (u : World) → ((k : ℕ) → obey k e w y ≡ ended (runFrom k e q u) (e .page)) → Kind e w y
+  runs : (q : ℕ) (u : World) → ((k : ℕ) → obey k e w y ≡ runOutcome (runFrom k e q u) (e .page)) → Kind e w y
   settles : ((k : ℕ) → obey k e w y .answer .stop ≡ 0) → ((k : ℕ) → obey k e w y .answer .steps ≡ 0) → Kind e w y
   refuses : (n : ℕ) (u : World) → ((k : ℕ) → obey k e w y ≡ stops n u (e .page)) → Refused e [] (TypedItem e y) w u → u .inpos ≡ w .inpos → Kind e w y
 
@@ -135,11 +134,11 @@ nothing-done e w =
       rest = record { flags = refl; gosubs = refl; dos = refl; fors = refl; paused = refl };
       memory = refl;
       items = noItem;
-      lines = noLine;
+      lines = noneTaken;
     }
 
 module _ (e : Env) (w : World) (y : Typed) where
-  immediate-kind : (d : Done) → ((k : ℕ) → obey k e w y ≡ immediately k e d) → worldAfter d .inpos ≡ w .inpos
+  immediate-kind : (d : Done) → ((k : ℕ) → obey k e w y ≡ afterImmediate k e d) → worldAfter d .inpos ≡ w .inpos
       → ((n : ℕ) (u : World) → d ≡ done (stop n) u → (n ≡ 0 → ⊥) → Refused e [] (TypedItem e y) w u) → Kind e w y
   immediate-kind (done on u) f i g = settles (λ k. rw (f k)) (λ k. rw (f k))
   immediate-kind (done skip u) f i g = settles (λ k. rw (f k)) (λ k. rw (f k))
@@ -175,7 +174,7 @@ some-steps h n = omega arith
 
 module _ (x : Lent) where
   abbrev env : Env
-  env = envOf limit x
+  env = lentEnv limit x
 
   abbrev More : (Lent → Outcome) → Outcome → Type 0
   More call o = OneMore env (x .call .budget) (call (budgeted (o .answer .steps - 1) x)) o
@@ -211,20 +210,20 @@ module _ (x : Lent) where
         let s = unrefused limit x sized h in
         rw e (obeyed-more (s .good) (continue-ways limit x (omega arith) (s .good) (sound-fit s) h) continueRun (continue-again h) (rw e at n))
 
-    pub the-last-statement : 1 ≤ takeLine x .answer .steps → OneMore (envOf limit x) (x .call .budget) (takeLine (budgeted (takeLine x .answer .steps - 1) x)) (takeLine x)
+    pub the-last-statement : 1 ≤ takeLine x .answer .steps → OneMore (lentEnv limit x) (x .call .budget) (takeLine (budgeted (takeLine x .answer .steps - 1) x)) (takeLine x)
     unfolding takeLine
     the-last-statement n = take-more refl (every-line limit x) n
 
     pub the-last-statement-of-continue : 1 ≤ continueRun x .answer .steps
-        → OneMore (envOf limit x) (x .call .budget) (continueRun (budgeted (continueRun x .answer .steps - 1) x)) (continueRun x)
+        → OneMore (lentEnv limit x) (x .call .budget) (continueRun (budgeted (continueRun x .answer .steps - 1) x)) (continueRun x)
     unfolding continueRun
     the-last-statement-of-continue n = continue-more refl (every-continue limit x) n
 
 -- and if it refused, it left all but INPUT's given variables as the call with one step less left it
 pub refused-last : {e : Env} {k : ℕ} {o' o : Outcome} (m : OneMore e k o' o) → (o .answer .stop ≡ 0 → ⊥) → (o .answer .stop ≡ 14 → ⊥)
-    → Refused (envAt e (endOf e (m .start) (m .last))) (inputVars (m .last .statement)) (ItemOf (envAt e (endOf e (m .start) (m .last))) (m .last .statement)) (worldLeft o') (m .after)
+    → Refused (envAt e (placeEnding e (m .start) (m .last))) (inputVars (m .last .statement)) (ItemOf (envAt e (placeEnding e (m .start) (m .last))) (m .last .statement)) (worldLeft o') (m .after)
 refused-last {e = e} {o' = o'} {o = o} m a b =
-    refusing-statement (envAt e (endOf e (m .start) (m .last))) (m .last .statement) (worldLeft o') (m .after) (o .answer .stop)
+    refusing-statement (envAt e (placeEnding e (m .start) (m .last))) (m .last .statement) (worldLeft o') (m .after) (o .answer .stop)
     (m .runs ∙ ap (λ (n : Next). done n (m .after)) (m .stops a b)) a
 
 -- A typed line's own refusal
@@ -232,18 +231,18 @@ none-given : {vars after : List ℕ} → GivenIn [] vars after → after ≡ var
 none-given stay = refl
 
 pub refusing-line : (x : Lent) → Sized (x .session) → (g : Gathered) (y : Typed) → Typing limit x g → LineReading (g .line .bytes) y
-    → takeLine x .answer .line ≡ stopLine.NoLine → (takeLine x .answer .stop ≡ 0 → ⊥) → (takeLine x .answer .stop ≡ 14 → ⊥) → RefusedLine x g y (takeLine x)
-refusing-line x sized g y h r n ended′ paused = by (kind (envOf limit x) (begun x (g .taken)) y) where
-  o : takeLine x ≡ obey (x .call .budget) (envOf limit x) (begun x (g .taken)) y
+    → takeLine x .answer .line ≡ noLine → (takeLine x .answer .stop ≡ 0 → ⊥) → (takeLine x .answer .stop ≡ 14 → ⊥) → RefusedLine x g y (takeLine x)
+refusing-line x sized g y h r n ended′ paused = by (kind (lentEnv limit x) (begun x (g .taken)) y) where
+  o : takeLine x ≡ obey (x .call .budget) (lentEnv limit x) (begun x (g .taken)) y
   o = line-read x g y h (typed-complete r)
 
   m : OneOf unsaid (takeLine x .answer .stop) → ⊥
   m i = of-unsaid (takeLine x .answer .stop) i ended′ (λ e. exactly-5 x g sized (h .sound) (h .line) (h .short) .0 e y r) paused
 
-  by : Kind (envOf limit x) (begun x (g .taken)) y → RefusedLine x g y (takeLine x)
+  by : Kind (lentEnv limit x) (begun x (g .taken)) y → RefusedLine x g y (takeLine x)
   by (runs q u f) =
       let i = o ∙ f (x .call .budget) in
-      absurd (m (rw i (run-named (x .call .budget) (envOf limit x) q u (rw i at n))))
+      absurd (m (rw i (run-named (x .call .budget) (lentEnv limit x) q u (lines-low limit (x .page) (omega arith) (accepted-of limit x (h .sound) .good)) (rw i at n))))
   by (settles f j) = absurd (ended′ (rw (o, f (x .call .budget)) refl))
   by (refuses k u f j l) =
       let s = j .rest in

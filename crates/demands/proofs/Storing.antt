@@ -8,8 +8,7 @@ use lib.ListN.{length, length-append}
 use lib.Dec.{ltb, leb}
 use borrow.Author.Tests.{lt-ltb, le-leb, leb-true}
 use Rattle.nibl.specs.Bytes.{isDigit, All, none, each, decimalValue}
-use Rattle.nibl.specs.Words.{decimal, Run, Word, spaced}
-use Rattle.nibl.specs.Words as words
+use Rattle.nibl.specs.Words.{decimal, Run, Word, spaced, decimalDigits}
 use Rattle.nibl.specs.Grammar.{aStore}
 use Rattle.nibl.specs.Tree.{Member, store}
 use Rattle.nibl.specs.Readings.{LineReading}
@@ -17,7 +16,8 @@ use Rattle.nibl.specs.Values.{digitsN, digits}
 use Rattle.nibl.specs.Page.{isStorable}
 use Rattle.nibl.proofs.Ends.{members-first}
 use Rattle.nibl.proofs.Whole.{reading-complete}
-use Rattle.page.proofs.Program.{both, Storable}
+use Rattle.page.specs.Standing.{Storable}
+use Rattle.page.proofs.Program.{both}
 use Rattle.page.proofs.Changes.{storable}
 use Rattle.value.proofs.Digits.{digits-before}
 
@@ -76,7 +76,7 @@ pub record NumberWord (n : ℕ) (s t : List ℕ) : Type 0 where
 
 pub number-word : {table : List (List ℕ)} {n : ℕ} {s t : List ℕ} → Word table s (decimal n) t → NumberWord n s t
 number-word (spaced w) = let h = number-word w in record { low = h .low; room = omega arith }
-number-word (words.digits {ds = ds} {s = s} r l) = record { low = l; room = omega (arith, digits-shortest r, length-append ds s) }
+number-word (decimalDigits {ds = ds} {s = s} r l) = record { low = l; room = omega (arith, digits-shortest r, length-append ds s) }
 
 -- within a limit that a record's length byte has room for
 pub stored-storable : {s t : List ℕ} {n : ℕ} {ms : List Member} (lim : ℕ) → lim ≤ 251 → LineReading s (store n t ms) → length s ≤ lim → Storable lim (record { line = n; text = t })

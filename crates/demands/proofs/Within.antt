@@ -1,5 +1,5 @@
 -- "Steps at most the budget", of the calls, whatever is lent. Assumes nothing.
-use Prim.Native.Nat.{ℕ, suc, _≤_}
+use Prim.Native.Nat.{ℕ, zero, suc, _≤_}
 use mathlib.Core.Bool.{Bool, true, false}
 use mathlib.Core.List.{List, []}
 use native.Mathlib.Omega.{arith}
@@ -8,9 +8,7 @@ use lib.Dec.{leb}
 use Rattle.nibl.specs.Tree.{Typed, blank, new, clear, run, delete, list, store, immediate}
 use Rattle.nibl.specs.Page.{Stored, recordsOf, programBytes, hasLine, without, with}
 use Rattle.nibl.specs.Meaning.{World, Env, on, skip, go, stop, Done, done, exec}
-use Rattle.nibl.specs.Calls.{Lent, Outcome, stops, edited, listFrom, immediately, needsProgram, obey, takeLine, continueFrom, continueRun, begun, envOf, limit}
-use Rattle.nibl.specs.declared.Paused.{Paused}
-use Rattle.nibl.specs.declared.Paused.the-variants.{Nowhere, Start, At}
+use Rattle.nibl.specs.Calls.{Lent, Outcome, stops, edited, listFrom, afterImmediate, needsProgram, obey, takeLine, continueFrom, continueRun, begun, lentEnv, limit}
 use Rattle.nibl.proofs.Words.{if-split}
 use Rattle.demands.proofs.Budget.{steps-within}
 use Rattle.demands.proofs.Ways.{Takes, refused, noCR, overlong, unread, reads, every-line, Continues, refused′, continues, every-continue}
@@ -23,7 +21,7 @@ module _ (k : ℕ) (e : Env) where
   unfolding edited
   edit-within w rs = if-split (Within k) (leb (length (programBytes rs)) (length (e .page))) (λ _. omega arith) (λ _. omega arith)
 
-  done-within : (d : Done) → Within k (immediately k e d)
+  done-within : (d : Done) → Within k (afterImmediate k e d)
   done-within (done on w) = omega arith
   done-within (done skip w) = omega arith
   done-within (done (go q) w) = steps-within k e q w
@@ -42,7 +40,7 @@ module _ (k : ℕ) (e : Env) where
   obey-within w (list n) = done-within (listFrom n (recordsOf (e .page)) w)
   obey-within w (store n t ms) = edit-within w (with (record { line = n; text = t }) (recordsOf (e .page)))
   obey-within w (immediate q) = by (needsProgram q) where
-    by : (b : Bool) → Within k (elim b [ true ↦ stops 3 w (e .page) | false ↦ immediately k e (exec e q w) ])
+    by : (b : Bool) → Within k (elim b [ true ↦ stops 3 w (e .page) | false ↦ afterImmediate k e (exec e q w) ])
     by true = omega arith
     by false = done-within (exec e q w)
 
@@ -51,12 +49,11 @@ take-within (refused h) = omega arith
 take-within (noCR z h) = omega arith
 take-within (overlong g z h l) = omega arith
 take-within (unread g h r) = omega arith
-take-within {lim = lim} {x = x} (reads g t h r) = obey-within (x .call .budget) (envOf lim x) (begun x (g .taken)) t
+take-within {lim = lim} {x = x} (reads g t h r) = obey-within (x .call .budget) (lentEnv lim x) (begun x (g .taken)) t
 
-paused-within : (lim : ℕ) (x : Lent) (p : Paused) → Within (x .call .budget) (continueFrom lim x p)
-paused-within lim x Nowhere = omega arith
-paused-within lim x Start = steps-within (x .call .budget) (envOf lim x) 0 (begun x 0)
-paused-within lim x (At p) = steps-within (x .call .budget) (envOf lim x) (suc (p .0)) (begun x 0)
+paused-within : (lim : ℕ) (x : Lent) (p : ℕ) → Within (x .call .budget) (continueFrom lim x p)
+paused-within lim x zero = omega arith
+paused-within lim x (suc q) = steps-within (x .call .budget) (lentEnv lim x) q (begun x 0)
 
 continue-within : {lim : ℕ} {x : Lent} {o : Outcome} → Continues lim x o → Within (x .call .budget) o
 continue-within (refused′ h) = omega arith

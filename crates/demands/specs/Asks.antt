@@ -3,7 +3,7 @@ use Prim.Native.Nat.{ℕ}
 use mathlib.Core.Bool.{Bool, true, false}
 use mathlib.Core.List.{List, [], _∷_}
 use lib.ListN.{set}
-use Rattle.nibl.specs.Tree.{Stmt, letVar, letStat, letByte, letCopy, letText, goto, gosub, until, return, loop, remark, end, print, ifThen, for, next, input, inputText}
+use Rattle.nibl.specs.Tree.{Stmt, letVar, letStat, letByte, letCopy, letText, goto, gosub, until, return, doLoop, remark, end, print, ifThen, for, next, input, inputText}
 
 abbrev pub asks : Stmt → Bool
 asks (letVar v a) = false
@@ -15,7 +15,7 @@ asks (goto a) = false
 asks (gosub a) = false
 asks (until a) = false
 asks return = false
-asks loop = false
+asks doLoop = false
 asks remark = false
 asks end = false
 asks (print is b) = false
@@ -35,7 +35,7 @@ inputVars (goto a) = []
 inputVars (gosub a) = []
 inputVars (until a) = []
 inputVars return = []
-inputVars loop = []
+inputVars doLoop = []
 inputVars remark = []
 inputVars end = []
 inputVars (print is b) = []

@@ -10,7 +10,8 @@ use Rattle.nibl.specs.Values.{add16}
 use Rattle.nibl.specs.Stack.{pushOf, popOf, pushFor, popFor}
 use Rattle.nibl.specs.Typing.{Gathered, gather}
 use Rattle.nibl.specs.Page.{isAmong, find}
-use Rattle.nibl.specs.Meaning.{World, Env, on, skip, go, stop, Done, done, withVar, withFlags, withGosubs, withDos, withFors, withSession, withMemory, withOutput, withInpos, place, after, goesOn}
+use Rattle.nibl.specs.Meaning.{World, Env, on, skip, go, stop, Done, done, withSession, withMemory, withOutput, withInpos, after, goesOn}
+use Rattle.nibl.specs.Record.{withVar, withFlags, withGosubs, withDos, withFors, place}
 use Rattle.nibl.specs.declared.Place.{Place}
 use Rattle.nibl.specs.declared.ForEntry.{ForEntry}
 use Rattle.nibl.specs.declared.Top.the-variants as top
@@ -21,10 +22,10 @@ abbrev pub refusals : List ℕ
 refusals = 6 ∷ 7 ∷ 8 ∷ 9 ∷ 10 ∷ 11 ∷ 12 ∷ 13 ∷ 15 ∷ 16 ∷ 17 ∷ 20 ∷ []
 
 -- INPUT: variables given one after the other, up to the first refusal
-pub data Gives : World → Done → Type 0 where
-  gave : {w : World} → Gives w (done on w)
-  refused : {w : World} {n : ℕ} → isAmong refusals n ≡ true → Gives w (done (stop n) w)
-  gives : {w : World} {d : Done} (v x : ℕ) → Gives (withSession w (withVar (w .session) v x)) d → Gives w d
+pub data GivesVariables : World → Done → Type 0 where
+  gave : {w : World} → GivesVariables w (done on w)
+  refused : {w : World} {n : ℕ} → isAmong refusals n ≡ true → GivesVariables w (done (stop n) w)
+  gives : {w : World} {d : Done} (v x : ℕ) → GivesVariables (withSession w (withVar (w .session) v x)) d → GivesVariables w d
 
 -- vs are the variables that a FOR may name, W says what an item may be
 pub data Does (e : Env) (vs : List ℕ) (W : List ℕ → Type 0) : World → Done → Type 0 where
@@ -60,4 +61,4 @@ pub data Does (e : Env) (vs : List ℕ) (W : List ℕ → Type 0) : World → Do
   finishes : {w : World} (v : ℕ) (f : ForEntry) → popFor (w .session .fors) .top ≡ topf.Entry f
       → goesOn (f .step) (add16 (getD (w .session .vars) v 0) (f .step)) (f .limit) ≡ false
       → Does e vs W w (done on (withSession w (withFors (withVar (w .session) v (add16 (getD (w .session .vars) v 0) (f .step))) (popFor (w .session .fors) .stack))))
-  inputs : {w : World} {d : Done} → Gives w d → Does e vs W w d
+  inputs : {w : World} {d : Done} → GivesVariables w d → Does e vs W w d

@@ -45,8 +45,8 @@ abbrev pub wroteItem : World → List ℕ → World
 wroteItem w bs = withOutput w (sets (w .output) (w .outpos) bs) (w .outpos + length bs)
 
 -- it fits whole, or not
-abbrev pub Room : World → List ℕ → Type 0
-Room w bs = w .outpos + length bs ≤ length (w .output)
+abbrev pub HasRoom : World → List ℕ → Type 0
+HasRoom w bs = w .outpos + length bs ≤ length (w .output)
 
 abbrev pub NoRoom : World → List ℕ → Type 0
 NoRoom w bs = length (w .output) < w .outpos + length bs
@@ -54,17 +54,17 @@ NoRoom w bs = length (w .output) < w .outpos + length bs
 -- "PRINT works item by item, 16 before 17", and "ends with CR LF unless ';'": each item is written whole, in the world that the ones before it left, up to the
 -- first that is refused or does not fit
 pub data Prints (e : Env) (semicolon : Bool) : List Item → World → Done → Type 0 where
-  writes : {i : Item} {items : List Item} {w : World} {d : Done} (bs : List ℕ) → itemBytes e w i ≡ is bs → Room w bs → Prints e semicolon items (wroteItem w bs) d
+  writes : {i : Item} {items : List Item} {w : World} {d : Done} (bs : List ℕ) → itemBytes e w i ≡ is bs → HasRoom w bs → Prints e semicolon items (wroteItem w bs) d
       → Prints e semicolon (i ∷ items) w d
   refused : {i : Item} {items : List Item} {w : World} {n : ℕ} → itemBytes e w i ≡ no n → Prints e semicolon (i ∷ items) w (done (stop n) w)
   noRoom : {i : Item} {items : List Item} {w : World} (bs : List ℕ) → itemBytes e w i ≡ is bs → NoRoom w bs → Prints e semicolon (i ∷ items) w (done (stop 17) w)
   noEnd : {w : World} → semicolon ≡ true → Prints e semicolon [] w (done on w)
-  end : {w : World} → semicolon ≡ false → Room w (13 ∷ 10 ∷ []) → Prints e semicolon [] w (done on (wroteItem w (13 ∷ 10 ∷ [])))
+  end : {w : World} → semicolon ≡ false → HasRoom w (13 ∷ 10 ∷ []) → Prints e semicolon [] w (done on (wroteItem w (13 ∷ 10 ∷ [])))
   noRoomForEnd : {w : World} → semicolon ≡ false → NoRoom w (13 ∷ 10 ∷ []) → Prints e semicolon [] w (done (stop 17) w)
 
 -- LIST line by line: "each line from that number on", up to the first that does not fit
 pub data ListsLines (n : ℕ) : List Stored → World → Done → Type 0 where
   over : {w : World} → ListsLines n [] w (done on w)
   below : {r : Stored} {rs : List Stored} {w : World} {d : Done} → r .line < n → ListsLines n rs w d → ListsLines n (r ∷ rs) w d
-  listsLine : {r : Stored} {rs : List Stored} {w : World} {d : Done} → n ≤ r .line → Room w (listed r) → ListsLines n rs (wroteItem w (listed r)) d → ListsLines n (r ∷ rs) w d
+  listsLine : {r : Stored} {rs : List Stored} {w : World} {d : Done} → n ≤ r .line → HasRoom w (listed r) → ListsLines n rs (wroteItem w (listed r)) d → ListsLines n (r ∷ rs) w d
   noRoomForLine : {r : Stored} {rs : List Stored} {w : World} → n ≤ r .line → NoRoom w (listed r) → ListsLines n (r ∷ rs) w (done (stop 17) w)

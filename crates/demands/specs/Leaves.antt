@@ -4,23 +4,23 @@ use mathlib.Core.Path.{_≡_}
 use mathlib.Core.Bool.{Bool, true, false}
 use mathlib.Core.List.{List, [], _∷_}
 use mathlib.Core.Option.{some}
-use lib.ListN.{length, take, drop, replicate}
+use lib.ListN.{length, take, drop}
 use lib.Seq.{sets}
 use lib.Dec.{eqb}
 use Rattle.nibl.specs.Bytes.{if_then_else_}
 use Rattle.nibl.specs.Typing.{Gathered, gather}
 use Rattle.nibl.specs.Stack.{popOf}
 use Rattle.nibl.specs.Tree.{Typed, blank, new, clear, run, delete, list, store, immediate}
-use Rattle.nibl.specs.Page.{Stored, isGood, recordsOf, programBytes, mark, used}
-use Rattle.nibl.specs.Meaning.{World, Env, withGosubs}
-use Rattle.nibl.specs.Calls.{Lent, Outcome, limit}
-use Rattle.nibl.specs.declared.Paused.the-variants.{Nowhere}
+use Rattle.nibl.specs.Page.{Stored, isGood, recordsOf, programBytes, used}
+use Rattle.nibl.specs.Meaning.{World, Env, withSession}
+use Rattle.nibl.specs.Record.{mark, withGosubs, unpaused, stackless, cleared}
+use Rattle.nibl.specs.Calls.{Lent, Outcome, leftAll, answerOf, noLine, begun, takeLine, continueRun, limit}
 use Rattle.nibl.specs.declared.Session.{Session}
 use Rattle.nibl.specs.declared.Place.{Place}
 use Rattle.nibl.specs.declared.Top.the-variants as top
-use Rattle.nibl.specs.declared.StopLine.the-variants as stopLine
 use Rattle.nibl.specs.declared.Answer.{Answer}
 use Rattle.demands.specs.Asks.{GivenIn}
+use Rattle.demands.specs.Lent.{gatheredLine}
 
 -- the records of a number, and the others, in their order
 abbrev pub ofLine : ℕ → List Stored → List Stored
@@ -38,60 +38,39 @@ pub data Rising : ℕ → List Stored → Type 0 where
 
 -- a stop with no line and no steps, after so many bytes of the input; the output position as it came
 abbrev pub answered : Lent → ℕ → ℕ → Answer
-answered x n taken = record { stop = n; line = stopLine.NoLine; steps = 0; inpos = x .call .inpos + taken; outpos = x .call .outpos }
-
--- the record with its pause ended
-abbrev pub unpaused : Session → Session
-unpaused s = record { vars = s .vars; flags = s .flags; gosubs = s .gosubs; dos = s .dos; fors = s .fors; paused = Nowhere }
-
--- and with its stacks empty: the slots hold what they held
-abbrev pub stackless : Session → Session
-stackless s =
-    record {
-      vars = s .vars;
-      flags = s .flags;
-      gosubs = record { depth = 0; places = s .gosubs .places };
-      dos = record { depth = 0; places = s .dos .places };
-      fors = record { depth = 0; entries = s .fors .entries };
-      paused = Nowhere;
-    }
-
--- the record as CLEAR leaves it: variables zero, stacks empty, the pause ended
-abbrev pub blanked : Session → Session
-blanked s =
-    record {
-      vars = replicate 26 0;
-      flags = s .flags;
-      gosubs = record { depth = 0; places = s .gosubs .places };
-      dos = record { depth = 0; places = s .dos .places };
-      fors = record { depth = 0; entries = s .fors .entries };
-      paused = Nowhere;
-    }
+answered x n taken = answerOf n noLine 0 (x .call .inpos + taken) (x .call .outpos)
 
 -- everything back as it came, the positions too
 abbrev pub unchanged : Lent → ℕ → Outcome
-unchanged x n =
-    record {
-      answer = record { stop = n; line = stopLine.NoLine; steps = 0; inpos = x .call .inpos; outpos = x .call .outpos };
-      session = x .session;
-      page = x .page;
-      memory = x .memory;
-      output = x .output;
-    }
+unchanged x n = leftAll (answerOf n noLine 0 (x .call .inpos) (x .call .outpos)) (x .session) (x .page) (x .memory) (x .output)
+
+-- both calls give all back so, with the stop n
+abbrev pub BothUnchanged : Lent → ℕ → Type 0
+BothUnchanged x n = (takeLine x ≡ unchanged x n) × (continueRun x ≡ unchanged x n)
 
 -- the line is taken, the pause ended, and nothing else changed
 abbrev pub lineTaken : Lent → ℕ → ℕ → Outcome
-lineTaken x n taken = record { answer = answered x n taken; session = unpaused (x .session); page = x .page; memory = x .memory; output = x .output }
+lineTaken x n taken = leftAll (answered x n taken) (unpaused (x .session)) (x .page) (x .memory) (x .output)
 
--- the line is taken, the record cleared, and nothing else changed
+-- "2, 3 and 5 take the line and end a pause", and change nothing else
+pub record TakesLine (x : Lent) (n : ℕ) (o : Outcome) : Type 0 where
+  pub gathered : Gathered
+  pub line : gatheredLine limit x ≡ some gathered
+  pub leaves : o ≡ lineTaken x n (gathered .taken)
+
+-- the record as CLEAR leaves it: the pause ended, variables zero, stacks empty
 abbrev pub lineCleared : Lent → ℕ → Outcome
-lineCleared x taken = record { answer = answered x 0 taken; session = blanked (x .session); page = x .page; memory = x .memory; output = x .output }
+lineCleared x taken = leftAll (answered x 0 taken) (cleared (unpaused (x .session))) (x .page) (x .memory) (x .output)
+
+-- "RUN does CLEAR": the world that its run begins in
+abbrev pub worldCleared : Lent → ℕ → World
+worldCleared x taken = withSession (begun x taken) (cleared (unpaused (x .session)))
 
 -- What an edit leaves: stop 0, no line, 0 steps; "stacks cleared, variables and flags kept"; a good page whose records rise and stand
 -- there byte for byte, of the same length, and what lies after its end mark as it was
 pub record Edits (x : Lent) (taken : ℕ) (o : Outcome) : Type 0 where
   pub answer : o .answer ≡ answered x 0 taken
-  pub session : o .session ≡ stackless (x .session)
+  pub session : o .session ≡ stackless (unpaused (x .session))
   pub memory : o .memory ≡ x .memory
   pub output : o .output ≡ x .output
   pub good : isGood limit (o .page) ≡ true
@@ -110,19 +89,19 @@ pub record Deletes (x : Lent) (n : ℕ) (o : Outcome) : Type 0 where
   pub rest : recordsOf (o .page) ≡ others n (recordsOf (x .page))
 
 -- Whole items from a position of the output on, one after the other: the output then, and the position. W says what an item is
-pub data Items (W : List ℕ → Type 0) : List ℕ → ℕ → List ℕ → ℕ → Type 0 where
-  noItem : {out : List ℕ} {at : ℕ} → Items W out at out at
-  item : {out out' : List ℕ} {at at' : ℕ} (bs : List ℕ) → W bs → at + length bs ≤ length out → Items W (sets out at bs) (at + length bs) out' at' → Items W out at out' at'
+pub data WholeItems (W : List ℕ → Type 0) : List ℕ → ℕ → List ℕ → ℕ → Type 0 where
+  noItem : {out : List ℕ} {at : ℕ} → WholeItems W out at out at
+  item : {out out' : List ℕ} {at at' : ℕ} (bs : List ℕ) → W bs → at + length bs ≤ length out → WholeItems W (sets out at bs) (at + length bs) out' at' → WholeItems W out at out' at'
 
 -- whole lines of the input, as they are gathered, from a position on
-pub data Lines (lim : ℕ) (input : List ℕ) : ℕ → ℕ → Type 0 where
-  noLine : {at : ℕ} → Lines lim input at at
-  line : {at at' : ℕ} (g : Gathered) → gather lim (drop at input) ≡ some g → Lines lim input (at + g .taken) at' → Lines lim input at at'
+pub data WholeLines (lim : ℕ) (input : List ℕ) : ℕ → ℕ → Type 0 where
+  noneTaken : {at : ℕ} → WholeLines lim input at at
+  line : {at at' : ℕ} (g : Gathered) → gather lim (drop at input) ≡ some g → WholeLines lim input (at + g .taken) at' → WholeLines lim input at at'
 
 -- whole items written and whole lines taken, from these positions to those
-pub record Wrote (W : List ℕ → Type 0) (lim : ℕ) (input out : List ℕ) (at from : ℕ) (out' : List ℕ) (at' from' : ℕ) : Type 0 where
-  pub items : Items W out at out' at'
-  pub lines : Lines lim input from from'
+pub record WroteItems (W : List ℕ → Type 0) (lim : ℕ) (input out : List ℕ) (at from : ℕ) (out' : List ℕ) (at' from' : ℕ) : Type 0 where
+  pub items : WholeItems W out at out' at'
+  pub lines : WholeLines lim input from from'
 
 -- all of the record but its variables
 pub record SameButVars (s t : Session) : Type 0 where
@@ -137,8 +116,8 @@ pub record Refused (e : Env) (us : List ℕ) (W : List ℕ → Type 0) (w u : Wo
   pub given : GivenIn us (w .session .vars) (u .session .vars)
   pub rest : SameButVars (w .session) (u .session)
   pub memory : u .memory ≡ w .memory
-  pub items : Items W (w .output) (w .outpos) (u .output) (u .outpos)
-  pub lines : Lines (e .lim) (e .input) (w .inpos) (u .inpos)
+  pub items : WholeItems W (w .output) (w .outpos) (u .output) (u .outpos)
+  pub lines : WholeLines (e .lim) (e .input) (w .inpos) (u .inpos)
 
 -- "RETURN to the immediate mark" pops one place, the mark, and changes nothing else of the record
 pub record Returned (s t : Session) : Type 0 where
@@ -146,6 +125,14 @@ pub record Returned (s t : Session) : Type 0 where
   pub top : popOf (s .gosubs) .top ≡ top.At place
   pub mark : place .0 ≡ mark
   pub rest : t ≡ withGosubs s (popOf (s .gosubs) .stack)
+
+-- what a call wrote and took, from a position of the input on
+abbrev pub WroteFrom : Lent → (List ℕ → Type 0) → ℕ → Outcome → Type 0
+WroteFrom x W at o = WroteItems W limit (x .input) (x .output) (x .call .outpos) at (o .output) (o .answer .outpos) (o .answer .inpos)
+
+-- both positions are still in range
+abbrev pub StaysInRange : Lent → Outcome → Type 0
+StaysInRange x o = (o .answer .inpos ≤ length (x .input)) × (o .answer .outpos ≤ length (o .output))
 
 -- the output from one position to the other is new, and only that
 pub record Grown (out : List ℕ) (at : ℕ) (out' : List ℕ) (at' : ℕ) : Type 0 where

@@ -1,6 +1,7 @@
 pub mod Items
 pub mod Effects
 pub mod Asks
+pub mod Lent
 pub mod Leaves
 pub mod Listing
 pub mod Sound

@@ -7,15 +7,14 @@ use lib.Seq.{sets}
 use Rattle.nibl.specs.Values.{digits}
 use Rattle.nibl.specs.Typing.{Gathered}
 use Rattle.nibl.specs.Page.{Stored, recordsOf, used}
-use Rattle.nibl.specs.Calls.{Lent, Outcome, listed, takeLine}
-use Rattle.nibl.specs.declared.StopLine.the-variants as stopLine
+use Rattle.nibl.specs.Record.{unpaused}
+use Rattle.nibl.specs.Calls.{Lent, Outcome, lentAll, withPositions, answerOf, noLine, listed, takeLine}
 use Rattle.nibl.specs.declared.Answer.{Answer}
-use Rattle.demands.specs.Leaves.{unpaused}
 
 -- "each line as digits without leading zeros, text, CR, LF"
-abbrev pub listing : List Stored → List ℕ
-listing [] = []
-listing (r ∷ rs) = listed r ++ listing rs
+abbrev pub listingOf : List Stored → List ℕ
+listingOf [] = []
+listingOf (r ∷ rs) = listed r ++ listingOf rs
 
 -- the room that a listing needs: for each record its digits, its text, CR and LF
 abbrev pub listingRoom : List Stored → ℕ
@@ -28,15 +27,7 @@ written x o = take (o .answer .outpos - x .call .outpos) (drop (x .call .outpos)
 
 -- what is lent to the next call: all that one left, and the same input, sense byte and budget
 abbrev pub lentNext : Lent → Outcome → Lent
-lentNext x o =
-    record {
-      session = o .session;
-      page = o .page;
-      memory = o .memory;
-      input = x .input;
-      output = o .output;
-      call = record { inpos = o .answer .inpos; outpos = o .answer .outpos; sense = x .call .sense; budget = x .call .budget };
-    }
+lentNext x o = lentAll (o .session) (o .page) (o .memory) (x .input) (o .output) (withPositions (o .answer .inpos) (o .answer .outpos) (x .call))
 
 -- n lines typed one after the other: what is lent after them, and the answers
 unfoldable pub afterLines : ℕ → Lent → Lent
@@ -50,7 +41,7 @@ answers (suc n) x = takeLine x .answer ∷ answers n (lentNext x (takeLine x))
 -- every stop is 0, with no line and no steps
 pub data Stops0 : List Answer → Type 0 where
   none : Stops0 []
-  each : {a : Answer} {more : List Answer} → a .stop ≡ 0 → a .line ≡ stopLine.NoLine → a .steps ≡ 0 → Stops0 more → Stops0 (a ∷ more)
+  each : {a : Answer} {more : List Answer} → a .stop ≡ 0 → a .line ≡ noLine → a .steps ≡ 0 → Stops0 more → Stops0 (a ∷ more)
 
 -- what is left over of a listing: the LF behind its last CR
 abbrev pub lastLF : List Stored → List ℕ
@@ -59,12 +50,12 @@ lastLF (r ∷ rs) = 10 ∷ []
 
 -- LIST's outcome: the listing written whole, the line taken, the pause ended, nothing else changed
 pub record Lists (x : Lent) (g : Gathered) (o : Outcome) : Type 0 where
-  pub answer : o .answer ≡ record { stop = 0; line = stopLine.NoLine; steps = 0; inpos = x .call .inpos + g .taken; outpos = x .call .outpos + listingRoom (recordsOf (x .page)) }
+  pub answer : o .answer ≡ answerOf 0 noLine 0 (x .call .inpos + g .taken) (x .call .outpos + listingRoom (recordsOf (x .page)))
   pub session : o .session ≡ unpaused (x .session)
   pub page : o .page ≡ x .page
   pub memory : o .memory ≡ x .memory
-  pub output : o .output ≡ sets (x .output) (x .call .outpos) (listing (recordsOf (x .page)))
-  pub wrote : written x o ≡ listing (recordsOf (x .page))
+  pub output : o .output ≡ sets (x .output) (x .call .outpos) (listingOf (recordsOf (x .page)))
+  pub wrote : written x o ≡ listingOf (recordsOf (x .page))
 
 -- The round trip: x was listed, y is lent with what LIST wrote and an empty page, z is what its lines leave
 pub record RoundTrip (x y z : Lent) : Type 0 where

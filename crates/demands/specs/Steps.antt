@@ -1,5 +1,5 @@
 -- One statement more: what a call of one or more steps leaves, by the same call with one step less, which pauses before the last statement.
-use Prim.Native.Nat.{ℕ, suc, _+_, _-_}
+use Prim.Native.Nat.{ℕ, suc, _+_, _-_, _<_}
 use mathlib.Core.Path.{_≡_}
 use mathlib.Core.List.{List}
 use mathlib.Core.Option.{none, some}
@@ -10,21 +10,19 @@ use Rattle.nibl.specs.Typing.{Gathered}
 use Rattle.nibl.specs.Read.{found, member}
 use Rattle.nibl.specs.Page.{lineOf}
 use Rattle.nibl.specs.Meaning.{World, Env, Next, on, skip, go, stop, done, withSession, exec}
-use Rattle.nibl.specs.Calls.{Lent, Outcome, textFrom, lineFrom, envAt, envOf, withPaused, pausedAt, stops, limit}
-use Rattle.nibl.specs.declared.Paused.the-variants.{Nowhere}
-use Rattle.nibl.specs.declared.StopLine.the-variants as stopLine
-use Rattle.demands.specs.Leaves.{unpaused, Items}
+use Rattle.nibl.specs.Calls.{Lent, Outcome, textFrom, lineFrom, envAt, lentEnv, noLine, stops, limit}
+use Rattle.nibl.specs.Record.{nowhere, pausedAt, withPaused, unpaused}
+use Rattle.demands.specs.Leaves.{WholeItems}
 use Rattle.demands.specs.Items.{ItemOf, TypedItem}
 use Rattle.page.specs.Standing.{LiesIn}
-use Rattle.demands.specs.Starts.{resumes}
 
 -- what a paused call left, as its next statement finds it
 abbrev pub worldLeft : Outcome → World
 worldLeft o = record { session = unpaused (o .session); memory = o .memory; output = o .output; outpos = o .answer .outpos; inpos = o .answer .inpos }
 
 -- the place that ends the member m of the text from a on, and the CR behind that text
-abbrev pub endOf : Env → ℕ → Member → ℕ
-endOf e a m = a + (length (lineFrom (e .page) a) - m .left)
+abbrev pub placeEnding : Env → ℕ → Member → ℕ
+placeEnding e a m = a + (length (lineFrom (e .page) a) - m .left)
 
 abbrev pub crOf : Env → ℕ → ℕ
 crOf e a = a + length (lineFrom (e .page) a)
@@ -49,22 +47,25 @@ pub data Ends (page : List ℕ) (p cr : ℕ) (how : Next) (after : World) (budge
 pub record OneMore (e : Env) (budget : ℕ) (o' o : Outcome) : Type 0 where
   pub paused : o' .answer .stop ≡ 14
   -- the member that stands where it paused
+  pub at : ℕ
+  pub waits : o' .session .paused ≡ pausedAt at
   pub start : ℕ
-  pub follows : textFrom (e .page) (resumes (o' .session .paused)) ≡ some start
+  pub follows : textFrom (e .page) at ≡ some start
   pub last : Member
   pub rest : List ℕ
   pub stands : member (lineFrom (e .page) start) ≡ found last rest
   -- what it did
   pub how : Next
   pub after : World
-  pub runs : exec (envAt e (endOf e start last)) (last .statement) (worldLeft o') ≡ done how after
+  pub runs : exec (envAt e (placeEnding e start last)) (last .statement) (worldLeft o') ≡ done how after
   pub stops : (o .answer .stop ≡ 0 → ⊥) → (o .answer .stop ≡ 14 → ⊥) → how ≡ stop (o .answer .stop)
-  -- the answer's line is that of its record
-  pub line : (o .answer .stop ≡ 0 → ⊥) → (o .answer .stop ≡ 14 → ⊥) → o .answer .line ≡ stopLine.At (record { 0 = lineOf (e .page) (endOf e start last) })
-  pub lies : (o .answer .stop ≡ 0 → ⊥) → (o .answer .stop ≡ 14 → ⊥) → LiesIn (e .page) (endOf e start last) (lineOf (e .page) (endOf e start last))
+  -- the answer's line is that of its record, and not the number of none
+  pub line : (o .answer .stop ≡ 0 → ⊥) → (o .answer .stop ≡ 14 → ⊥) → o .answer .line ≡ lineOf (e .page) (placeEnding e start last)
+  pub named : lineOf (e .page) (placeEnding e start last) < noLine
+  pub lies : (o .answer .stop ≡ 0 → ⊥) → (o .answer .stop ≡ 14 → ⊥) → LiesIn (e .page) (placeEnding e start last) (lineOf (e .page) (placeEnding e start last))
   -- how the call ended
-  pub clear : after .session .paused ≡ Nowhere
-  pub ends : Ends (e .page) (endOf e start last) (crOf e start) how after budget o
+  pub clear : after .session .paused ≡ nowhere
+  pub ends : Ends (e .page) (placeEnding e start last) (crOf e start) how after budget o
   -- what it did is what the call leaves
   pub session : unpaused (o .session) ≡ after .session
   pub page : o .page ≡ o' .page
@@ -84,7 +85,7 @@ pub record RefusedLine (x : Lent) (g : Gathered) (y : Typed) (o : Outcome) : Typ
   pub session : o .session ≡ unpaused (x .session)
   pub page : o .page ≡ x .page
   pub memory : o .memory ≡ x .memory
-  pub items : Items (TypedItem (envOf limit x) y) (x .output) (x .call .outpos) (o .output) (o .answer .outpos)
+  pub items : WholeItems (TypedItem (lentEnv limit x) y) (x .output) (x .call .outpos) (o .output) (o .answer .outpos)
   pub inpos : o .answer .inpos ≡ x .call .inpos + g .taken
   pub steps : o .answer .steps ≡ 0
 
@@ -92,7 +93,7 @@ pub record RefusedLine (x : Lent) (g : Gathered) (y : Typed) (o : Outcome) : Typ
 -- nowhere. From is where the call begins a run, o' what it leaves with one step less
 pub data StandsAt (From : ℕ → World → Type 0) (e : Env) (budget : ℕ) (o' o : Outcome) : ℕ → Type 0 where
   begun : {q : ℕ} {w : World} → From q w → o .answer .steps ≡ 0 → StandsAt From e budget o' o q
-  later : {q : ℕ} (m : OneMore e budget o' o) → GoesTo (endOf e (m .start) (m .last)) (crOf e (m .start)) (m .how) q → StandsAt From e budget o' o q
+  later : {q : ℕ} (m : OneMore e budget o' o) → GoesTo (placeEnding e (m .start) (m .last)) (crOf e (m .start)) (m .how) q → StandsAt From e budget o' o q
 
 -- a statement is left to run: a text follows there
 pub record LeftToRun (From : ℕ → World → Type 0) (e : Env) (budget : ℕ) (o' o : Outcome) : Type 0 where
@@ -103,7 +104,7 @@ pub record LeftToRun (From : ℕ → World → Type 0) (e : Env) (budget : ℕ) 
 
 -- an item that a run may write: one of a member that stands in the page
 pub data ProgramItem (e : Env) : List ℕ → Type 0 where
-  ofMember : {bs : List ℕ} (a : ℕ) (m : Member) (s : List ℕ) → member (lineFrom (e .page) a) ≡ found m s → ItemOf (envAt e (endOf e a m)) (m .statement) bs → ProgramItem e bs
+  ofMember : {bs : List ℕ} (a : ℕ) (m : Member) (s : List ℕ) → member (lineFrom (e .page) a) ≡ found m s → ItemOf (envAt e (placeEnding e a m)) (m .statement) bs → ProgramItem e bs
 
 -- an item that the typed line g may write, of its own or by the run that it begins
 pub data LineItem (e : Env) (g : Gathered) : List ℕ → Type 0 where

@@ -5,16 +5,16 @@ use mathlib.Core.Path.{_≡_, refl}
 use mathlib.Core.List.{List}
 use Rattle.nibl.proofs.Determined.{determined}
 use Rattle.nibl.specs.Meaning.{World, Next, Done, done}
-use Rattle.control.specs.Turns.{wayOf}
-use Rattle.control.proofs.Determined.{way-determined}
+use Rattle.world.specs.Turns.{wayOf}
+use Rattle.world.proofs.jump.Determined.{way-determined}
 use Rattle.effect.specs.declared.Did.{Did}
 use Rattle.effect.specs.Worlds.{didIn}
 
 abbrev nextOf : Done → Next
 nextOf (done n w) = n
 
-abbrev worldOf : Done → World
-worldOf (done n w) = w
+abbrev worldLeft : Done → World
+worldLeft (done n w) = w
 
 pub effect-determined : (x : Done) (d e : Did) (vars vars′ memory memory′ output output′ : List ℕ)
     → didIn d vars memory output ≡ x → didIn e vars′ memory′ output′ ≡ x → (d ≡ e) × (vars ≡ vars′) × (memory ≡ memory′) × (output ≡ output′)
@@ -24,15 +24,15 @@ effect-determined x d e vars vars′ memory memory′ output output′ p q =
       λ i. record {
         way = w i;
         parts = record {
-          flags = worldOf (s i) .session .flags;
-          gosubs = worldOf (s i) .session .gosubs;
-          dos = worldOf (s i) .session .dos;
-          fors = worldOf (s i) .session .fors;
-          inpos = worldOf (s i) .inpos;
-          outpos = worldOf (s i) .outpos;
+          flags = worldLeft (s i) .session .flags;
+          gosubs = worldLeft (s i) .session .gosubs;
+          dos = worldLeft (s i) .session .dos;
+          fors = worldLeft (s i) .session .fors;
+          inpos = worldLeft (s i) .inpos;
+          outpos = worldLeft (s i) .outpos;
         };
       },
-      λ i. worldOf (s i) .session .vars,
-      λ i. worldOf (s i) .memory,
-      λ i. worldOf (s i) .output,
+      λ i. worldLeft (s i) .session .vars,
+      λ i. worldLeft (s i) .memory,
+      λ i. worldLeft (s i) .output,
     )

@@ -3,40 +3,34 @@ use Prim.Native.Nat.{ℕ}
 use mathlib.Core.List.{List, [], _∷_, _++_}
 use mathlib.Core.Path.{_≡_}
 use Rattle.nibl.specs.Meaning.{World, Env, Done, done, given, put, stringAt, storeAt, keepIn}
+use Rattle.nibl.specs.Record.{nowhere, sessionOf}
 use Rattle.nibl.specs.declared.Place.{Place}
 use Rattle.nibl.specs.declared.PlaceStack.{PlaceStack}
 use Rattle.nibl.specs.declared.ForStack.{ForStack}
-use Rattle.nibl.specs.declared.Paused.the-variants.{Nowhere}
-use Rattle.control.specs.Turns.{wayOf}
-use Rattle.control.specs.declared.Way.{Way}
-use Rattle.control.specs.declared.Way.the-variants as way
-use Rattle.memory.specs.declared.Kept.{Kept}
-use Rattle.memory.specs.declared.Kept.the-variants as kept
+use Rattle.nibl.specs.declared.Parts.{Parts}
+use Rattle.world.specs.Turns.{wayOf}
+use Rattle.world.specs.declared.jump.Way.{Way}
+use Rattle.world.specs.declared.jump.Way.the-variants as way
+use Rattle.world.specs.declared.memory.StoreEnd.{StoreEnd}
+use Rattle.world.specs.declared.memory.StoreEnd.the-variants as ended
 use Rattle.value.specs.declared.Wrote.{Wrote}
 use Rattle.value.specs.declared.Wrote.the-variants as wrote
-use Rattle.ask.specs.Hearing.{hearing, heardIn}
-use Rattle.effect.specs.declared.Parts.{Parts}
+use Rattle.world.specs.Hearing.{hearing, heardIn}
 use Rattle.effect.specs.declared.Did.{Did}
 
 -- a run has no pause: a call ends it before
-abbrev pub worldOf : List ℕ → Parts → List ℕ → List ℕ → World
-worldOf vars p memory output =
-    record {
-      session = record { vars = vars; flags = p .flags; gosubs = p .gosubs; dos = p .dos; fors = p .fors; paused = Nowhere };
-      memory = memory;
-      output = output;
-      outpos = p .outpos;
-      inpos = p .inpos;
-    }
+abbrev pub worldWith : List ℕ → Parts → List ℕ → List ℕ → World
+worldWith vars p memory output =
+    record { session = sessionOf p vars nowhere; memory = memory; output = output; outpos = p .outpos; inpos = p .inpos }
 
-abbrev pub envOf : ℕ → List ℕ → List ℕ → ℕ → Place → Env
-envOf lim page input sense here = record { lim = lim; page = page; input = input; sense = sense; here = here .0 }
+abbrev pub envWith : ℕ → List ℕ → List ℕ → ℕ → Place → Env
+envWith lim page input sense here = record { lim = lim; page = page; input = input; sense = sense; here = here .0 }
 
 abbrev pub did : Way → Parts → Did
 did w p = record { way = w; parts = p }
 
 abbrev pub didIn : Did → List ℕ → List ℕ → List ℕ → Done
-didIn d vars memory output = done (wayOf (d .way)) (worldOf vars (d .parts) memory output)
+didIn d vars memory output = done (wayOf (d .way)) (worldWith vars (d .parts) memory output)
 
 -- the parts with one of them changed
 abbrev pub withFlagsIn : Parts → ℕ → Parts
@@ -51,21 +45,21 @@ withDosIn p s = record { flags = p .flags; gosubs = p .gosubs; dos = s; fors = p
 abbrev pub withForsIn : Parts → ForStack → Parts
 withForsIn p s = record { flags = p .flags; gosubs = p .gosubs; dos = p .dos; fors = s; inpos = p .inpos; outpos = p .outpos }
 
-abbrev pub withPositions : Parts → ℕ → ℕ → Parts
-withPositions p i o = record { flags = p .flags; gosubs = p .gosubs; dos = p .dos; fors = p .fors; inpos = i; outpos = o }
+abbrev pub partsAt : Parts → ℕ → ℕ → Parts
+partsAt p i o = record { flags = p .flags; gosubs = p .gosubs; dos = p .dos; fors = p .fors; inpos = i; outpos = o }
 
 -- how a store ended, and an output item: it is out whole, or 17
-abbrev pub storedWay : Kept → Way
-storedWay kept.Done = way.On
-storedWay (kept.No n) = way.Stop n
+abbrev pub storedWay : StoreEnd → Way
+storedWay ended.Done = way.On
+storedWay (ended.No n) = way.Stop n
 
 abbrev pub wroteIn : Parts → Wrote → Did
-wroteIn p (wrote.To o) = did way.On (withPositions p (p .inpos) o)
+wroteIn p (wrote.To o) = did way.On (partsAt p (p .inpos) o)
 wroteIn p wrote.Full = did (way.Stop 17) p
 
 -- what a function did, in any world that has these parts: the variables are as they were
-pub record Does (p : Parts) (memory output : List ℕ) (f : World → Done) (r : Did) (memory′ output′ : List ℕ) : Type 0 where
-  pub done-in : (vars : List ℕ) → didIn r vars memory′ output′ ≡ f (worldOf vars p memory output)
+pub record KeepsVars (p : Parts) (memory output : List ℕ) (f : World → Done) (r : Did) (memory′ output′ : List ℕ) : Type 0 where
+  pub done-in : (vars : List ℕ) → didIn r vars memory′ output′ ≡ f (worldWith vars p memory output)
 
 -- PRINT of a stored string
 abbrev pub putStored : ℕ → World → Done

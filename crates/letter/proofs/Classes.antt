@@ -1,5 +1,5 @@
 -- The class table's rule, and the classes against the byte tests of the definition.
---     table            an entry is the class of its place, at most 8
+--     table            an entry is the class of its place, and there are no others
 --     space, digit ..  a byte has the class exactly when it passes the test
 --     text-plain, digit-plain  a text byte, and a digit, is plain: neither dropped nor CR, erase or discard
 -- Assumes nothing.
@@ -11,7 +11,7 @@ use native.Mathlib.Omega.{arith}
 use lib.Dec.{T, eqb, leb, ltb, eqb→eq, leb→le}
 use lib.ListN.{getD}
 use borrow.Author.Tests.{ltb-true, ltb-false, lt-ltb, eqb-true, ne-eqb, le-leb, lt-leb}
-use Rattle.nibl.specs.Bytes.{classOf, isSpace, isDigit, isCapital, isText}
+use Rattle.nibl.specs.Bytes.{classOf, classDropped, classCR, classErase, classDiscard, classSpace, classDigit, classCapital, classQuote, classOther, isSpace, isDigit, isCapital, isText}
 use Rattle.letter.proofs.Table.{left, right, values, every, at}
 
 -- the table of the code: the two are compared entry by entry where the code's proof cites the rule
@@ -21,7 +21,7 @@ classes = values classOf 0 256
 rule : ℕ → ℕ → Bool
 rule k x = eqb x (classOf k) && leb x 8
 
-pub table : (b : ℕ) → b < 256 → (getD classes b 0 ≡ classOf b) × (getD classes b 0 ≤ 8)
+pub table : (b : ℕ) → b < 256 → (getD classes b 0 ≡ classOf b) × (getD classes b 0 ≤ classOther)
 unfolding rule
 table b h =
     let t = at rule classes tt b h in
@@ -30,7 +30,7 @@ table b h =
     (e, r)
 
 -- a number that is no byte counts as other
-beyond : (b : ℕ) → 256 ≤ b → classOf b ≡ 8
+beyond : (b : ℕ) → 256 ≤ b → classOf b ≡ classOther
 beyond b h =
     let far : (n : ℕ) → n < 256 → eqb b n ≡ false = λ n l. ne-eqb b n (λ e. omega arith) in
     simp
@@ -68,29 +68,29 @@ class-is k p t past b =
 class-one : (k n : ℕ) → T (every (λ b x. alike (eqb x k) (eqb b n)) 0 classes) → n < 256 → eqb 8 k ≡ false → (b : ℕ) → eqb (classOf b) k ≡ eqb b n
 class-one k n t l o = class-is k (λ b. eqb b n) t (λ b h. ne-eqb b n (λ e. omega arith) ∙ sym o)
 
-pub cr : (b : ℕ) → eqb (classOf b) 1 ≡ eqb b 13
-cr = class-one 1 13 tt (omega arith) refl
+pub cr : (b : ℕ) → eqb (classOf b) classCR ≡ eqb b 13
+cr = class-one classCR 13 tt (omega arith) refl
 
-pub erase : (b : ℕ) → eqb (classOf b) 2 ≡ eqb b 95
-erase = class-one 2 95 tt (omega arith) refl
+pub erase : (b : ℕ) → eqb (classOf b) classErase ≡ eqb b 95
+erase = class-one classErase 95 tt (omega arith) refl
 
-pub discard : (b : ℕ) → eqb (classOf b) 3 ≡ eqb b 21
-discard = class-one 3 21 tt (omega arith) refl
+pub discard : (b : ℕ) → eqb (classOf b) classDiscard ≡ eqb b 21
+discard = class-one classDiscard 21 tt (omega arith) refl
 
-pub space : (b : ℕ) → eqb (classOf b) 4 ≡ isSpace b
-space = class-one 4 32 tt (omega arith) refl
+pub space : (b : ℕ) → eqb (classOf b) classSpace ≡ isSpace b
+space = class-one classSpace 32 tt (omega arith) refl
 
-pub quote : (b : ℕ) → eqb (classOf b) 7 ≡ eqb b 34
-quote = class-one 7 34 tt (omega arith) refl
+pub quote : (b : ℕ) → eqb (classOf b) classQuote ≡ eqb b 34
+quote = class-one classQuote 34 tt (omega arith) refl
 
-pub digit : (b : ℕ) → eqb (classOf b) 5 ≡ isDigit b
-digit = class-is 5 isDigit tt (λ b h. rw (le-leb 48 b (omega arith), lt-leb b 57 (omega arith)))
+pub digit : (b : ℕ) → eqb (classOf b) classDigit ≡ isDigit b
+digit = class-is classDigit isDigit tt (λ b h. rw (le-leb 48 b (omega arith), lt-leb b 57 (omega arith)))
 
-pub capital : (b : ℕ) → eqb (classOf b) 6 ≡ isCapital b
-capital = class-is 6 isCapital tt (λ b h. rw (le-leb 65 b (omega arith), lt-leb b 90 (omega arith)))
+pub capital : (b : ℕ) → eqb (classOf b) classCapital ≡ isCapital b
+capital = class-is classCapital isCapital tt (λ b h. rw (le-leb 65 b (omega arith), lt-leb b 90 (omega arith)))
 
-pub dropped : (b : ℕ) → eqb (classOf b) 0 ≡ (eqb b 0 || eqb b 10)
-dropped = class-is 0 (λ b. eqb b 0 || eqb b 10) tt (λ b h. rw (ne-eqb b 0 (λ e. omega arith), ne-eqb b 10 (λ e. omega arith)))
+pub dropped : (b : ℕ) → eqb (classOf b) classDropped ≡ (eqb b 0 || eqb b 10)
+dropped = class-is classDropped (λ b. eqb b 0 || eqb b 10) tt (λ b h. rw (ne-eqb b 0 (λ e. omega arith), ne-eqb b 10 (λ e. omega arith)))
 
 -- a byte that gathering keeps as it is
 abbrev pub isPlain : ℕ → Bool
@@ -108,7 +108,7 @@ text-plain b e = go (isText b) (isPlain b) (by-class (λ b x. not (isText b) || 
   either false = tt
 
 pub digit-plain : (b : ℕ) → isDigit b ≡ true → isPlain b ≡ true
-digit-plain b e = let c : classOf b ≡ 5 = eqb-true (classOf b) 5 (digit b ∙ e) in lt-ltb 3 (classOf b) (omega arith)
+digit-plain b e = let c : classOf b ≡ classDigit = eqb-true (classOf b) classDigit (digit b ∙ e) in lt-ltb 3 (classOf b) (omega arith)
 
 -- no plain byte is 0, 10, 13, 21 or 95: each by `plain-not n refl`
 pub plain-not : (n : ℕ) → isPlain n ≡ false → (b : ℕ) → isPlain b ≡ true → not (eqb b n) ≡ true

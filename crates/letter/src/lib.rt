@@ -1,340 +1,421 @@
 // The class of each byte value, and gathering a typed line.
-ghost use Prim.Native.Nat.{_-_, _≤_};
+ghost use Prim.Native.Nat.{_-_, _≤_, _<_};
 ghost use mathlib.Core.Path.{_≡_};
 ghost use mathlib.Core.List.{_++_};
+ghost use lib.Dec.{eqb};
 ghost use lib.ListN.{length, take, drop, replicate};
-ghost use Rattle.nibl.specs.Bytes.{classOf, isSpace, isDigit, isCapital, isHexDigit, isText, isQuotable};
+ghost use Rattle.nibl.specs.Bytes.{classOf, classQuote, classOther, isSpace, isDigit, isCapital, isHexDigit, isText, isQuotable};
 ghost use Rattle.nibl.specs.Typing.{keep, gather as gathered};
 ghost use Rattle.letter.specs.Slots.{answer, held, keptIn};
 
-// The class of each byte value, a comment before every sixteenth: 0 dropped, 1 CR, 2 erase, 3 discard, 4 space,
-// 5 digit, 6 capital, 7 quote, 8 other.
+pub mod class;
+
+// The class of each byte value, a comment before every sixteenth.
 const CLASS: [u8; 256] = [
     // 0
-    0,
-    8,
-    8,
-    8,
-    8,
-    8,
-    8,
-    8,
-    8,
-    8,
-    0,
-    8,
-    8,
-    1,
-    8,
-    8,
+    class::DROPPED,
+    class::OTHER,
+    class::OTHER,
+    class::OTHER,
+    class::OTHER,
+    class::OTHER,
+    class::OTHER,
+    class::OTHER,
+    class::OTHER,
+    class::OTHER,
+    class::DROPPED,
+    class::OTHER,
+    class::OTHER,
+    class::CR,
+    class::OTHER,
+    class::OTHER,
     // 16
-    8,
-    8,
-    8,
-    8,
-    8,
-    3,
-    8,
-    8,
-    8,
-    8,
-    8,
-    8,
-    8,
-    8,
-    8,
-    8,
+    class::OTHER,
+    class::OTHER,
+    class::OTHER,
+    class::OTHER,
+    class::OTHER,
+    class::DISCARD,
+    class::OTHER,
+    class::OTHER,
+    class::OTHER,
+    class::OTHER,
+    class::OTHER,
+    class::OTHER,
+    class::OTHER,
+    class::OTHER,
+    class::OTHER,
+    class::OTHER,
     // 32
-    4,
-    8,
-    7,
-    8,
-    8,
-    8,
-    8,
-    8,
-    8,
-    8,
-    8,
-    8,
-    8,
-    8,
-    8,
-    8,
+    class::SPACE,
+    class::OTHER,
+    class::QUOTE,
+    class::OTHER,
+    class::OTHER,
+    class::OTHER,
+    class::OTHER,
+    class::OTHER,
+    class::OTHER,
+    class::OTHER,
+    class::OTHER,
+    class::OTHER,
+    class::OTHER,
+    class::OTHER,
+    class::OTHER,
+    class::OTHER,
     // 48
-    5,
-    5,
-    5,
-    5,
-    5,
-    5,
-    5,
-    5,
-    5,
-    5,
-    8,
-    8,
-    8,
-    8,
-    8,
-    8,
+    class::DIGIT,
+    class::DIGIT,
+    class::DIGIT,
+    class::DIGIT,
+    class::DIGIT,
+    class::DIGIT,
+    class::DIGIT,
+    class::DIGIT,
+    class::DIGIT,
+    class::DIGIT,
+    class::OTHER,
+    class::OTHER,
+    class::OTHER,
+    class::OTHER,
+    class::OTHER,
+    class::OTHER,
     // 64
-    8,
-    6,
-    6,
-    6,
-    6,
-    6,
-    6,
-    6,
-    6,
-    6,
-    6,
-    6,
-    6,
-    6,
-    6,
-    6,
+    class::OTHER,
+    class::CAPITAL,
+    class::CAPITAL,
+    class::CAPITAL,
+    class::CAPITAL,
+    class::CAPITAL,
+    class::CAPITAL,
+    class::CAPITAL,
+    class::CAPITAL,
+    class::CAPITAL,
+    class::CAPITAL,
+    class::CAPITAL,
+    class::CAPITAL,
+    class::CAPITAL,
+    class::CAPITAL,
+    class::CAPITAL,
     // 80
-    6,
-    6,
-    6,
-    6,
-    6,
-    6,
-    6,
-    6,
-    6,
-    6,
-    6,
-    8,
-    8,
-    8,
-    8,
-    2,
+    class::CAPITAL,
+    class::CAPITAL,
+    class::CAPITAL,
+    class::CAPITAL,
+    class::CAPITAL,
+    class::CAPITAL,
+    class::CAPITAL,
+    class::CAPITAL,
+    class::CAPITAL,
+    class::CAPITAL,
+    class::CAPITAL,
+    class::OTHER,
+    class::OTHER,
+    class::OTHER,
+    class::OTHER,
+    class::ERASE,
     // 96
-    8,
-    8,
-    8,
-    8,
-    8,
-    8,
-    8,
-    8,
-    8,
-    8,
-    8,
-    8,
-    8,
-    8,
-    8,
-    8,
+    class::OTHER,
+    class::OTHER,
+    class::OTHER,
+    class::OTHER,
+    class::OTHER,
+    class::OTHER,
+    class::OTHER,
+    class::OTHER,
+    class::OTHER,
+    class::OTHER,
+    class::OTHER,
+    class::OTHER,
+    class::OTHER,
+    class::OTHER,
+    class::OTHER,
+    class::OTHER,
     // 112
-    8,
-    8,
-    8,
-    8,
-    8,
-    8,
-    8,
-    8,
-    8,
-    8,
-    8,
-    8,
-    8,
-    8,
-    8,
-    8,
+    class::OTHER,
+    class::OTHER,
+    class::OTHER,
+    class::OTHER,
+    class::OTHER,
+    class::OTHER,
+    class::OTHER,
+    class::OTHER,
+    class::OTHER,
+    class::OTHER,
+    class::OTHER,
+    class::OTHER,
+    class::OTHER,
+    class::OTHER,
+    class::OTHER,
+    class::OTHER,
     // 128
-    8,
-    8,
-    8,
-    8,
-    8,
-    8,
-    8,
-    8,
-    8,
-    8,
-    8,
-    8,
-    8,
-    8,
-    8,
-    8,
+    class::OTHER,
+    class::OTHER,
+    class::OTHER,
+    class::OTHER,
+    class::OTHER,
+    class::OTHER,
+    class::OTHER,
+    class::OTHER,
+    class::OTHER,
+    class::OTHER,
+    class::OTHER,
+    class::OTHER,
+    class::OTHER,
+    class::OTHER,
+    class::OTHER,
+    class::OTHER,
     // 144
-    8,
-    8,
-    8,
-    8,
-    8,
-    8,
-    8,
-    8,
-    8,
-    8,
-    8,
-    8,
-    8,
-    8,
-    8,
-    8,
+    class::OTHER,
+    class::OTHER,
+    class::OTHER,
+    class::OTHER,
+    class::OTHER,
+    class::OTHER,
+    class::OTHER,
+    class::OTHER,
+    class::OTHER,
+    class::OTHER,
+    class::OTHER,
+    class::OTHER,
+    class::OTHER,
+    class::OTHER,
+    class::OTHER,
+    class::OTHER,
     // 160
-    8,
-    8,
-    8,
-    8,
-    8,
-    8,
-    8,
-    8,
-    8,
-    8,
-    8,
-    8,
-    8,
-    8,
-    8,
-    8,
+    class::OTHER,
+    class::OTHER,
+    class::OTHER,
+    class::OTHER,
+    class::OTHER,
+    class::OTHER,
+    class::OTHER,
+    class::OTHER,
+    class::OTHER,
+    class::OTHER,
+    class::OTHER,
+    class::OTHER,
+    class::OTHER,
+    class::OTHER,
+    class::OTHER,
+    class::OTHER,
     // 176
-    8,
-    8,
-    8,
-    8,
-    8,
-    8,
-    8,
-    8,
-    8,
-    8,
-    8,
-    8,
-    8,
-    8,
-    8,
-    8,
+    class::OTHER,
+    class::OTHER,
+    class::OTHER,
+    class::OTHER,
+    class::OTHER,
+    class::OTHER,
+    class::OTHER,
+    class::OTHER,
+    class::OTHER,
+    class::OTHER,
+    class::OTHER,
+    class::OTHER,
+    class::OTHER,
+    class::OTHER,
+    class::OTHER,
+    class::OTHER,
     // 192
-    8,
-    8,
-    8,
-    8,
-    8,
-    8,
-    8,
-    8,
-    8,
-    8,
-    8,
-    8,
-    8,
-    8,
-    8,
-    8,
+    class::OTHER,
+    class::OTHER,
+    class::OTHER,
+    class::OTHER,
+    class::OTHER,
+    class::OTHER,
+    class::OTHER,
+    class::OTHER,
+    class::OTHER,
+    class::OTHER,
+    class::OTHER,
+    class::OTHER,
+    class::OTHER,
+    class::OTHER,
+    class::OTHER,
+    class::OTHER,
     // 208
-    8,
-    8,
-    8,
-    8,
-    8,
-    8,
-    8,
-    8,
-    8,
-    8,
-    8,
-    8,
-    8,
-    8,
-    8,
-    8,
+    class::OTHER,
+    class::OTHER,
+    class::OTHER,
+    class::OTHER,
+    class::OTHER,
+    class::OTHER,
+    class::OTHER,
+    class::OTHER,
+    class::OTHER,
+    class::OTHER,
+    class::OTHER,
+    class::OTHER,
+    class::OTHER,
+    class::OTHER,
+    class::OTHER,
+    class::OTHER,
     // 224
-    8,
-    8,
-    8,
-    8,
-    8,
-    8,
-    8,
-    8,
-    8,
-    8,
-    8,
-    8,
-    8,
-    8,
-    8,
-    8,
+    class::OTHER,
+    class::OTHER,
+    class::OTHER,
+    class::OTHER,
+    class::OTHER,
+    class::OTHER,
+    class::OTHER,
+    class::OTHER,
+    class::OTHER,
+    class::OTHER,
+    class::OTHER,
+    class::OTHER,
+    class::OTHER,
+    class::OTHER,
+    class::OTHER,
+    class::OTHER,
     // 240
-    8,
-    8,
-    8,
-    8,
-    8,
-    8,
-    8,
-    8,
-    8,
-    8,
-    8,
-    8,
-    8,
-    8,
-    8,
-    8,
+    class::OTHER,
+    class::OTHER,
+    class::OTHER,
+    class::OTHER,
+    class::OTHER,
+    class::OTHER,
+    class::OTHER,
+    class::OTHER,
+    class::OTHER,
+    class::OTHER,
+    class::OTHER,
+    class::OTHER,
+    class::OTHER,
+    class::OTHER,
+    class::OTHER,
+    class::OTHER,
 ];
 
+// Where the digits and the capitals begin and end, the last capital that is a hex digit, and the range of the text bytes.
+pub const ZERO: u8 = 48;
+
+const NINE: u8 = 57;
+
+pub const A: u8 = 65;
+
+const F: u8 = 70;
+
+const Z: u8 = 90;
+
+const FIRST_TEXT: u8 = 32;
+
+const LAST_TEXT: u8 = 126;
+
+// The bytes that have a class of their own.
+const NUL: u8 = 0;
+
+const DISCARD: u8 = 21;
+
+const SPACE: u8 = 32;
+
+const QUOTE: u8 = 34;
+
+const ERASE: u8 = 95;
+
+// The class of a byte, read from the table.
 pub fn class_of(b: u8) -> u8
-    ensures { λ r. ⌜ (r ≡ classOf b) × (r ≤ 8) ⌝ }
+    ensures { λ r. ⌜ (r ≡ classOf b) × (r ≤ classOther) ⌝ }
 {
     CLASS[b as usize]
+}
+
+// The class of a byte below the digits, by comparisons.
+fn low_class(b: u8) -> u8
+    requires { ⌜ b < 48 ⌝ }
+    ensures { λ r. ⌜ (r ≡ classOf b) × (r ≤ classOther) ⌝ }
+{
+    if b == SPACE {
+        return class::SPACE;
+    }
+    if b == QUOTE {
+        return class::QUOTE;
+    }
+    if b == nibl::CR {
+        return class::CR;
+    }
+    if b == NUL {
+        return class::DROPPED;
+    }
+    if b == nibl::LF {
+        return class::DROPPED;
+    }
+    if b == DISCARD {
+        return class::DISCARD;
+    }
+    class::OTHER
+}
+
+// The same class by comparisons, for readers: a constant table is laid out anew at each use, and they look at every byte of
+// a page.
+pub fn class_by_range(b: u8) -> u8
+    ensures { λ r. ⌜ (r ≡ classOf b) × (r ≤ classOther) ⌝ }
+{
+    if b < ZERO {
+        return low_class(b);
+    }
+    if b <= NINE {
+        return class::DIGIT;
+    }
+    if b < A {
+        return class::OTHER;
+    }
+    if b <= Z {
+        return class::CAPITAL;
+    }
+    if b == ERASE {
+        return class::ERASE;
+    }
+    class::OTHER
 }
 
 pub fn is_space(b: u8) -> bool
     ensures { λ r. ⌜ r ≡ isSpace b ⌝ }
 {
-    class_of(b) == 4
+    class_by_range(b) == class::SPACE
 }
 
 pub fn is_digit(b: u8) -> bool
     ensures { λ r. ⌜ r ≡ isDigit b ⌝ }
 {
-    class_of(b) == 5
+    class_by_range(b) == class::DIGIT
 }
 
 pub fn is_capital(b: u8) -> bool
     ensures { λ r. ⌜ r ≡ isCapital b ⌝ }
 {
-    class_of(b) == 6
+    class_by_range(b) == class::CAPITAL
+}
+
+pub fn is_quote(b: u8) -> bool
+    ensures { λ r. ⌜ r ≡ eqb (classOf b) classQuote ⌝ }
+{
+    class_by_range(b) == class::QUOTE
 }
 
 pub fn is_hex_digit(b: u8) -> bool
     ensures { λ r. ⌜ r ≡ isHexDigit b ⌝ }
 {
-    if b < 65 {
-        return is_digit(b);
+    if is_digit(b) {
+        return true;
     }
-    b <= 70
+    A <= b && b <= F
 }
 
 // A byte that may stand in a page's text.
 pub fn is_text(b: u8) -> bool
     ensures { λ r. ⌜ r ≡ isText b ⌝ }
 {
-    if 126 < b {
+    if class_by_range(b) == class::ERASE {
         return false;
     }
-    if b < 32 {
-        return false;
-    }
-    b != 95
+    FIRST_TEXT <= b && b <= LAST_TEXT
 }
 
 // A byte that may stand between quotes.
 pub fn is_quotable(b: u8) -> bool
     ensures { λ r. ⌜ r ≡ isQuotable b ⌝ }
 {
-    if class_of(b) == 7 {
+    if is_quote(b) {
         return false;
     }
     is_text(b)
@@ -365,11 +446,11 @@ fn keep_byte(line: &mut [u8], t: Tally, b: u8) -> Tally
 {
     let n = t.count;
     let long = t.long;
-    let class = class_of(b);
-    if class == 0 {
+    let k = class_of(b);
+    if k == class::DROPPED {
         return t;
     }
-    if class == 2 {
+    if k == class::ERASE {
         if n < 1 {
             return t;
         }
@@ -379,7 +460,7 @@ fn keep_byte(line: &mut [u8], t: Tally, b: u8) -> Tally
             long: long,
         };
     }
-    if class == 3 {
+    if k == class::DISCARD {
         return Tally {
             count: 0,
             long: false,
@@ -425,7 +506,7 @@ pub fn gather(input: &[u8], at: usize, line: &mut [u8]) -> Gathering
     while i < input.len() {
         let b = input[i];
         i += 1;
-        if class_of(b) == 1 {
+        if class_of(b) == class::CR {
             let n = t.count;
             clear_from(line, n);
             if t.long {

@@ -1,5 +1,5 @@
 -- Which operations belong to a statement that only a program may have: their codes tell. Assumes nothing.
-use Prim.Native.Nat.{ℕ, zero, suc, _+_, _%_, _≤_, _<_}
+use Prim.Native.Nat.{ℕ, zero, suc, _+_, _≤_, _<_}
 use mathlib.Core.Path.{_≡_, refl, ap, sym, _∙_}
 use mathlib.Core.Bool.{Bool, true, false, _||_}
 use mathlib.Core.List.{List, [], _∷_, _++_}
@@ -9,18 +9,20 @@ use borrow.Author.Tests.{le-leb, lt-leb}
 use lib.ListN.{length, take, drop, getD}
 use lib.Seq.{sets, sets-eq, take-at, take-suc}
 use Rattle.nibl.specs.Tree.{Expr, var, const, stat, top, byteAt, invert, negate, modulo, two, Item, text, stored, value}
-use Rattle.nibl.specs.Tree.{Stmt, letVar, letStat, letByte, letCopy, letText, goto, gosub, until, return, loop, remark, end, print, ifThen, for, next, input, inputText}
+use Rattle.nibl.specs.Tree.{Stmt, letVar, letStat, letByte, letCopy, letText, goto, gosub, until, return, doLoop, remark, end, print, ifThen, for, next, input, inputText}
 use Rattle.nibl.specs.Calls.{needsProgram}
-use Rattle.relation.specs.Code.{op, opNumber, values}
+use Rattle.relation.specs.Code.{values}
+use Rattle.codes.specs.Codes.{codes, op, codeIn, codeConstant, codeDo, codeFor, codeInput, codeInputString, codeInputVariable, codeNext, codeOperator, codePrintByte, codePrintRoom, codeSetVariable, codeStoreString, codeStringByte, codeVariable}
+use Rattle.codes.specs.Operators.{opNumber}
 use Rattle.reader.specs.Code.{texts, itemCode, itemsCode, endCode, compile}
 use Rattle.line.specs.Answers.{needing, someNeed}
 
-code-of : (code arg : ℕ) → code < 64 → op code arg % 64 ≡ code
-code-of code arg h = omega arith
+code-in : (code arg : ℕ) → code < codes → codeIn (op code arg) ≡ code
+code-in code arg h = omega arith
 
--- Codes below 31 and above 37 need none
-low : (code arg : ℕ) → code < 31 → needing (op code arg) ≡ false
-low code arg h = rw (code-of code arg (omega arith), lt-leb 31 code h)
+-- Codes below that of DO need none
+low : (code arg : ℕ) → code < codeDo → needing (op code arg) ≡ false
+low code arg h = rw (code-in code arg (omega arith), lt-leb codeDo code h)
 
 some-more : (t : Bool) (a b : List ℕ) → someNeed (a ++ b) ≡ (someNeed a || someNeed b) → (t || someNeed (a ++ b)) ≡ ((t || someNeed a) || someNeed b)
 some-more true a b e = refl
@@ -34,28 +36,28 @@ some-append (v ∷ a) b = some-more (needing v) a b (some-append a b)
 behind : (a b : List ℕ) → someNeed a ≡ false → someNeed (a ++ b) ≡ someNeed b
 behind a b h = rw (some-append a b, h)
 
-one-low : (code arg : ℕ) (b : List ℕ) → code < 31 → someNeed (op code arg ∷ b) ≡ someNeed b
+one-low : (code arg : ℕ) (b : List ℕ) → code < codeDo → someNeed (op code arg ∷ b) ≡ someNeed b
 one-low code arg b h = rw (low code arg h)
 
-texts-low : (code : ℕ) (bs : List ℕ) → code < 31 → someNeed (texts code bs) ≡ false
+texts-low : (code : ℕ) (bs : List ℕ) → code < codeDo → someNeed (texts code bs) ≡ false
 texts-low code [] h = refl
 texts-low code (b ∷ bs) h = one-low code b (texts code bs) h ∙ texts-low code bs h
 
 values-low : (a : Expr) → someNeed (values a) ≡ false
 unfolding values
-values-low (const n) = one-low 0 n [] (omega arith)
-values-low (var v) = one-low 1 v [] (omega arith)
+values-low (const n) = one-low codeConstant n [] (omega arith)
+values-low (var v) = one-low codeVariable v [] (omega arith)
 values-low stat = refl
 values-low top = refl
 values-low (byteAt a) = behind (values a) _ (values-low a)
 values-low (invert a) = behind (values a) _ (values-low a)
 values-low (negate a) = behind (values a) _ (values-low a)
 values-low (modulo a b) = behind (values a) _ (values-low a) ∙ behind (values b) _ (values-low b)
-values-low (two o a b) = behind (values a) _ (values-low a) ∙ behind (values b) _ (values-low b) ∙ one-low 8 (opNumber o) [] (omega arith)
+values-low (two o a b) = behind (values a) _ (values-low a) ∙ behind (values b) _ (values-low b) ∙ one-low codeOperator (opNumber o) [] (omega arith)
 
 item-low : (i : Item) → someNeed (itemCode i) ≡ false
 unfolding itemCode
-item-low (text bs) = one-low 25 (length bs) (texts 26 bs) (omega arith) ∙ texts-low 26 bs (omega arith)
+item-low (text bs) = one-low codePrintRoom (length bs) (texts codePrintByte bs) (omega arith) ∙ texts-low codePrintByte bs (omega arith)
 item-low (stored a) = behind (values a) _ (values-low a)
 item-low (value a) = behind (values a) _ (values-low a)
 
@@ -69,30 +71,30 @@ end-low true = refl
 end-low false = refl
 
 -- a statement's last code
-high : (code arg : ℕ) (b : List ℕ) → 31 ≤ code → code ≤ 37 → someNeed (op code arg ∷ b) ≡ true
-high code arg b h l = rw (code-of code arg (omega arith), le-leb 31 code h, le-leb code 37 l)
+high : (code arg : ℕ) (b : List ℕ) → codeDo ≤ code → code ≤ codeInputString → someNeed (op code arg ∷ b) ≡ true
+high code arg b h l = rw (code-in code arg (omega arith), le-leb codeDo code h, le-leb code codeInputString l)
 
 pub needs-exact : (q : Stmt) → someNeed (compile q) ≡ needsProgram q
 unfolding compile
-needs-exact (letVar v a) = behind (values a) _ (values-low a) ∙ one-low 16 v [] (omega arith)
+needs-exact (letVar v a) = behind (values a) _ (values-low a) ∙ one-low codeSetVariable v [] (omega arith)
 needs-exact (letStat a) = behind (values a) _ (values-low a)
 needs-exact (letByte a b) = behind (values a) _ (values-low a) ∙ behind (values b) _ (values-low b)
 needs-exact (letCopy a b) = behind (values a) _ (values-low a) ∙ behind (values b) _ (values-low b)
 needs-exact (letText a bs) =
-    behind (values a) _ (values-low a) ∙ one-low 19 (length bs + 1) (texts 20 bs ++ (op 20 13 ∷ [])) (omega arith) ∙ behind (texts 20 bs) (op 20 13 ∷ []) (texts-low 20 bs (omega arith))
+    behind (values a) _ (values-low a) ∙ one-low codeStoreString (length bs + 1) (texts codeStringByte bs ++ (op codeStringByte 13 ∷ [])) (omega arith) ∙ behind (texts codeStringByte bs) (op codeStringByte 13 ∷ []) (texts-low codeStringByte bs (omega arith))
 needs-exact (goto a) = behind (values a) _ (values-low a)
 needs-exact (gosub a) = behind (values a) _ (values-low a)
 needs-exact (until a) = behind (values a) _ (values-low a)
 needs-exact return = refl
-needs-exact loop = refl
+needs-exact doLoop = refl
 needs-exact remark = refl
 needs-exact end = refl
 needs-exact (print is b) = behind (itemsCode is) (endCode b) (items-low is) ∙ end-low b
 needs-exact (ifThen a q) = behind (values a) _ (values-low a) ∙ needs-exact q
 needs-exact (for v a b c) =
-    behind (values a) _ (values-low a) ∙ behind (values b) _ (values-low b) ∙ behind (values c) _ (values-low c) ∙ high 33 v [] (omega arith) (omega arith)
-needs-exact (next v) = high 34 v [] (omega arith) (omega arith)
-needs-exact (input vs) = high 35 (length vs) (texts 36 vs) (omega arith) (omega arith)
+    behind (values a) _ (values-low a) ∙ behind (values b) _ (values-low b) ∙ behind (values c) _ (values-low c) ∙ high codeFor v [] (omega arith) (omega arith)
+needs-exact (next v) = high codeNext v [] (omega arith) (omega arith)
+needs-exact (input vs) = high codeInput (length vs) (texts codeInputVariable vs) (omega arith) (omega arith)
 needs-exact (inputText a) = behind (values a) _ (values-low a)
 
 -- as they stand in the list

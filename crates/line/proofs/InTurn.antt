@@ -107,8 +107,8 @@ module _ (text ops : List ℕ) (at k : ℕ) (r : RelationRead) (h : hasRoom text
   pub one-read : OneOf (1 ∷ 2 ∷ []) (tagOf the-type r) → ⊥
   one-read t = miss (1 ∷ 2 ∷ []) 0 tt (subst (λ (q : RelationRead). OneOf (1 ∷ 2 ∷ []) (tagOf the-type q)) answered t)
 
-  place : first .rest ≡ drop (length text - length (first .rest)) text
-  place =
+  rest-at : first .rest ≡ drop (length text - length (first .rest)) text
+  rest-at =
       let s = drop at text in
       let t = first .rest in
       let o = first .over in
@@ -129,5 +129,5 @@ module _ (text ops : List ℕ) (at k : ℕ) (r : RelationRead) (h : hasRoom text
         tree = f .tree;
         few = omega arith;
         wrote = ap (take n) (w ∙ rw h (ap (relationOps ops) (f .reads))) ∙ written-front ops (values (f .tree)) n m (omega arith);
-        goes = f .goes ∙ ap (λ (t : List ℕ). consSome (f .tree) (leftOf k t)) (place ∙ ap (λ (j : ℕ). drop j text) p);
+        goes = f .goes ∙ ap (λ (t : List ℕ). consSome (f .tree) (leftOf k t)) (rest-at ∙ ap (λ (j : ℕ). drop j text) p);
       }

@@ -1,7 +1,7 @@
 -- Typed lines: one law for each answer. Assumes nothing.
 use Prim.Native.Nat.{ℕ, zero, suc, _-_, _≤_}
 use mathlib.Core.Path.{_≡_, refl, sym, ap, subst, _∙_}
-use mathlib.Core.Bool.{Bool, true, false, _&&_, false≢true}
+use mathlib.Core.Bool.{Bool, true, false, false≢true}
 use mathlib.Core.List.{List, [], _∷_}
 use mathlib.Core.Option.{Option, none, some}
 use native.Mathlib.Omega.{arith}
@@ -12,20 +12,20 @@ use lib.ListN.{length, take, drop}
 use lib.Seq.{sets}
 use lib.Dec.{leb, eqb}
 use Rattle.nibl.specs.Bytes.{if_then_else_, isSpace, all}
-use Rattle.nibl.specs.Words.{keywords, commands}
+use Rattle.nibl.specs.Words.{keywords, commands, command}
 use Rattle.nibl.specs.Tree.{Stmt, Member, Typed, new, clear, run, delete, list, immediate}
-use Rattle.nibl.specs.Read.{Step, ended, Found, nothing, found, Reader, andThen, ifKey, orElse, onStep, stepIn, choose, decimalOf, signOf, aSign, aDecimal, _>>=_, statement, ended?, member, unread, reading, alone, storing, numbered, immediately, commandCases, unnumbered, typed}
+use Rattle.nibl.specs.Read.{Step, atEnd, Found, nothing, found, Reader, andThen, ifKey, orElse, onStep, stepIn, choose, decimalOf, signOf, aSign, aDecimal, _>>=_, statement, endsMember, member, unread, reading, alone, storing, numbered, aloneStatement, commandCases, unnumbered, typed}
 use Rattle.nibl.specs.Calls.{needsProgram}
 use Rattle.nibl.proofs.Words.{if-split, and-left, and-right, all-true, true-all, ended-sound, ended-complete}
 use Rattle.nibl.proofs.Lines.{typed-other}
 use Rattle.word.specs.declared.Cursor.{Cursor}
 use Rattle.word.specs.declared.Word.{Word}
 use Rattle.word.specs.declared.Word.the-variants.{Variable, Decimal, Hex, Text, Sign, End, Wrong}
-use Rattle.word.specs.Found.{stepOf, Stands}
+use Rattle.word.specs.Found.{stepOf, WordIs}
 use Rattle.word.proofs.Word.{the-type}
 use Rattle.reader.specs.Code.{compile}
 use Rattle.reader.specs.Answers.{hasRoom, zeros, memberOps}
-use Rattle.line.specs.Answers.{listOf, someNeed, kindOf, lineOps}
+use Rattle.line.specs.Answers.{listOf, isCommand, someNeed, kindOf, lineOps}
 use Rattle.line.specs.declared.LineRead.{LineRead}
 use Rattle.line.specs.declared.LineRead.the-variants as line
 use Rattle.line.specs.declared.ListRead.{ListRead}
@@ -36,7 +36,7 @@ use Rattle.line.proofs.Codes.{needs-exact, written-front}
 use Rattle.line.proofs.Lists.{First}
 
 -- Nothing but spaces
-unended : (text : List ℕ) (w : Word) → (w ≡ End → ⊥) → stepOf text w ≡ ended → ⊥
+unended : (text : List ℕ) (w : Word) → (w ≡ End → ⊥) → stepOf text w ≡ atEnd → ⊥
 unended text (Variable v c) n e = let z : _≡_ {A = ℕ} 0 1 = cc in omega arith
 unended text (Decimal v c) n e = let z : _≡_ {A = ℕ} 0 1 = cc in omega arith
 unended text (Hex v c) n e = let z : _≡_ {A = ℕ} 0 1 = cc in omega arith
@@ -46,10 +46,10 @@ unended text End n e = n refl
 unended text Wrong n e = let z : _≡_ {A = ℕ} 0 1 = cc in omega arith
 
 module _ {text : List ℕ} {at : ℕ} where
-  pub blank-end : {w : Word} → w ≡ End → Stands (stepIn keywords) text at w → all isSpace (drop at text) ≡ true
+  pub blank-end : {w : Word} → w ≡ End → WordIs (stepIn keywords) text at w → all isSpace (drop at text) ≡ true
   blank-end e h = all-true (ended-sound keywords (drop at text) (sym (h .same) ∙ ap (stepOf text) e))
 
-  pub unblank : (w : Word) → (w ≡ End → ⊥) → Stands (stepIn keywords) text at w → all isSpace (drop at text) ≡ false
+  pub unblank : (w : Word) → (w ≡ End → ⊥) → WordIs (stepIn keywords) text at w → all isSpace (drop at text) ≡ false
   unblank w n h = go (all isSpace (drop at text)) refl
     where
       go : (b : Bool) → all isSpace (drop at text) ≡ b → b ≡ false
@@ -82,14 +82,14 @@ undecimal text End n = refl
 undecimal text Wrong n = refl
 
 module _ {text : List ℕ} {at : ℕ} where
-  decimal-step : {w : Word} → Stands (stepIn keywords) text at w → aDecimal (drop at text) ≡ onStep (stepOf text w) decimalOf
+  decimal-step : {w : Word} → WordIs (stepIn keywords) text at w → aDecimal (drop at text) ≡ onStep (stepOf text w) decimalOf
   unfolding aDecimal
   decimal-step h = ap (λ (s : Step). onStep s decimalOf) (sym (h .same))
 
-  pub decimal-found : {w : Word} {n : ℕ} {c : Cursor} → w ≡ Decimal n c → Stands (stepIn keywords) text at w → aDecimal (drop at text) ≡ found n (drop (c .at) text)
+  pub decimal-found : {w : Word} {n : ℕ} {c : Cursor} → w ≡ Decimal n c → WordIs (stepIn keywords) text at w → aDecimal (drop at text) ≡ found n (drop (c .at) text)
   decimal-found e h = decimal-step h ∙ ap (λ (q : Word). onStep (stepOf text q) decimalOf) e
 
-  pub no-decimal : (ks : List ℕ) (w : Word) → (OneOf ks 1 → ⊥) → OneOf ks (tagOf the-type w) → Stands (stepIn keywords) text at w → aDecimal (drop at text) ≡ nothing
+  pub no-decimal : (ks : List ℕ) (w : Word) → (OneOf ks 1 → ⊥) → OneOf ks (tagOf the-type w) → WordIs (stepIn keywords) text at w → aDecimal (drop at text) ≡ nothing
   no-decimal ks w n k h = decimal-step h ∙ undecimal text w (λ v c e. n (subst (λ (q : Word). OneOf ks (tagOf the-type q)) e k))
 
 -- What follows LIST
@@ -117,7 +117,7 @@ sole-by-sign q (found k u) t = go (eqb k 58)
     go true = refl
     go false = refl
 
-sole-by-spaces : (q : Stmt) (t : List ℕ) → alone (immediate q) t ≡ only (ended? q t)
+sole-by-spaces : (q : Stmt) (t : List ℕ) → alone (immediate q) t ≡ only (endsMember q t)
 unfolding ifKey
 sole-by-spaces q t = go (all isSpace t)
   where
@@ -126,30 +126,30 @@ sole-by-spaces q t = go (all isSpace t)
     go true = refl
     go false = sole-by-sign q (aSign t) t
 
-sole-by : (f : Found Stmt) (s : List ℕ) → orElse f (λ q. alone (immediate q)) unread s ≡ only (andThen f ended?)
+sole-by : (f : Found Stmt) (s : List ℕ) → orElse f (λ q. alone (immediate q)) unread s ≡ only (andThen f endsMember)
 sole-by nothing s = refl
 sole-by (found q t) s = sole-by-spaces q t
 
-pub immediately-eq : (s : List ℕ) → immediately s ≡ only (member s)
+pub immediately-eq : (s : List ℕ) → aloneStatement s ≡ only (member s)
 unfolding member _>>=_
 immediately-eq s = sole-by (statement s) s
 
 module _ (s : List ℕ) where
-  pub immediate-none : member s ≡ nothing → immediately s ≡ none
+  pub immediate-none : member s ≡ nothing → aloneStatement s ≡ none
   immediate-none e = immediately-eq s ∙ ap only e
 
   module _ {n left : ℕ} (f : First s n left) where
-    sole : {l : ℕ} → f .one .left ≡ l → immediately s ≡ elim l [ zero ↦ some (immediate (f .one .statement)) | suc k ↦ none ]
+    sole : {l : ℕ} → f .one .left ≡ l → aloneStatement s ≡ elim l [ zero ↦ some (immediate (f .one .statement)) | suc k ↦ none ]
     sole e = immediately-eq s ∙ ap only (f .reads) ∙ ap (λ (l : ℕ). elim l [ zero ↦ some (immediate (f .one .statement)) | suc k ↦ none ]) e
 
-    pub immediate-one : left ≡ 0 → immediately s ≡ some (immediate (f .one .statement))
+    pub immediate-one : left ≡ 0 → aloneStatement s ≡ some (immediate (f .one .statement))
     immediate-one z = sole (f .ends ∙ z)
 
-    more-left : (l : ℕ) → f .one .left ≡ l → (l ≡ 0 → ⊥) → immediately s ≡ none
+    more-left : (l : ℕ) → f .one .left ≡ l → (l ≡ 0 → ⊥) → aloneStatement s ≡ none
     more-left zero e z = absurd (z refl)
     more-left (suc k) e z = sole e
 
-    pub immediate-more : (left ≡ 0 → ⊥) → immediately s ≡ none
+    pub immediate-more : (left ≡ 0 → ⊥) → aloneStatement s ≡ none
     immediate-more z = more-left left (f .ends) z
 
     -- its operations fit, and tell whether only a program may have it
@@ -175,14 +175,14 @@ module _ (s ops : List ℕ) {w : List ℕ} (h : hasRoom s ops ≡ true) (e : w �
 pub case-at : (n : ℕ) (s : List ℕ) {k j : ℕ} {r : LineRead} → k ≡ j → r ≡ kindOf n (choose commandCases unread j s) → r ≡ kindOf n (choose commandCases unread k s)
 case-at n s e h = rw e h
 
-pub case-none : (n : ℕ) (s : List ℕ) (k : ℕ) → (k ≡ 128 → ⊥) → (k ≡ 129 → ⊥) → (k ≡ 130 → ⊥) → (k ≡ 131 → ⊥) → line.NoReading ≡ kindOf n (choose commandCases unread k s)
-case-none n s k a b c d = rw (ne-eqb k 128 a, ne-eqb k 129 b, ne-eqb k 130 c, ne-eqb k 131 d)
+pub case-none : (n : ℕ) (s : List ℕ) (k : ℕ) → (k ≡ (command "NEW") → ⊥) → (k ≡ (command "CLEAR") → ⊥) → (k ≡ (command "LIST") → ⊥) → (k ≡ (command "RUN") → ⊥) → line.NoReading ≡ kindOf n (choose commandCases unread k s)
+case-none n s k a b c d = rw (ne-eqb k (command "NEW") a, ne-eqb k (command "CLEAR") b, ne-eqb k (command "LIST") c, ne-eqb k (command "RUN") d)
 
-beside : (k : ℕ) → 128 ≤ k → k ≤ 131 → (k ≡ 128 → ⊥) → (k ≡ 129 → ⊥) → (k ≡ 130 → ⊥) → (k ≡ 131 → ⊥) → ⊥
+beside : (k : ℕ) → (command "NEW") ≤ k → k ≤ (command "RUN") → (k ≡ (command "NEW") → ⊥) → (k ≡ (command "CLEAR") → ⊥) → (k ≡ (command "LIST") → ⊥) → (k ≡ (command "RUN") → ⊥) → ⊥
 beside k l m a b c d = omega arith
 
-beyond : (k : ℕ) → 128 ≤ k → k ≤ 131 → (leb 128 k && leb k 131) ≡ false → ⊥
-beyond k l m b = false≢true (sym b ∙ rw (le-leb 128 k l, le-leb k 131 m) refl)
+beyond : (k : ℕ) → (command "NEW") ≤ k → k ≤ (command "RUN") → isCommand k ≡ false → ⊥
+beyond k l m b = false≢true (sym b ∙ rw (le-leb (command "NEW") k l, le-leb k (command "RUN") m) refl)
 
 abbrev choose4 : Bool → Bool → Bool → Bool → (List ℕ → Option Typed) → List ℕ → Option Typed
 choose4 p q r t g =
@@ -191,21 +191,21 @@ choose4 p q r t g =
 
 -- by its number, whatever stands for the others
 module _ (d : List ℕ → Option Typed) where
-  named : (d' : List ℕ → Option Typed) (k : ℕ) (s : List ℕ) → 128 ≤ k → k ≤ 131 → choose commandCases d k s ≡ choose commandCases d' k s
-  named d' k s l m = go (eqb k 128) (eqb k 129) (eqb k 130) (eqb k 131) (eqb-false k 128) (eqb-false k 129) (eqb-false k 130) (eqb-false k 131)
+  named : (d' : List ℕ → Option Typed) (k : ℕ) (s : List ℕ) → (command "NEW") ≤ k → k ≤ (command "RUN") → choose commandCases d k s ≡ choose commandCases d' k s
+  named d' k s l m = go (eqb k (command "NEW")) (eqb k (command "CLEAR")) (eqb k (command "LIST")) (eqb k (command "RUN")) (eqb-false k (command "NEW")) (eqb-false k (command "CLEAR")) (eqb-false k (command "LIST")) (eqb-false k (command "RUN"))
     where
       at : (List ℕ → Option Typed) → Bool → Bool → Bool → Bool → Option Typed
       at g p q r t = choose4 p q r t g s
 
-      go : (p q r t : Bool) → (p ≡ false → k ≡ 128 → ⊥) → (q ≡ false → k ≡ 129 → ⊥) → (r ≡ false → k ≡ 130 → ⊥) → (t ≡ false → k ≡ 131 → ⊥) → at d p q r t ≡ at d' p q r t
+      go : (p q r t : Bool) → (p ≡ false → k ≡ (command "NEW") → ⊥) → (q ≡ false → k ≡ (command "CLEAR") → ⊥) → (r ≡ false → k ≡ (command "LIST") → ⊥) → (t ≡ false → k ≡ (command "RUN") → ⊥) → at d p q r t ≡ at d' p q r t
       go true q r t a b e f = refl
       go false true r t a b e f = refl
       go false false true t a b e f = refl
       go false false false true a b e f = refl
       go false false false false a b e f = absurd (beside k l m (a refl) (b refl) (e refl) (f refl))
 
-  unnamed : (k : ℕ) (s : List ℕ) → (128 ≤ k → k ≤ 131 → ⊥) → choose commandCases d k s ≡ d s
-  unnamed k s n = rw (ne-eqb k 128 (λ e. n (omega arith) (omega arith)), ne-eqb k 129 (λ e. n (omega arith) (omega arith)), ne-eqb k 130 (λ e. n (omega arith) (omega arith)), ne-eqb k 131 (λ e. n (omega arith) (omega arith)))
+  unnamed : (k : ℕ) (s : List ℕ) → ((command "NEW") ≤ k → k ≤ (command "RUN") → ⊥) → choose commandCases d k s ≡ d s
+  unnamed k s n = rw (ne-eqb k (command "NEW") (λ e. n (omega arith) (omega arith)), ne-eqb k (command "CLEAR") (λ e. n (omega arith) (omega arith)), ne-eqb k (command "LIST") (λ e. n (omega arith) (omega arith)), ne-eqb k (command "RUN") (λ e. n (omega arith) (omega arith)))
 
 -- the list is cleared for it
 module _ (ops : List ℕ) where
@@ -219,9 +219,9 @@ module _ (ops : List ℕ) where
   pub command-silent : (k : ℕ) (s : List ℕ) → lineOps ops (choose commandCases unread k s) ≡ zeros ops
   command-silent k s =
       let P : (List ℕ → Option Typed) → Type 0 = λ g. lineOps ops (g s) ≡ zeros ops in
-      if-split P (eqb k 128) (λ _. alone-silent new s refl)
-      (λ _. if-split P (eqb k 129) (λ _. alone-silent clear s refl)
-      (λ _. if-split P (eqb k 130) (λ _. list-silent (aDecimal s) s) (λ _. if-split P (eqb k 131) (λ _. alone-silent run s refl) (λ _. refl))))
+      if-split P (eqb k (command "NEW")) (λ _. alone-silent new s refl)
+      (λ _. if-split P (eqb k (command "CLEAR")) (λ _. alone-silent clear s refl)
+      (λ _. if-split P (eqb k (command "LIST")) (λ _. list-silent (aDecimal s) s) (λ _. if-split P (eqb k (command "RUN")) (λ _. alone-silent run s refl) (λ _. refl))))
 
   store-silent : (n : ℕ) (s : List ℕ) (o : Option (List Member)) → lineOps ops (storing n s o) ≡ zeros ops
   store-silent n s none = refl
@@ -244,25 +244,25 @@ no-sign text (Sign k c) n = absurd (n k c refl)
 no-sign text End n = refl
 no-sign text Wrong n = refl
 
-module _ (text : List ℕ) (w : Word) (h : Stands (stepIn commands) text 0 w) where
-  command-step : {f : Found ℕ} → onStep (stepOf text w) signOf ≡ f → unnumbered text ≡ orElse f (choose commandCases (λ t. immediately text)) immediately text
-  command-step e = ap (λ (f : Found ℕ). orElse f (choose commandCases (λ t. immediately text)) immediately text) (ap (λ (s : Step). onStep s signOf) (sym (h .same)) ∙ e)
+module _ (text : List ℕ) (w : Word) (h : WordIs (stepIn commands) text 0 w) where
+  command-step : {f : Found ℕ} → onStep (stepOf text w) signOf ≡ f → unnumbered text ≡ orElse f (choose commandCases (λ t. aloneStatement text)) aloneStatement text
+  command-step e = ap (λ (f : Found ℕ). orElse f (choose commandCases (λ t. aloneStatement text)) aloneStatement text) (ap (λ (s : Step). onStep s signOf) (sym (h .same)) ∙ e)
 
-  pub unnumbered-other : (ks : List ℕ) → (OneOf ks 4 → ⊥) → OneOf ks (tagOf the-type w) → unnumbered text ≡ immediately text
+  pub unnumbered-other : (ks : List ℕ) → (OneOf ks 4 → ⊥) → OneOf ks (tagOf the-type w) → unnumbered text ≡ aloneStatement text
   unnumbered-other ks n k = command-step (no-sign text w (λ j c e. n (subst (λ (q : Word). OneOf ks (tagOf the-type q)) e k)))
 
   module _ {k : ℕ} {c : Cursor} (e : w ≡ Sign k c) where
-    chosen-of : unnumbered text ≡ choose commandCases (λ t. immediately text) k (drop (c .at) text)
+    chosen-of : unnumbered text ≡ choose commandCases (λ t. aloneStatement text) k (drop (c .at) text)
     chosen-of = command-step (ap (λ (q : Word). onStep (stepOf text q) signOf) e)
 
-    pub unnumbered-command : (leb 128 k && leb k 131) ≡ true → unnumbered text ≡ choose commandCases unread k (drop (c .at) text)
+    pub unnumbered-command : isCommand k ≡ true → unnumbered text ≡ choose commandCases unread k (drop (c .at) text)
     unnumbered-command b =
-        let l = leb-true 128 k (and-left (leb 128 k) (leb k 131) b) in
-        let m = leb-true k 131 (and-right (leb 128 k) (leb k 131) b) in
-        chosen-of ∙ named (λ t. immediately text) unread k (drop (c .at) text) l m
+        let l = leb-true (command "NEW") k (and-left (leb (command "NEW") k) (leb k (command "RUN")) b) in
+        let m = leb-true k (command "RUN") (and-right (leb (command "NEW") k) (leb k (command "RUN")) b) in
+        chosen-of ∙ named (λ t. aloneStatement text) unread k (drop (c .at) text) l m
 
-    pub unnumbered-sign : (leb 128 k && leb k 131) ≡ false → unnumbered text ≡ immediately text
-    unnumbered-sign b = chosen-of ∙ unnamed (λ t. immediately text) k (drop (c .at) text) (λ l m. beyond k l m b)
+    pub unnumbered-sign : isCommand k ≡ false → unnumbered text ≡ aloneStatement text
+    unnumbered-sign b = chosen-of ∙ unnamed (λ t. aloneStatement text) k (drop (c .at) text) (λ l m. beyond k l m b)
 
 -- With a number
 pub numbered-blank : (m n : ℕ) (s : List ℕ) → all isSpace s ≡ true → line.Delete (record { 0 = n }) ≡ kindOf m (numbered n s)

@@ -10,6 +10,7 @@ use lib.ListN.{length, drop, length-drop, drop-of-length-le}
 use lib.Dec.{leb}
 use Rattle.nibl.specs.Bytes.{if_then_else_, isSpace, all}
 use Rattle.nibl.specs.Tree.{Expr}
+use Rattle.nibl.specs.Words.{number}
 use Rattle.nibl.specs.Read.{Found, nothing, found, Reader, give, fail, key, may, ifKey, orElse, isFound, _>>=_, read, relation, unread, consSome, lastReply, replied}
 use Rattle.nibl.proofs.Sound.{relation-over}
 use Rattle.nibl.proofs.Lines.{replied-one, replied-more, relation-sound}
@@ -27,17 +28,17 @@ use Rattle.line.specs.declared.ListRead.the-variants as lists
 use Rattle.line.specs.declared.RelationRead.the-variants as one
 
 -- The comma behind a relation
-pub key-told : {text : List ℕ} {r r' s s' : Made} → r ≡ r' → s ≡ s' → KeyIs 44 text r s → KeyIs 44 text r' s'
-key-told {text} {r} {s' = s'} e d k = subst (λ (q : Made). KeyIs 44 text q s') e (subst (λ (q : Made). KeyIs 44 text r q) d k)
+pub key-told : {text : List ℕ} {r r' s s' : Made} → r ≡ r' → s ≡ s' → KeyIs (number ",") text r s → KeyIs (number ",") text r' s'
+key-told {text} {r} {s' = s'} e d k = subst (λ (q : Made). KeyIs (number ",") text q s') e (subst (λ (q : Made). KeyIs (number ",") text r q) d k)
 
 module _ {text : List ℕ} {c : Cursor} {o : ℕ} where
-  pub comma-there : {d : Cursor} {n : ℕ} → KeyIs 44 text (Next c o) (Next d n) → (a : Expr) (q : Reader Expr) → ifKey "," (give a) q (drop (c .at) text) ≡ found a (drop (d .at) text)
+  pub comma-there : {d : Cursor} {n : ℕ} → KeyIs (number ",") text (Next c o) (Next d n) → (a : Expr) (q : Reader Expr) → ifKey "," (give a) q (drop (c .at) text) ≡ found a (drop (d .at) text)
   comma-there (there (stood e l h)) a q = if-there "," (give a) q _ e
 
-  pub comma-within : {d : Cursor} {n : ℕ} → KeyIs 44 text (Next c o) (Next d n) → d .at ≤ length text
+  pub comma-within : {d : Cursor} {n : ℕ} → KeyIs (number ",") text (Next c o) (Next d n) → d .at ≤ length text
   comma-within (there (stood e l h)) = h
 
-  pub comma-none : KeyIs 44 text (Next c o) NoReading → (a : Expr) (q : Reader Expr) → ifKey "," (give a) q (drop (c .at) text) ≡ q (drop (c .at) text)
+  pub comma-none : KeyIs (number ",") text (Next c o) NoReading → (a : Expr) (q : Reader Expr) → ifKey "," (give a) q (drop (c .at) text) ≡ q (drop (c .at) text)
   comma-none (refused h) a q = if-other "," (give a) q _ h
 
 -- The last relation
@@ -95,11 +96,11 @@ pub record Paired (text : List ℕ) (at p : ℕ) : Type 0 where
   pub reads : commaed (drop at text) ≡ found tree (drop p text)
 
 module _ {text ops ops' : List ℕ} {c : Cursor} where
-  pub pair-none : (r : Made) → Makes (read relation) values text ops (Next c 0) ops' r → KeyIs 44 text r NoReading → commaed (drop (c .at) text) ≡ nothing
+  pub pair-none : (r : Made) → Makes (read relation) values text ops (Next c 0) ops' r → KeyIs (number ",") text r NoReading → commaed (drop (c .at) text) ≡ nothing
   pair-none NoReading y k = then-nothing (read relation) (λ a. key "," (give a)) _ (unmade y)
   pair-none (Next d n) y k = let g = got y in then-found (read relation) (λ a. key "," (give a)) _ (g .reads) ∙ comma-none k (g .tree) fail
 
-  pub pair-found : (r : Made) {d : Cursor} {n : ℕ} → Makes (read relation) values text ops (Next c 0) ops' r → KeyIs 44 text r (Next d n) → Paired text (c .at) (d .at)
+  pub pair-found : (r : Made) {d : Cursor} {n : ℕ} → Makes (read relation) values text ops (Next c 0) ops' r → KeyIs (number ",") text r (Next d n) → Paired text (c .at) (d .at)
   pair-found NoReading y (there k) = absurd (omega (arith, stood-over k .low))
   pair-found (Next e n) y k =
       let g = got y in record { tree = g .tree; reads = then-found (read relation) (λ a. key "," (give a)) _ (g .reads) ∙ comma-there k (g .tree) fail }
@@ -120,7 +121,7 @@ back : (text : List ℕ) (p : ℕ) → p ≤ length text → p ≡ length text -
 back text p h = omega (arith, length-drop p text)
 
 module _ {text ops ops' : List ℕ} {c d : Cursor} {n : ℕ} (y : Makes (read relation) values text ops (Next c 0) ops' (Next d n)) where
-  -- as it was read, up to a place of the text
+  -- as it was read, up to a position of the text
   replied-at : {p : Cursor} → ((a : Expr) → may "," (give a) (drop (d .at) text) ≡ found a (drop (p .at) text)) → p .at ≤ length text
       → (one.Relation n p ≡ relationOf (length text) (replying (drop (c .at) text))) × (ops' ≡ relationOps ops (replying (drop (c .at) text)))
   replied-at {p} k h =
@@ -131,11 +132,11 @@ module _ {text ops ops' : List ℕ} {c d : Cursor} {n : ℕ} (y : Makes (read re
         g .wrote .buf ∙ sym (ap (relationOps ops) e),
       )
 
-  pub relation-comma : {p : Cursor} {m : ℕ} → KeyIs 44 text (Next d n) (Next p m)
+  pub relation-comma : {p : Cursor} {m : ℕ} → KeyIs (number ",") text (Next d n) (Next p m)
       → (one.Relation n p ≡ relationOf (length text) (replying (drop (c .at) text))) × (ops' ≡ relationOps ops (replying (drop (c .at) text)))
   relation-comma k = replied-at (λ a. comma-there k a (give a)) (comma-within k)
 
-  pub relation-bare : KeyIs 44 text (Next d n) NoReading
+  pub relation-bare : KeyIs (number ",") text (Next d n) NoReading
       → (one.Relation n d ≡ relationOf (length text) (replying (drop (c .at) text))) × (ops' ≡ relationOps ops (replying (drop (c .at) text)))
   relation-bare k = let g = got y in replied-at (λ a. comma-none k a (give a)) (g .high (inside text (c .at) (g .reads)))
 

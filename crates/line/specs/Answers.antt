@@ -1,5 +1,5 @@
 -- What the readers of lists, lines and replies answer, and what they leave in the lent list of operations.
-use Prim.Native.Nat.{ℕ, _-_, _%_}
+use Prim.Native.Nat.{ℕ, _-_}
 use mathlib.Core.Bool.{Bool, false, _&&_, _||_}
 use mathlib.Core.List.{List, [], _∷_}
 use mathlib.Core.Option.{Option, none, some}
@@ -8,6 +8,8 @@ use lib.Seq.{sets}
 use lib.Dec.{leb}
 use Rattle.nibl.specs.Tree.{Expr, Member, Typed, blank, new, clear, run, delete, list, store, immediate}
 use Rattle.nibl.specs.Read.{Found, nothing, found, Reader, give, may, _>>=_, read, relation}
+use Rattle.nibl.specs.Words.{command}
+use Rattle.codes.specs.Codes.{codeIn, codeDo, codeInputString}
 use Rattle.nibl.specs.Page.{endsFrom, isAmong}
 use Rattle.nibl.specs.Calls.{needsProgram}
 use Rattle.relation.specs.Code.{values}
@@ -32,9 +34,13 @@ abbrev pub membersOf : Bool → ℕ → ℕ → Option (List Member) → Ends
 membersOf met n p none = ends.NoReading
 membersOf met n p (some ms) = ends.Met (met || isAmong (endsFrom 0 n ms) p)
 
--- DO, UNTIL, FOR, NEXT and INPUT have the codes 31 to 37
+-- NEW, CLEAR, LIST and RUN
+abbrev pub isCommand : ℕ → Bool
+isCommand k = leb (command "NEW") k && leb k (command "RUN")
+
+-- DO, UNTIL, FOR, NEXT and INPUT have the codes from that of DO to that of INPUT's string
 abbrev pub needing : ℕ → Bool
-needing v = leb 31 (v % 64) && leb (v % 64) 37
+needing v = leb codeDo (codeIn v) && leb (codeIn v) codeInputString
 
 abbrev pub someNeed : List ℕ → Bool
 someNeed [] = false

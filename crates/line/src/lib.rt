@@ -5,18 +5,18 @@ use reader::MemberRead;
 use relation::Made;
 use word::Cursor;
 use word::Word;
+use word::sign;
 ghost use Prim.Native.Nat.{_≤_};
 ghost use mathlib.Core.Path.{_≡_};
-ghost use mathlib.Core.Bool.{true, false, _&&_};
-ghost use lib.Dec.{leb};
+ghost use mathlib.Core.Bool.{true, false};
 ghost use lib.ListN.{length, take, drop};
 ghost use Rattle.nibl.specs.Bytes.{if_then_else_, isSpace, all};
-ghost use Rattle.nibl.specs.Read.{aDecimal, orElse, unread, choose, reading, replied, numbered, immediately, commandCases, unnumbered, typed};
+ghost use Rattle.nibl.specs.Read.{aDecimal, orElse, unread, choose, reading, replied, numbered, aloneStatement, commandCases, unnumbered, typed};
 ghost use Rattle.nibl.specs.Read.{alone as aloneAt};
 ghost use Rattle.nibl.specs.Tree.{list};
 ghost use Rattle.nibl.specs.Page.{endsOf, isAmong};
 ghost use Rattle.reader.specs.Answers.{hasRoom, zeros};
-ghost use Rattle.line.specs.Answers.{listOf, membersOf, someNeed, kindOf, lineOps, replying, relationOf, relationOps};
+ghost use Rattle.line.specs.Answers.{listOf, membersOf, isCommand, needing, someNeed, kindOf, lineOps, replying, relationOf, relationOps};
 
 // A statement list, or the relations of a reply.
 pub enum ListRead {
@@ -146,23 +146,32 @@ fn list_from(text: &[u8], c: Cursor) -> LineRead
     }
 }
 
-fn between(low: u32, v: u32, high: u32) -> bool
-    ensures { λ r. ⌜ r ≡ (leb low v && leb v high) ⌝ }
+// Whether a sign at the front of an immediate line is a command: NEW, CLEAR, LIST or RUN.
+fn is_command(k: u8) -> bool
+    ensures { λ r. ⌜ r ≡ isCommand k ⌝ }
 {
-    low <= v && v <= high
+    sign::NEW <= k && k <= sign::RUN
 }
 
-// A line past its command, by the command's number: NEW, CLEAR, LIST or RUN.
+// A line past its command, by the command's number.
 fn command(text: &[u8], k: u8, c: Cursor) -> LineRead
     ensures { λ r. ⌜ r ≡ kindOf (length (now (text .entry))) (choose commandCases unread k (drop (c .at) (now (text .entry)))) ⌝ }
 {
     match k {
-        128 => alone(text, c, LineRead::New),
-        129 => alone(text, c, LineRead::Clear),
-        130 => list_from(text, c),
-        131 => alone(text, c, LineRead::Run),
+        sign::NEW => alone(text, c, LineRead::New),
+        sign::CLEAR => alone(text, c, LineRead::Clear),
+        sign::LIST => list_from(text, c),
+        sign::RUN => alone(text, c, LineRead::Run),
         _ => LineRead::NoReading,
     }
+}
+
+// Whether an operation is of a statement that only a program may have.
+fn program_only(v: u32) -> bool
+    ensures { λ r. ⌜ r ≡ needing v ⌝ }
+{
+    let code = v % codes::CODES;
+    codes::DO <= code && code <= codes::INPUT_STRING
 }
 
 // Whether one of the first n operations is of a statement that only a program may have.
@@ -172,7 +181,7 @@ fn needs_program(ops: &[u32], n: usize) -> bool
 {
     let mut i = 0;
     while i < n {
-        if between(31, ops[i] % 64, 37) {
+        if program_only(ops[i]) {
             return true;
         }
         i += 1;
@@ -183,8 +192,8 @@ fn needs_program(ops: &[u32], n: usize) -> bool
 // One statement, with its operations.
 fn immediate(text: &[u8], ops: &mut [u32]) -> LineRead
     requires { ⌜ hasRoom (now text) (now ops) ≡ true ⌝ }
-    ensures { λ r. ⌜ r ≡ kindOf (length (now (text .entry))) (immediately (now (text .entry))) ⌝ }
-    ensures { λ r. ⌜ now (ops .exit) ≡ lineOps (now (ops .entry)) (immediately (now (text .entry))) ⌝ }
+    ensures { λ r. ⌜ r ≡ kindOf (length (now (text .entry))) (aloneStatement (now (text .entry))) ⌝ }
+    ensures { λ r. ⌜ now (ops .exit) ≡ lineOps (now (ops .entry)) (aloneStatement (now (text .entry))) ⌝ }
 {
     let m = reader::read_member(text, ops);
     let MemberRead::Member(n, left) = m else {
@@ -207,7 +216,7 @@ fn unnumbered_line(text: &[u8], ops: &mut [u32]) -> LineRead
     let Word::Sign(k, c) = w else {
         return immediate(text, ops);
     };
-    if between(128, k as u32, 131) {
+    if is_command(k) {
         reader::clear(ops);
         return command(text, k, c);
     }
@@ -263,7 +272,7 @@ fn last_relation(text: &[u8], at: usize, ops: &mut [u32]) -> ListRead
     if is_blank(text, c) {
         return ListRead::Reads;
     }
-    let s = relation::past_sign(text, r, 44);
+    let s = relation::past_sign(text, r, sign::COMMA);
     match s {
         Made::Next(_, _) => ListRead::Reads,
         Made::NoReading => ListRead::NoReading,
@@ -279,7 +288,7 @@ fn relations(text: &[u8], n: usize, ops: &mut [u32]) -> ListRead
     let mut k = n;
     while 1 < k {
         let r = relation::read_relation(text, Made::Next(Cursor { at: at }, 0), ops);
-        let s = relation::past_sign(text, r, 44);
+        let s = relation::past_sign(text, r, sign::COMMA);
         let Made::Next(c, _) = s else {
             return ListRead::NoReading;
         };
@@ -318,7 +327,7 @@ pub fn reply_relation(text: &[u8], c: Cursor, ops: &mut [u32]) -> RelationRead
         reader::clear(ops);
         return RelationRead::NoReading;
     };
-    let s = relation::past_sign(text, r, 44);
+    let s = relation::past_sign(text, r, sign::COMMA);
     match s {
         Made::Next(e, _) => RelationRead::Relation(n, e),
         Made::NoReading => RelationRead::Relation(n, d),

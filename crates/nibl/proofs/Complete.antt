@@ -6,7 +6,7 @@ use mathlib.Core.List.{List}
 use Rattle.nibl.specs.Words.{Token}
 use Rattle.nibl.specs.Grammar.{Joints, factorJoints, termJoints, sumJoints, May, noWord, aWord, Joint, Factor, Term, Sum, Relation, aVariable, aConstant, aHex, aStat, aTop, inBrackets, aByte, aNot, aMod, aFactor, factors, aTerm, lessTerm, terms, aSum, related}
 use Rattle.nibl.specs.Tree.{Op, Expr, two, negate}
-use Rattle.nibl.specs.Read.{found, Reader, give, _>>=_, Part, factor as factorPart, term as termPart, sum as sumPart, relation as relationPart, factors as factorsPart, terms as termsPart, factorOf, onward, read}
+use Rattle.nibl.specs.Read.{found, Reader, give, _>>=_, Part, factor as factorPart, term as termPart, sum as sumPart, relation as relationPart, factors as factorsPart, terms as termsPart, factorOf, moreOperands, read}
 use Rattle.nibl.proofs.Rules.{W}
 use Rattle.nibl.proofs.Sound.{read-factor, read-term, read-sum, read-relation, read-factors, read-terms, read-related}
 use Rattle.nibl.proofs.Next.{nextIs, next-at, _or_, not-left, not-right, isKey, joins, isString, word-at, key-at, key-not, then-at, joint-at, joint-not, joint-other}
@@ -52,10 +52,10 @@ relation-first (related u j v) = sum-first u
 factor-step : {s t : List ℕ} {w : Token} → W s w t → read factorPart s ≡ factorOf read w t
 factor-step {s} w = read-factor s ∙ word-at (factorOf read) w
 
-onward-stop : (js : Joints) (q : Part) (go : Expr → Reader Expr) (a : Expr) (s : List ℕ) → nextIs (joins js) s ≡ false → onward read js q go a s ≡ found a s
+onward-stop : (js : Joints) (q : Part) (go : Expr → Reader Expr) (a : Expr) (s : List ℕ) → nextIs (joins js) s ≡ false → moreOperands read js q go a s ≡ found a s
 onward-stop js q go a s h = rw (joint-not js s h)
 
-onward-go : {js : Joints} (q : Part) (go : Expr → Reader Expr) (a : Expr) {o : Op} {b : Expr} {s t u : List ℕ} → Joint W js s o t → read q t ≡ found b u → onward read js q go a s ≡ go (two o a b) u
+onward-go : {js : Joints} (q : Part) (go : Expr → Reader Expr) (a : Expr) {o : Op} {b : Expr} {s t u : List ℕ} → Joint W js s o t → read q t ≡ found b u → moreOperands read js q go a s ≡ go (two o a b) u
 onward-go q go a j e = rw (joint-at j) (then-at (read q) _ _ e)
 
 factors-stop : (a : Expr) (s : List ℕ) → nextIs (joins factorJoints) s ≡ false → read (factorsPart a) s ≡ found a s

@@ -1,5 +1,7 @@
 -- One outcome: two answers that meet a public function's promise for the same arguments are equal. Assumes nothing.
-use mathlib.Core.Path.{_≡_, _∙_, sym}
+use Prim.Native.Nat.{ℕ}
+use mathlib.Core.Path.{_≡_, refl, _∙_, sym}
+use native.Mathlib.Omega.{arith}
 use Rattle.nibl.specs.declared.Place.{Place}
 use Rattle.nibl.specs.declared.PlaceStack.{PlaceStack}
 use Rattle.nibl.specs.declared.Pushed.{Pushed}
@@ -10,6 +12,11 @@ use Rattle.nibl.specs.declared.ForStack.{ForStack}
 use Rattle.nibl.specs.declared.PushedFor.{PushedFor}
 use Rattle.nibl.specs.declared.PoppedFor.{PoppedFor}
 use Rattle.nibl.specs.declared.TopFor.{TopFor}
+use Rattle.nibl.specs.declared.Onward.{Onward}
+use Rattle.nibl.specs.declared.Onward.the-variants.{Start, After}
+use Rattle.nibl.specs.declared.Paused.{Paused}
+use Rattle.nibl.specs.declared.Paused.the-variants.{Nowhere, At}
+use Rattle.nibl.specs.Record.{positionOf, pauseNumber}
 use Rattle.nibl.specs.Stack.{pushOf, topOf, popOf, pushFor, topFor, popFor}
 
 -- for every promise that is an equation
@@ -33,3 +40,20 @@ top-for-determined s = determined (topFor s)
 
 pub pop-for-determined : (s : ForStack) (a b : PoppedFor) → a ≡ popFor s → b ≡ popFor s → a ≡ b
 pop-for-determined s = determined (popFor s)
+
+-- where a run goes on is known by its position
+pub onward-same : (a b : Onward) → positionOf a ≡ positionOf b → a ≡ b
+onward-same Start Start e = refl
+onward-same Start (After q) e = absurd (omega arith)
+onward-same (After p) Start e = absurd (omega arith)
+onward-same (After p) (After q) e = let k : p .0 ≡ q .0 = omega arith in λ i. After (record { 0 = k i })
+
+-- and so is a pause by its number
+pub pause-same : (a b : Paused) → pauseNumber a ≡ pauseNumber b → a ≡ b
+pause-same Nowhere Nowhere e = refl
+pause-same Nowhere (At q) e = absurd (omega arith)
+pause-same (At p) Nowhere e = absurd (omega arith)
+pause-same (At p) (At q) e = let k : positionOf p ≡ positionOf q = omega arith in let h = onward-same p q k in cc
+
+pub pause-determined : (n : ℕ) (a b : Paused) → pauseNumber a ≡ n → pauseNumber b ≡ n → a ≡ b
+pause-determined n a b p q = pause-same a b (determined n (pauseNumber a) (pauseNumber b) p q)

@@ -11,7 +11,7 @@ use lib.ListN.{length, take, drop, getD, length-append, length-drop}
 use lib.Seq.{take-at, getD-drop}
 use lib.Dec.{leb, eqb}
 use Rattle.nibl.specs.Bytes.{if_then_else_, isSpace, isDigit, isText, isQuotable, notCR, All, none as done, each, starts, past}
-use Rattle.nibl.specs.Words.{Token, string, sign, Word, spaced, letter, letters, digits, hexDigits, quoted, pair, symbol}
+use Rattle.nibl.specs.Words.{Token, string, sign, Word, spaced, letter, letters, decimalDigits, hexDigits, quoted, pair, symbol}
 use Rattle.nibl.specs.Grammar.{Key, Statement, anIf, aRemark, Members, lastMember, moreMembers, Line, aBlank, aDelete, aStore, aNew, aClear, aRun, aList, aListFrom, anImmediate}
 use Rattle.nibl.specs.Tree.{Expr, Stmt, remark, ifThen, Member, Typed, store}
 use Rattle.nibl.specs.Read.{found, member, reading}
@@ -70,7 +70,7 @@ undigit : {table : List (List ℕ)} {s t : List ℕ} {w : Token} → Word table 
 undigit (spaced w) h = undigit w h
 undigit (letter {c} {s} r) h = let o = capital-other c (r .some) in past-first c s (o .0) (o .1)
 undigit (letters {c} {d} {cs} {s} r e) h = let o = capital-other c (r .some) in past-first c (d ∷ cs ++ s) (o .0) (o .1)
-undigit (digits r l) h = absurd (false≢true (sym h))
+undigit (decimalDigits r l) h = absurd (false≢true (sym h))
 undigit (hexDigits r) h = refl
 undigit (quoted a) h = refl
 undigit (pair {a} {b} {k} {s} e) h = of-pairs (λ x y n. starts isDigit (past isSpace (x ∷ y ∷ s)) ≡ false) a b k refl refl refl e
@@ -101,7 +101,7 @@ colon : {table : List (List ℕ)} {t u : List ℕ} {w : Token} → Word table t 
 colon (spaced w) e = byte refl (colon w e)
 colon (letter r) e = let z : _≡_ {A = ℕ} 0 1 = cc in absurd (omega arith)
 colon {table} (letters {c} {d} {k} {cs} r h) e = let i : k ≡ 58 = cc in absurd (omega (arith, place-least 128 table (c ∷ d ∷ cs) k h))
-colon (digits r l) e = let z : _≡_ {A = ℕ} 0 1 = cc in absurd (omega arith)
+colon (decimalDigits r l) e = let z : _≡_ {A = ℕ} 0 1 = cc in absurd (omega arith)
 colon (hexDigits r) e = let z : _≡_ {A = ℕ} 0 1 = cc in absurd (omega arith)
 colon (quoted a) e = let z : _≡_ {A = ℕ} 0 1 = cc in absurd (omega arith)
 colon (pair {a} {b} {k} h) e = let i : k ≡ 58 = cc in absurd (of-pairs (λ x y n. n ≡ 58 → ⊥) a b k (omega arith) (omega arith) (omega arith) h i)

@@ -10,7 +10,7 @@ use Rattle.nibl.specs.Words.{Token, Word}
 use Rattle.nibl.specs.Grammar.{Relation, Statement}
 use Rattle.nibl.specs.Readings.{ListReading, ReplyReading, LineReading}
 use Rattle.nibl.specs.Tree.{Expr, Stmt, Member, Typed}
-use Rattle.nibl.specs.Read.{ended, got, stepIn, found, relation, read, statement, reading, replied, typed}
+use Rattle.nibl.specs.Read.{atEnd, got, stepIn, found, relation, read, statement, reading, replied, typed}
 use Rattle.nibl.proofs.Words.{word-sound, ended-sound, word-complete, ended-complete}
 use Rattle.nibl.proofs.Rules.{W}
 use Rattle.nibl.proofs.Lines.{relation-sound, statement-sound, reading-sound, replied-sound, typed-sound}
@@ -22,7 +22,7 @@ use Rattle.nibl.proofs.Whole.{continues, statement-complete, reading-co
 pub word-exact : (table : List (List ℕ)) (s s' : List ℕ) (w : Token) → (stepIn table s ≡ got w s') ↔ Word table s w s'
 word-exact table s s' w = (word-sound table s s' w, word-complete table)
 
-pub ended-exact : (table : List (List ℕ)) (s : List ℕ) → (stepIn table s ≡ ended) ↔ All isSpace s
+pub ended-exact : (table : List (List ℕ)) (s : List ℕ) → (stepIn table s ≡ atEnd) ↔ All isSpace s
 ended-exact table s = (ended-sound table s, ended-complete table)
 
 -- where no word follows that would go on

@@ -10,7 +10,7 @@ use Rattle.nibl.specs.Bytes.{isSpace, All, all}
 use Rattle.nibl.specs.Words.{Token, decimal, sign, commands, Word}
 use Rattle.nibl.specs.Grammar.{Key, Relation, Statement, Members, lastMember, moreMembers, Reply, lastReply, enough, moreReply, Line, aBlank, aDelete, aStore, aNew, aClear, aRun, aList, aListFrom, anImmediate}
 use Rattle.nibl.specs.Tree.{Expr, Stmt, Member, Typed, blank, new, clear, run, delete, list, immediate}
-use Rattle.nibl.specs.Read.{Found, found, give, _>>=_, onStep, stepIn, key, orElse, isFound, signOf, relation, read, statement, member, unread, consSome, membersN, reading, replied, alone, storing, numbered, immediately, commandCases, unnumbered, typed, aDecimal}
+use Rattle.nibl.specs.Read.{Found, found, give, _>>=_, onStep, stepIn, key, orElse, isFound, signOf, relation, read, statement, member, unread, consSome, membersN, reading, replied, alone, storing, numbered, aloneStatement, commandCases, unnumbered, typed, aDecimal}
 use Rattle.nibl.specs.Read.{lastReply as lastReplied}
 use Rattle.nibl.proofs.Words.{if-split, or-cases, true-all}
 use Rattle.nibl.proofs.Over.{word-over}
@@ -123,7 +123,7 @@ Reads s = OkSome (Line W C s)
 alone-ok : (s t : List ℕ) (y : Typed) → (All isSpace t → Line W C s y) → Reads s (alone y t)
 alone-ok s t y f = if-split (Reads s) (all isSpace t) (λ e. one (f (true-all isSpace t e))) (λ _. nil)
 
-immediate-ok : (s : List ℕ) → Reads s (immediately s)
+immediate-ok : (s : List ℕ) → Reads s (aloneStatement s)
 immediate-ok s = or-ok unread s (statement-same s) (λ q t h. alone-ok s t (immediate q) (anImmediate h)) nil
 
 storing-ok : (s t : List ℕ) (n : ℕ) {o : Option (List Member)} → W s (decimal n) t → OkSome (Members W t) o → Reads s (storing n t o)
@@ -152,7 +152,7 @@ command-cases s t =
 
 unnumbered-ok : (s : List ℕ) → Reads s (unnumbered s)
 unnumbered-ok s =
-    or-ok immediately s (command-same s) (λ k t h. chosen {Q = Command s t} {r = λ t. immediately s} {r' = λ t. immediately s} k (command-cases s t) (λ _. immediate-ok s) h)
+    or-ok aloneStatement s (command-same s) (λ k t h. chosen {Q = Command s t} {r = λ t. aloneStatement s} {r' = λ t. aloneStatement s} k (command-cases s t) (λ _. immediate-ok s) h)
     (immediate-ok s)
 
 pub typed-ok : (s : List ℕ) → Reads s (typed s)

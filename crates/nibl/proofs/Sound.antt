@@ -8,7 +8,7 @@ use lib.ListN.{length}
 use Rattle.nibl.specs.Words.{Token, variable, decimal, hex, string, sign}
 use Rattle.nibl.specs.Grammar.{Joints, factorJoints, termJoints, sumJoints, May, noWord, aWord, Joint, joint, Factor, Term, Sum, Relation, aVariable, aConstant, aHex, aStat, aTop, inBrackets, aByte, aNot, aMod, aFactor, factors, aTerm, lessTerm, terms, aSum, related}
 use Rattle.nibl.specs.Tree.{Op, Expr, negate, two}
-use Rattle.nibl.specs.Read.{Reader, give, byWord, ifKey, may, _>>=_, Part, factor as factorPart, term as termPart, sum as sumPart, relation as relationPart, factors as factorsPart, terms as termsPart, related as relatedPart, factorCases, factorOf, onward, part, readN, rank, read}
+use Rattle.nibl.specs.Read.{Reader, give, byWord, ifKey, may, _>>=_, Part, factor as factorPart, term as termPart, sum as sumPart, relation as relationPart, factors as factorsPart, terms as termsPart, related as relatedPart, factorCases, factorOf, moreOperands, part, readN, rank, read}
 use Rattle.nibl.proofs.Over.{Outside, here, outside-trans, outside-length, Over, _⨾_, word-over}
 use Rattle.nibl.proofs.Rules.{same, W, Same, neither, gives, by-word, or-else, and-then, as-so, Cases, noMore, _and_, chosen, Case, if-key, by-key, by-may, joint-same}
 
@@ -100,7 +100,7 @@ module _ (rd rd' : Part → Reader Expr) where
   -- one more operand and what follows it; or none
   onward-same : (p q : Part) (js : Joints) (go go' : Expr → Reader Expr) (a : Expr) (s : List ℕ) → Reads p s a s
       → ((o : Op) (b : Expr) (t u : List ℕ) → Joint W js s o t → Reads q t b u → Same (Reads p s) (go (two o a b) u) (go' (two o a b) u))
-      → Below (4 * length s) → Same (Reads p s) (onward rd js q go a s) (onward rd' js q go' a s)
+      → Below (4 * length s) → Same (Reads p s) (moreOperands rd js q go a s) (moreOperands rd' js q go' a s)
   unfolding _>>=_
   onward-same p q js go go' a s z f h =
       or-else _ _ s (joint-same js s) (λ o t j. and-then (h q t (omega (arith, rank-le q, joint-over j .short))) (λ b u r. f o b t u j r)) (gives z)
@@ -174,14 +174,14 @@ pub read-relation : (s : List ℕ) → read relationPart s ≡ (read sumPart >>=
 unfolding part
 read-relation s = read-eq relationPart s
 
-pub read-factors : (a : Expr) (s : List ℕ) → read (factorsPart a) s ≡ onward read factorJoints factorPart (λ b. read (factorsPart b)) a s
+pub read-factors : (a : Expr) (s : List ℕ) → read (factorsPart a) s ≡ moreOperands read factorJoints factorPart (λ b. read (factorsPart b)) a s
 unfolding part
 read-factors a s = read-eq (factorsPart a) s
 
-pub read-terms : (a : Expr) (s : List ℕ) → read (termsPart a) s ≡ onward read termJoints termPart (λ b. read (termsPart b)) a s
+pub read-terms : (a : Expr) (s : List ℕ) → read (termsPart a) s ≡ moreOperands read termJoints termPart (λ b. read (termsPart b)) a s
 unfolding part
 read-terms a s = read-eq (termsPart a) s
 
-pub read-related : (a : Expr) (s : List ℕ) → read (relatedPart a) s ≡ onward read sumJoints sumPart give a s
+pub read-related : (a : Expr) (s : List ℕ) → read (relatedPart a) s ≡ moreOperands read sumJoints sumPart give a s
 unfolding part
 read-related a s = read-eq (relatedPart a) s

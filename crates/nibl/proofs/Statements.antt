@@ -8,7 +8,7 @@ use native.Mathlib.Omega.{arith}
 use lib.ListN.{length}
 use Rattle.nibl.specs.Bytes.{isText, All, all}
 use Rattle.nibl.specs.Words.{Token, variable, decimal, hex, string, sign}
-use Rattle.nibl.specs.Grammar.{Key, May, noWord, aWord, Relation, Either, whole, parted, PrintWord, pr, printed, AnItem, aString, aStored, aValue, Items, oneItem, moreItems, LastSemicolon, noSemicolon, aSemicolon, AStep, noStep, someStep, Variables, oneVariable, moreVariables}
+use Rattle.nibl.specs.Grammar.{Key, May, noWord, aWord, Relation, Either, whole, parted, PrintWord, shortPrint, longPrint, AnItem, aString, aStored, aValue, Items, oneItem, moreItems, LastSemicolon, noSemicolon, aSemicolon, AStep, noStep, someStep, Variables, oneVariable, moreVariables}
 use Rattle.nibl.specs.Grammar.{Statement, aLetVar, aLetStat, aLetByte, aLetText, aLetCopy, aGoto, aGosub, aReturn, aPrint, anIf, aDo, anUntil, aFor, aNext, anInput, anInputText, aRemark, anEnd}
 use Rattle.nibl.specs.Tree.{Expr, Item, stored, value, Stmt, letVar, letStat, letByte, letCopy, goto, gosub, until, for, inputText}
 use Rattle.nibl.specs.Read.{Reader, give, _>>=_, ifKey, Part, relation, factor, read, assigned, letCases, letOf, anItem, joinedN, joined, printing, forTo, inputting, remarking, statementCases, statementOf, aStatement, statementN, statement}
@@ -24,8 +24,8 @@ either-over (whole k) = word-over k
 either-over (parted k j) = word-over k ⨾ word-over j
 
 printWord-over : {s s' : List ℕ} → PrintWord W s s' → Over s s'
-printWord-over (pr k) = word-over k
-printWord-over (printed k) = word-over k
+printWord-over (shortPrint k) = word-over k
+printWord-over (longPrint k) = word-over k
 
 pub item-over : {s s' : List ℕ} {i : Item} → AnItem W s i s' → Over s s'
 item-over (aString w) = word-over w
@@ -195,7 +195,7 @@ module _ (rd rd' : Reader Stmt) where
       and (λ k. part-then relation goto t (λ a u r. aGoto (whole k) r)) and (λ k. part-then relation gosub t (λ a u r. aGosub (whole k) r))
       and (λ k. if-key "TO" t _ _ (λ u j. part-then relation goto u (λ a v r. aGoto (parted k j) r))
       (by-key "SUB" t (λ u j. part-then relation gosub u (λ a v r. aGosub (parted k j) r))))
-      and (λ k. gives (aReturn k)) and (λ k. printing-same s t (pr k)) and (λ k. printing-same s t (printed k))
+      and (λ k. gives (aReturn k)) and (λ k. printing-same s t (shortPrint k)) and (λ k. printing-same s t (longPrint k))
       and (λ k. and-then (read-same relation t) (λ a u r. by-may "THEN" u (λ x m.
       and-then (h x (omega (arith, relation-over r .short, outside-length (may-out m)))) (λ q y b. gives (anIf k r m b)))))
       and (λ k. gives (aDo k)) and (λ k. part-then relation until t (λ a u r. anUntil k r)) and (λ k. for-same s t k)

@@ -9,11 +9,11 @@ use native.Mathlib.Omega.{arith}
 use lib.ListN.{length}
 use lib.Dec.{eqb}
 use Rattle.nibl.specs.Bytes.{isSpace, All, all}
-use Rattle.nibl.specs.Words.{Token, decimal, sign, keywords, commands, number, placeIn, there, spaced, letters, pair, symbol}
-use Rattle.nibl.specs.Grammar.{Key, May, noWord, aWord, Relation, Either, whole, parted, PrintWord, pr, printed, AnItem, aString, aStored, aValue, Items, oneItem, moreItems, noSemicolon, aSemicolon, noStep, someStep, Variables, oneVariable, moreVariables}
+use Rattle.nibl.specs.Words.{Token, decimal, sign, keywords, commands, number, indexIn, there, spaced, letters, pair, symbol}
+use Rattle.nibl.specs.Grammar.{Key, May, noWord, aWord, Relation, Either, whole, parted, PrintWord, shortPrint, longPrint, AnItem, aString, aStored, aValue, Items, oneItem, moreItems, noSemicolon, aSemicolon, noStep, someStep, Variables, oneVariable, moreVariables}
 use Rattle.nibl.specs.Grammar.{Statement, aLetVar, aLetStat, aLetByte, aLetText, aLetCopy, aGoto, aGosub, aReturn, aPrint, anIf, aDo, anUntil, aFor, aNext, anInput, anInputText, aRemark, anEnd, Members, lastMember, moreMembers, Reply, lastReply, enough, moreReply, Line, aBlank, aDelete, aStore, aNew, aClear, aRun, aList, aListFrom, anImmediate}
 use Rattle.nibl.specs.Tree.{Expr, Item, Stmt, letVar, letStat, letByte, goto, gosub, until, for, Member, Typed, immediate}
-use Rattle.nibl.specs.Read.{Found, nothing, found, give, _>>=_, relation, factor, read, aRelation, assigned, letOf, anItem, joined, printing, statementOf, aStatement, statement, ended?, member, reading, replied, typed, key, consSome, orElse, choose, stepIn, got, signOr, aDecimal, commandCases, immediately, numbered, unnumbered}
+use Rattle.nibl.specs.Read.{Found, nothing, found, give, _>>=_, relation, factor, read, aRelation, assigned, letOf, anItem, joined, printing, statementOf, aStatement, statement, endsMember, member, reading, replied, typed, key, consSome, orElse, choose, stepIn, got, signOr, aDecimal, commandCases, aloneStatement, numbered, unnumbered}
 use Rattle.nibl.specs.Read.{aVariable as variableRead}
 use Rattle.nibl.proofs.Words.{all-true, word-unspaced, word-complete, word-unique, retabled, of-table, of-pairs, no-symbol, letters-at}
 use Rattle.nibl.proofs.Rules.{W, it, Ok, nil, one, none-found, decimal-same}
@@ -60,8 +60,8 @@ statement-word (aLetCopy m w f k j g) = let-first refl m w
 statement-word (aGoto e r) = either-first refl refl e
 statement-word (aGosub e r) = either-first refl refl e
 statement-word (aReturn k) = first refl k
-statement-word (aPrint (pr k) is l) = first refl k
-statement-word (aPrint (printed k) is l) = first refl k
+statement-word (aPrint (shortPrint k) is l) = first refl k
+statement-word (aPrint (longPrint k) is l) = first refl k
 statement-word (anIf k r m q) = first refl k
 statement-word (aDo k) = first refl k
 statement-word (anUntil k r) = first refl k
@@ -85,8 +85,8 @@ let-step noWord w e = statement-step w ∙ e
 let-step (aWord k) w e = statement-step k ∙ word-at letOf w
 
 print-step : {s t : List ℕ} → PrintWord W s t → statement s ≡ printing t
-print-step (pr k) = statement-step k
-print-step (printed k) = statement-step k
+print-step (shortPrint k) = statement-step k
+print-step (longPrint k) = statement-step k
 
 made : (make : Expr → Stmt) {s s' : List ℕ} {a : Expr} → Relation W s a s' → nextIs goesOn s' ≡ false → aRelation make s ≡ found (make a) s'
 made make r h = then-at (read relation) _ _ (relation-complete r h)
@@ -175,11 +175,11 @@ statement-complete (anEnd k) h = statement-step k
 -- Statement lists
 pub member-last : {s t : List ℕ} {q : Stmt} → Statement W s q t → All isSpace t → member s ≡ found (record { statement = q; left = 0 }) []
 unfolding member
-member-last {s} p a = then-at statement ended? s (statement-complete p (next-spaces continues a)) ∙ rw (all-true a)
+member-last {s} p a = then-at statement endsMember s (statement-complete p (next-spaces continues a)) ∙ rw (all-true a)
 
 pub member-more : {s t u : List ℕ} {q : Stmt} → Statement W s q t → Key W ":" t u → member s ≡ found (record { statement = q; left = suc (length u) }) u
 unfolding member
-member-more {s} p k = then-at statement ended? s (statement-complete p (next-at continues k)) ∙ rw (word-unspaced keywords k) (key-at ":" _ _ k)
+member-more {s} p k = then-at statement endsMember s (statement-complete p (next-at continues k)) ∙ rw (word-unspaced keywords k) (key-at ":" _ _ k)
 
 pub reading-complete : {s : List ℕ} {ms : List Member} → Members W s ms → reading s ≡ some ms
 reading-complete (lastMember {s} p a) = reading-eq s ∙ rw (member-last p a)
@@ -202,12 +202,12 @@ command-undecimal {s} c =
     let e = word-unique commands c (retabled keywords commands refl w) .0 in
     let z : _≡_ {A = ℕ} 0 1 = cc in omega arith)
 
-command-step : {s t : List ℕ} {k : ℕ} → C s (sign k) t → typed s ≡ choose commandCases (λ u. immediately s) k t
+command-step : {s t : List ℕ} {k : ℕ} → C s (sign k) t → typed s ≡ choose commandCases (λ u. aloneStatement s) k t
 command-step {s} c = typed-other s (word-unspaced commands c) ∙ rw (command-undecimal c, word-complete commands c)
 
 -- nor the beginning of a statement
 abbrev unspelled : List ℕ → Bool
-unspelled w = not (there (placeIn keywords w))
+unspelled w = not (there (indexIn keywords w))
 
 signless : (o : Option ℕ) (s t : List ℕ) (w : Token) → not (there o) ≡ true → signOr o s ≡ got w t → _≡_ {A = ℕ} 0 1
 signless none s t w h e = cc
@@ -217,18 +217,18 @@ no-command : {s t u : List ℕ} {k : ℕ} {w : Token} (d : List ℕ → Option T
 unfolding stepIn
 no-command d (spaced c) e = no-command d c e
 no-command {u} {w} d (letters {c} {d = b} {k} {cs} {s} r h) e =
-    let z = signless (placeIn keywords (c ∷ b ∷ cs)) s u w (of-table unspelled 128 commands (c ∷ b ∷ cs) k refl h) (sym (letters-at keywords c (b ∷ cs) s r) ∙ e) in
+    let z = signless (indexIn keywords (c ∷ b ∷ cs)) s u w (of-table unspelled 128 commands (c ∷ b ∷ cs) k refl h) (sym (letters-at keywords c (b ∷ cs) s r) ∙ e) in
     absurd (omega arith)
 no-command d (pair {a} {b} {k} h) e = of-pairs (λ x y n. choose commandCases d n ≡ d) a b k refl refl refl h
 no-command d (symbol {b} h n) e =
     rw (no-symbol (λ x. eqb x 128) b refl h, no-symbol (λ x. eqb x 129) b refl h, no-symbol (λ x. eqb x 130) b refl h, no-symbol (λ x. eqb x 131) b refl h)
 
-uncommanded : {s u : List ℕ} {w : Token} → W s w u → unnumbered s ≡ immediately s
+uncommanded : {s u : List ℕ} {w : Token} → W s w u → unnumbered s ≡ aloneStatement s
 uncommanded {s} w = go (it (command-same s))
   where
-    go : {f : Found ℕ} → Ok (λ k t. C s (sign k) t) f → orElse f (choose commandCases (λ t. immediately s)) immediately s ≡ immediately s
+    go : {f : Found ℕ} → Ok (λ k t. C s (sign k) t) f → orElse f (choose commandCases (λ t. aloneStatement s)) aloneStatement s ≡ aloneStatement s
     go nil = refl
-    go (one {s = t} c) = ap (λ (r : List ℕ → Option Typed). r t) (no-command (λ t. immediately s) c (word-complete keywords w))
+    go (one {s = t} c) = ap (λ (r : List ℕ → Option Typed). r t) (no-command (λ t. aloneStatement s) c (word-complete keywords w))
 
 immediate-complete : {s t : List ℕ} {q : Stmt} → Statement W s q t → All isSpace t → typed s ≡ some (immediate q)
 immediate-complete {s} q a =

@@ -8,8 +8,8 @@ use native.Mathlib.Omega.{arith}
 use borrow.Author.Tests.{leb-true, le-leb, lt-leb, eqb-true, ne-eqb, not-true}
 use lib.Dec.{leb, eqb}
 use Rattle.nibl.specs.Bytes.{if_then_else_, same, isSpace, isDigit, isCapital, isHexDigit, isQuotable, All, none as done, each, starts, front, past, all, decimalValue, hexValue}
-use Rattle.nibl.specs.Words.{Token, variable, decimal, hex, string, sign, placeFrom, placeIn, pairs, there, pairsWith, isSymbol, Run, Word, spaced, letter, letters, digits, hexDigits, quoted, pair, symbol}
-use Rattle.nibl.specs.Read.{Step, ended, wrong, got, signOr, lettersStep, digitsStep, hexStep, quotedStep, pairOr, symbolStep, wordStep, stepIn}
+use Rattle.nibl.specs.Words.{Token, variable, decimal, hex, string, sign, indexFrom, indexIn, pairs, there, pairsWith, isSymbol, Run, Word, spaced, letter, letters, decimalDigits, hexDigits, quoted, pair, symbol}
+use Rattle.nibl.specs.Read.{Step, atEnd, wrong, got, signOr, lettersStep, digitsStep, hexStep, quotedStep, pairOr, symbolStep, wordStep, stepIn}
 
 -- Tests
 
@@ -125,7 +125,7 @@ longest p b s e = record { some = starts-front p b s e; each = front-all p (b �
 
 -- Sound: what a step says of the text s
 pub data Says (table : List (List ℕ)) (s : List ℕ) : Step → Type 0 where
-  spaces : All isSpace s → Says table s ended
+  spaces : All isSpace s → Says table s atEnd
   noWord : Says table s wrong
   aWord : {w : Token} {s' : List ℕ} → Word table s w s' → Says table s (got w s')
 
@@ -133,15 +133,15 @@ module _ (table : List (List ℕ)) where
   letters-says : (ds s : List ℕ) → Run isCapital ds s → Says table (ds ++ s) (lettersStep table ds s)
   letters-says [] s r = noWord
   letters-says (c ∷ []) s r = aWord (letter r)
-  letters-says (c ∷ d ∷ cs) s r = go (placeIn table (c ∷ d ∷ cs)) refl
+  letters-says (c ∷ d ∷ cs) s r = go (indexIn table (c ∷ d ∷ cs)) refl
     where
-      go : (o : Option ℕ) → placeIn table (c ∷ d ∷ cs) ≡ o → Says table ((c ∷ d ∷ cs) ++ s) (signOr o s)
+      go : (o : Option ℕ) → indexIn table (c ∷ d ∷ cs) ≡ o → Says table ((c ∷ d ∷ cs) ++ s) (signOr o s)
       go none e = noWord
       go (some k) e = aWord (letters r e)
 
   digits-says : (ds s : List ℕ) → Run isDigit ds s → Says table (ds ++ s) (digitsStep (decimalValue 0 ds) s)
   digits-says ds s r =
-      if-split (Says table (ds ++ s)) (leb (decimalValue 0 ds) 32767) (λ e. aWord (digits r (leb-true (decimalValue 0 ds) 32767 e))) (λ _. noWord)
+      if-split (Says table (ds ++ s)) (leb (decimalValue 0 ds) 32767) (λ e. aWord (decimalDigits r (leb-true (decimalValue 0 ds) 32767 e))) (λ _. noWord)
 
   hex-says : (ds s : List ℕ) → All isHexDigit ds → starts isHexDigit s ≡ false → Says table (35 ∷ ds ++ s) (hexStep ds s)
   hex-says [] s a e = noWord
@@ -191,13 +191,13 @@ module _ (table : List (List ℕ)) where
   word-said : {s s' : List ℕ} {w : Token} → Says table s (got w s') → Word table s w s'
   word-said (aWord w) = w
 
-  spaces-said : {s : List ℕ} → Says table s ended → All isSpace s
+  spaces-said : {s : List ℕ} → Says table s atEnd → All isSpace s
   spaces-said (spaces a) = a
 
   pub word-sound : (s s' : List ℕ) (w : Token) → stepIn table s ≡ got w s' → Word table s w s'
   word-sound s s' w e = word-said (rw e at (step-says s))
 
-  pub ended-sound : (s : List ℕ) → stepIn table s ≡ ended → All isSpace s
+  pub ended-sound : (s : List ℕ) → stepIn table s ≡ atEnd → All isSpace s
   ended-sound s e = spaces-said (rw e at (step-says s))
 
 -- The function, by the first byte
@@ -237,20 +237,20 @@ abbrev pub entries : (List ℕ → Bool) → List (List ℕ) → Bool
 entries p [] = true
 entries p (w ∷ ws) = p w && entries p ws
 
-pub of-table : (p : List ℕ → Bool) (n : ℕ) (table : List (List ℕ)) (w : List ℕ) (k : ℕ) → entries p table ≡ true → placeFrom n table w ≡ some k → p w ≡ true
+pub of-table : (p : List ℕ → Bool) (n : ℕ) (table : List (List ℕ)) (w : List ℕ) (k : ℕ) → entries p table ≡ true → indexFrom n table w ≡ some k → p w ≡ true
 of-table p n [] w k a e = let z : _≡_ {A = ℕ} 0 1 = cc in absurd (omega arith)
 of-table p n (v ∷ vs) w k a e = go (same v w) refl (of-table p (suc n) vs w k (and-right (p v) (entries p vs) a)) e
   where
-    go : (t : Bool) → same v w ≡ t → (placeFrom (suc n) vs w ≡ some k → p w ≡ true) → (if t then some n else placeFrom (suc n) vs w) ≡ some k → p w ≡ true
+    go : (t : Bool) → same v w ≡ t → (indexFrom (suc n) vs w ≡ some k → p w ≡ true) → (if t then some n else indexFrom (suc n) vs w) ≡ some k → p w ≡ true
     go true h f i = subst (λ (x : List ℕ). p x ≡ true) (same-spelling v w h) (and-left (p v) (entries p vs) a)
     go false h f i = f i
 
 -- its number is its place from there on
-pub place-least : (n : ℕ) (table : List (List ℕ)) (w : List ℕ) (k : ℕ) → placeFrom n table w ≡ some k → n ≤ k
+pub place-least : (n : ℕ) (table : List (List ℕ)) (w : List ℕ) (k : ℕ) → indexFrom n table w ≡ some k → n ≤ k
 place-least n [] w k e = let z : _≡_ {A = ℕ} 0 1 = cc in absurd (omega arith)
 place-least n (v ∷ vs) w k e = go (same v w) (place-least (suc n) vs w k) e
   where
-    go : (t : Bool) → (placeFrom (suc n) vs w ≡ some k → suc n ≤ k) → (if t then some n else placeFrom (suc n) vs w) ≡ some k → n ≤ k
+    go : (t : Bool) → (indexFrom (suc n) vs w ≡ some k → suc n ≤ k) → (if t then some n else indexFrom (suc n) vs w) ≡ some k → n ≤ k
     go true f h = let i : n ≡ k = cc in omega arith
     go false f h = omega (arith, f h)
 
@@ -287,14 +287,14 @@ module _ (table : List (List ℕ)) where
   word-complete (spaced w) = word-complete w
   word-complete (letter {c} {s} r) = letters-at c [] s r
   word-complete (letters {c} {d} {cs = cs} {s = s} r e) = letters-at c (d ∷ cs) s r ∙ rw e
-  word-complete (digits {ds} {s} r l) = digits-at ds s r ∙ rw (le-leb (decimalValue 0 ds) 32767 l)
+  word-complete (decimalDigits {ds} {s} r l) = digits-at ds s r ∙ rw (le-leb (decimalValue 0 ds) 32767 l)
   word-complete (hexDigits {ds} {s} r) = hex-at ds s r
   word-complete (quoted {bs} {s} a) = unfold wordStep in (rw (front-run a (34 ∷ s) refl, past-run a (34 ∷ s) refl))
   word-complete (pair {a} {b} {k} {s} e) =
       of-pairs (λ x y n. stepIn table (x ∷ y ∷ s) ≡ got (sign n) s) a b k (unfold wordStep in refl) (unfold wordStep in refl) (unfold wordStep in refl) e
   word-complete (symbol {b} {s} e n) = step-word table b s (no-symbol isSpace b refl e) ∙ word-symbol table b s e ∙ symbol-at b s n
 
-  pub ended-complete : {s : List ℕ} → All isSpace s → stepIn table s ≡ ended
+  pub ended-complete : {s : List ℕ} → All isSpace s → stepIn table s ≡ atEnd
   unfolding stepIn
   ended-complete done = refl
   ended-complete (each {b} {s} e a) = step-space table b s e ∙ ended-complete a
@@ -327,7 +327,7 @@ module _ (table other : List (List ℕ)) where
   retabled e (spaced w) = spaced (retabled e w)
   retabled e (letter r) = letter r
   retabled e (letters r h) = absurd (false≢true (sym e))
-  retabled e (digits r l) = digits r l
+  retabled e (decimalDigits r l) = decimalDigits r l
   retabled e (hexDigits r) = hexDigits r
   retabled e (quoted a) = quoted a
   retabled e (pair h) = absurd (false≢true (sym e))
@@ -350,7 +350,7 @@ pub word-longest : {table : List (List ℕ)} {s s' : List ℕ} {w : Token} → W
 word-longest (spaced w) = word-longest w
 word-longest (letter r) = rw (r .longest)
 word-longest {table} (letters {c} {d} {k} {cs} r e) = rw (le-leb 128 k (place-least 128 table (c ∷ d ∷ cs) k e)) (rw (r .longest))
-word-longest (digits r l) = rw (r .longest)
+word-longest (decimalDigits r l) = rw (r .longest)
 word-longest (hexDigits r) = rw (r .longest)
 word-longest (quoted a) = refl
 word-longest (pair {a} {b} {k} {s} e) = pair-whole a b k s e
@@ -359,4 +359,4 @@ word-longest (symbol {b} e n) = rw (no-symbol (leb 128) b refl e) (rw n)
 -- "A run of digits is a constant, at most 32,767"
 pub decimal-small : {table : List (List ℕ)} {n : ℕ} {s s' : List ℕ} → Word table s (decimal n) s' → n ≤ 32767
 decimal-small (spaced w) = decimal-small w
-decimal-small (digits r l) = l
+decimal-small (decimalDigits r l) = l

@@ -50,29 +50,44 @@ abbrev pub notCR : ℕ → Bool
 notCR b = not (eqb b 13)
 
 -- the classes of a byte, by number: "dropped, CR, erase, discard, space, digit, capital, quote, other"
-abbrev pub dropped : ℕ
-dropped = 0
+abbrev pub classDropped : ℕ
+classDropped = 0
 
-abbrev pub ends : ℕ
-ends = 1
+abbrev pub classCR : ℕ
+classCR = 1
 
-abbrev pub erases : ℕ
-erases = 2
+abbrev pub classErase : ℕ
+classErase = 2
 
-abbrev pub discards : ℕ
-discards = 3
+abbrev pub classDiscard : ℕ
+classDiscard = 3
+
+abbrev pub classSpace : ℕ
+classSpace = 4
+
+abbrev pub classDigit : ℕ
+classDigit = 5
+
+abbrev pub classCapital : ℕ
+classCapital = 6
+
+abbrev pub classQuote : ℕ
+classQuote = 7
+
+abbrev pub classOther : ℕ
+classOther = 8
 
 abbrev pub classOf : ℕ → ℕ
 classOf b =
-    if eqb b 0 || eqb b 10 then dropped
-    else if eqb b 13 then ends
-    else if eqb b 95 then erases
-    else if eqb b 21 then discards
-    else if isSpace b then 4
-    else if isDigit b then 5
-    else if isCapital b then 6
-    else if eqb b 34 then 7
-    else 8
+    if eqb b 0 || eqb b 10 then classDropped
+    else if eqb b 13 then classCR
+    else if eqb b 95 then classErase
+    else if eqb b 21 then classDiscard
+    else if isSpace b then classSpace
+    else if isDigit b then classDigit
+    else if isCapital b then classCapital
+    else if eqb b 34 then classQuote
+    else classOther
 
 -- every byte passes
 pub data All (p : ℕ → Bool) : List ℕ → Type 0 where

@@ -3,27 +3,22 @@ use Prim.Native.Nat.{ℕ, zero, suc, _+_, _-_}
 use mathlib.Core.Bool.{Bool, true, false, not, _&&_, _||_}
 use mathlib.Core.List.{List, [], _∷_, _++_}
 use mathlib.Core.Option.{Option, none, some}
-use lib.ListN.{length, getD, drop, replicate}
+use lib.ListN.{length, getD, drop}
 use lib.Dec.{leb, eqb}
 use Rattle.nibl.specs.Bytes.{if_then_else_, notCR, front}
-use Rattle.nibl.specs.Tree.{Stmt, letVar, letStat, letByte, letCopy, letText, goto, gosub, until, return, loop, remark, end, print, ifThen, for, next, input, inputText}
+use Rattle.nibl.specs.Tree.{Stmt, letVar, letStat, letByte, letCopy, letText, goto, gosub, until, return, doLoop, remark, end, print, ifThen, for, next, input, inputText}
 use Rattle.nibl.specs.Tree.{Member, Typed, blank, new, clear, run, delete, list, store, immediate}
 use Rattle.nibl.specs.Read.{Found, nothing, found, member, typed}
 use Rattle.nibl.specs.Values.{digits}
 use Rattle.nibl.specs.Typing.{Gathered, gather}
-use Rattle.nibl.specs.Page.{Stored, isEnd, isGood, recordsOf, programBytes, lineOf, fits, mark, hasLine, without, with, onto}
-use Rattle.nibl.specs.Meaning.{World, Env, withVars, withSession, withInpos, on, skip, go, stop, Done, done, put, went, place, exec}
-use Rattle.nibl.specs.declared.PlaceStack.{PlaceStack}
-use Rattle.nibl.specs.declared.ForStack.{ForStack}
-use Rattle.nibl.specs.declared.Paused.{Paused}
-use Rattle.nibl.specs.declared.Paused.the-variants.{Nowhere, Start, At}
+use Rattle.nibl.specs.Record.{mark, pausedAt, withPaused, unpaused, stackless, cleared}
+use Rattle.nibl.specs.Page.{Stored, isEnd, isGood, recordsOf, programBytes, lineOf, fits, hasLine, without, with, onto}
+use Rattle.nibl.specs.Meaning.{World, Env, withSession, withInpos, on, skip, go, stop, Done, done, put, went, exec}
 use Rattle.nibl.specs.declared.Session.{Session}
 use Rattle.nibl.specs.declared.Call.{Call}
-use Rattle.nibl.specs.declared.StopLine.{StopLine}
-use Rattle.nibl.specs.declared.StopLine.the-variants as stopLine
 use Rattle.nibl.specs.declared.Answer.{Answer}
 
--- all that a call is lent, and all that it leaves
+-- All that a call is lent, and all that it leaves
 pub record Lent : Type 0 where
   pub session : Session
   pub page : List ℕ
@@ -39,7 +34,25 @@ pub record Outcome : Type 0 where
   pub memory : List ℕ
   pub output : List ℕ
 
--- How a run ended: the stop, the lines of the members it ran, what position of the page a paused run stands at, and the world then.
+abbrev pub lentAll : Session → List ℕ → List ℕ → List ℕ → List ℕ → Call → Lent
+lentAll s page memory typed′ output c = record { session = s; page = page; memory = memory; input = typed′; output = output; call = c }
+
+abbrev pub leftAll : Answer → Session → List ℕ → List ℕ → List ℕ → Outcome
+leftAll a s page memory output = record { answer = a; session = s; page = page; memory = memory; output = output }
+
+-- a call's numbers with others in their place
+abbrev pub withBudget : ℕ → Call → Call
+withBudget k c = record { inpos = c .inpos; outpos = c .outpos; sense = c .sense; budget = k }
+
+abbrev pub withPositions : ℕ → ℕ → Call → Call
+withPositions i o c = record { inpos = i; outpos = o; sense = c .sense; budget = c .budget }
+
+-- an answer: the stop, its line, the steps, and both positions
+abbrev pub answerOf : ℕ → ℕ → ℕ → ℕ → ℕ → Answer
+answerOf n line steps inpos outpos = record { stop = n; line = line; steps = steps; inpos = inpos; outpos = outpos }
+
+-- How a run ended: the stop, the lines of the members it ran, a position of the page, and the world then. The position is where
+-- the run would go on, if its stop is 0 or 14; after the stop of a statement it is the place that ends that statement.
 -- A run's steps are the lines' number.
 pub record Ran : Type 0 where
   pub stop : ℕ
@@ -54,7 +67,9 @@ ran n q w = record { stop = n; lines = []; at = q; world = w }
 abbrev pub stepped : ℕ → Ran → Ran
 stepped l r = record { stop = r .stop; lines = l ∷ r .lines; at = r .at; world = r .world }
 
--- Where the text begins that is next at a position: there, after a ":"; else in the record that stands there, if one does
+-- Where the text begins that is next at a position: there, after a ":"; else in the record that stands there, if one does.
+-- The byte before tells which: a run goes on after a place, which is a ":" within a record or the CR before a record (or the
+-- end mark), or at the page's start, with no byte before it.
 unfoldable pub textFrom : List ℕ → ℕ → Option ℕ
 textFrom page q =
     if leb 1 q && eqb (getD page (q - 1) 0) 58 then some q
@@ -68,11 +83,11 @@ abbrev pub envAt : Env → ℕ → Env
 envAt e p = record { lim = e .lim; page = e .page; input = e .input; sense = e .sense; here = p }
 
 -- what follows a step that ended so: p is the statement's place, cr that of its record's CR
-abbrev pub onward : Done → ℕ → ℕ → (ℕ → World → Ran) → Ran
-onward (done on w) p cr k = k (suc p) w
-onward (done skip w) p cr k = k (suc cr) w
-onward (done (go q) w) p cr k = k q w
-onward (done (stop n) w) p cr k = ran n p w
+abbrev pub afterStep : Done → ℕ → ℕ → (ℕ → World → Ran) → Ran
+afterStep (done on w) p cr k = k (suc p) w
+afterStep (done skip w) p cr k = k (suc cr) w
+afterStep (done (go q) w) p cr k = k q w
+afterStep (done (stop n) w) p cr k = ran n p w
 
 -- the first member of the text from a on is run, and then k. There always is one, on a good page: 5 is never given here
 abbrev pub step : Env → ℕ → World → Found Member → (ℕ → World → Ran) → Ran
@@ -80,7 +95,7 @@ step e a w nothing k = ran 5 a w
 step e a w (found m s) k =
     let n = length (lineFrom (e .page) a) in
     let p = a + (n - m .left) in
-    stepped (lineOf (e .page) p) (onward (exec (envAt e p) (m .statement) w) p (a + n) k)
+    stepped (lineOf (e .page) p) (afterStep (exec (envAt e p) (m .statement) w) p (a + n) k)
 
 -- "Past the last line it is 0 at any budget"; "budget spent and a statement still to run: paused"
 unfoldable pub runFrom : ℕ → Env → ℕ → World → Ran
@@ -88,54 +103,30 @@ runFrom zero e q w = elim (textFrom (e .page) q) [ none ↦ ran 0 q w | some a �
 runFrom (suc k) e q w =
     elim (textFrom (e .page) q) [ none ↦ ran 0 q w | some a ↦ step e a w (member (lineFrom (e .page) a)) (runFrom k e) ]
 
--- Changes of the record: "only 14 sets" a pause
-abbrev pub withPaused : Session → Paused → Session
-withPaused s p = record { vars = s .vars; flags = s .flags; gosubs = s .gosubs; dos = s .dos; fors = s .fors; paused = p }
-
-abbrev pub emptied : PlaceStack → PlaceStack
-emptied g = record { depth = 0; places = g .places }
-
-abbrev pub emptiedFor : ForStack → ForStack
-emptiedFor f = record { depth = 0; entries = f .entries }
-
-abbrev pub clearStacks : Session → Session
-clearStacks s =
-    record { vars = s .vars; flags = s .flags; gosubs = emptied (s .gosubs); dos = emptied (s .dos); fors = emptiedFor (s .fors); paused = s .paused }
-
--- "CLEAR zeroes variables and clears stacks"
-abbrev pub cleared : Session → Session
-cleared s = withVars (clearStacks s) (replicate 26 0)
-
-abbrev pub pausedAt : ℕ → Paused
-pausedAt zero = Start
-pausedAt (suc p) = At (place p)
-
 -- Outcomes
-abbrev pub outcome : ℕ → StopLine → ℕ → World → List ℕ → Outcome
-outcome n l steps w page =
-    record {
-      answer = record { stop = n; line = l; steps = steps; inpos = w .inpos; outpos = w .outpos };
-      session = w .session;
-      page = page;
-      memory = w .memory;
-      output = w .output;
-    }
+abbrev pub outcome : ℕ → ℕ → ℕ → World → List ℕ → Outcome
+outcome n l steps w page = leftAll (answerOf n l steps (w .inpos) (w .outpos)) (w .session) page (w .memory) (w .output)
+
+-- the line of an answer that has none: no line has this number
+abbrev pub noLine : ℕ
+noLine = 65535
 
 -- a stop that no program statement gave
 abbrev pub stops : ℕ → World → List ℕ → Outcome
-stops n w page = outcome n stopLine.NoLine 0 w page
+stops n w page = outcome n noLine 0 w page
 
--- "there is none for 0, for 14"
-abbrev pub stopAt : ℕ → List ℕ → StopLine
-stopAt n [] = stopLine.NoLine
-stopAt n (l ∷ []) = if eqb n 0 || eqb n 14 then stopLine.NoLine else stopLine.At (record { 0 = l })
+-- the line of the last statement that ran: "there is none for 0, for 14"
+abbrev pub stopAt : ℕ → List ℕ → ℕ
+stopAt n [] = noLine
+stopAt n (l ∷ []) = if eqb n 0 || eqb n 14 then noLine else l
 stopAt n (l ∷ m ∷ ls) = stopAt n (m ∷ ls)
 
+-- "only 14 sets" a pause
 abbrev pub pausing : ℕ → ℕ → World → World
 pausing n q w = if eqb n 14 then withSession w (withPaused (w .session) (pausedAt q)) else w
 
-abbrev pub ended : Ran → List ℕ → Outcome
-ended r page = outcome (r .stop) (stopAt (r .stop) (r .lines)) (length (r .lines)) (pausing (r .stop) (r .at) (r .world)) page
+abbrev pub runOutcome : Ran → List ℕ → Outcome
+runOutcome r page = outcome (r .stop) (stopAt (r .stop) (r .lines)) (length (r .lines)) (pausing (r .stop) (r .at) (r .world)) page
 
 -- The first refusals: "a length, position or budget outside the above", then 18, 19; 0 for none
 abbrev pub inRange : Lent → Bool
@@ -151,15 +142,15 @@ firstRefusal lim x =
     else if not (fits (x .page) (x .session)) then 19
     else 0
 
-abbrev pub worldOf : Lent → World
-worldOf x = record { session = x .session; memory = x .memory; output = x .output; outpos = x .call .outpos; inpos = x .call .inpos }
+abbrev pub lentWorld : Lent → World
+lentWorld x = record { session = x .session; memory = x .memory; output = x .output; outpos = x .call .outpos; inpos = x .call .inpos }
 
 -- "A call past its first refusals ends any pause"
 abbrev pub begun : Lent → ℕ → World
-begun x taken = withInpos (withSession (worldOf x) (withPaused (x .session) Nowhere)) (x .call .inpos + taken)
+begun x taken = withInpos (withSession (lentWorld x) (unpaused (x .session))) (x .call .inpos + taken)
 
-abbrev pub envOf : ℕ → Lent → Env
-envOf lim x = record { lim = lim; page = x .page; input = x .input; sense = x .call .sense; here = mark }
+abbrev pub lentEnv : ℕ → Lent → Env
+lentEnv lim x = record { lim = lim; page = x .page; input = x .input; sense = x .call .sense; here = mark }
 
 -- What a typed line does
 
@@ -174,7 +165,7 @@ needsProgram (goto a) = false
 needsProgram (gosub a) = false
 needsProgram (until a) = true
 needsProgram return = false
-needsProgram loop = true
+needsProgram doLoop = true
 needsProgram remark = false
 needsProgram end = false
 needsProgram (print is b) = false
@@ -187,7 +178,7 @@ needsProgram (inputText a) = true
 -- "An edit that changes the page, or replaces a line by itself, clears the three stacks"
 unfoldable pub edited : List ℕ → World → List Stored → Outcome
 edited page w rs =
-    if leb (length (programBytes rs)) (length page) then stops 0 (withSession w (clearStacks (w .session))) (onto page rs)
+    if leb (length (programBytes rs)) (length page) then stops 0 (withSession w (stackless (w .session))) (onto page rs)
     else stops 2 w page
 
 -- "digits without leading zeros, text, CR, LF"
@@ -199,47 +190,47 @@ listFrom n [] w = done on w
 listFrom n (r ∷ rs) w = elim (leb n (r .line)) [ true ↦ went (put (listed r) w) (listFrom n rs) | false ↦ listFrom n rs w ]
 
 -- after LIST, or the immediate statement, which is "not counted": a run, or the end of the line
-abbrev pub immediately : ℕ → Env → Done → Outcome
-immediately budget e (done on w) = stops 0 w (e .page)
-immediately budget e (done skip w) = stops 0 w (e .page)
-immediately budget e (done (go q) w) = ended (runFrom budget e q w) (e .page)
-immediately budget e (done (stop n) w) = stops n w (e .page)
+abbrev pub afterImmediate : ℕ → Env → Done → Outcome
+afterImmediate budget e (done on w) = stops 0 w (e .page)
+afterImmediate budget e (done skip w) = stops 0 w (e .page)
+afterImmediate budget e (done (go q) w) = runOutcome (runFrom budget e q w) (e .page)
+afterImmediate budget e (done (stop n) w) = stops n w (e .page)
 
 unfoldable pub obey : ℕ → Env → World → Typed → Outcome
 obey budget e w blank = stops 0 w (e .page)
 obey budget e w new = edited (e .page) w []
 obey budget e w clear = stops 0 (withSession w (cleared (w .session))) (e .page)
-obey budget e w run = ended (runFrom budget e 0 (withSession w (cleared (w .session)))) (e .page)
+obey budget e w run = runOutcome (runFrom budget e 0 (withSession w (cleared (w .session)))) (e .page)
 obey budget e w (delete n) =
     elim (hasLine n (recordsOf (e .page))) [ true ↦ edited (e .page) w (without n (recordsOf (e .page))) | false ↦ stops 0 w (e .page) ]
-obey budget e w (list n) = immediately budget e (listFrom n (recordsOf (e .page)) w)
+obey budget e w (list n) = afterImmediate budget e (listFrom n (recordsOf (e .page)) w)
 obey budget e w (store n t ms) = edited (e .page) w (with (record { line = n; text = t }) (recordsOf (e .page)))
-obey budget e w (immediate q) = elim (needsProgram q) [ true ↦ stops 3 w (e .page) | false ↦ immediately budget e (exec e q w) ]
+obey budget e w (immediate q) = elim (needsProgram q) [ true ↦ stops 3 w (e .page) | false ↦ afterImmediate budget e (exec e q w) ]
 
 abbrev pub obeyRead : ℕ → Env → World → Option Typed → Outcome
 obeyRead budget e w none = stops 5 w (e .page)
 obeyRead budget e w (some t) = obey budget e w t
 
 abbrev pub obeyLine : ℕ → Lent → Option Gathered → Outcome
-obeyLine lim x none = stops 7 (worldOf x) (x .page)
+obeyLine lim x none = stops 7 (lentWorld x) (x .page)
 obeyLine lim x (some g) =
     elim (g .line .long) [
       | true ↦ stops 5 (begun x (g .taken)) (x .page)
-      | false ↦ obeyRead (x .call .budget) (envOf lim x) (begun x (g .taken)) (typed (g .line .bytes))
+      | false ↦ obeyRead (x .call .budget) (lentEnv lim x) (begun x (g .taken)) (typed (g .line .bytes))
     ]
 
 -- "Two calls exist: take one typed line, and continue a paused run"
 unfoldable pub takeLineIn : ℕ → Lent → Outcome
 takeLineIn lim x =
-    elim (firstRefusal lim x) [ zero ↦ obeyLine lim x (gather lim (drop (x .call .inpos) (x .input))) | suc n ↦ stops (suc n) (worldOf x) (x .page) ]
+    elim (firstRefusal lim x) [ zero ↦ obeyLine lim x (gather lim (drop (x .call .inpos) (x .input))) | suc n ↦ stops (suc n) (lentWorld x) (x .page) ]
 
-abbrev pub continueFrom : ℕ → Lent → Paused → Outcome
-continueFrom lim x Nowhere = stops 0 (begun x 0) (x .page)
-continueFrom lim x Start = ended (runFrom (x .call .budget) (envOf lim x) 0 (begun x 0)) (x .page)
-continueFrom lim x (At p) = ended (runFrom (x .call .budget) (envOf lim x) (suc (p .0)) (begun x 0)) (x .page)
+-- by the pause's number
+abbrev pub continueFrom : ℕ → Lent → ℕ → Outcome
+continueFrom lim x zero = stops 0 (begun x 0) (x .page)
+continueFrom lim x (suc q) = runOutcome (runFrom (x .call .budget) (lentEnv lim x) q (begun x 0)) (x .page)
 
 unfoldable pub continueRunIn : ℕ → Lent → Outcome
-continueRunIn lim x = elim (firstRefusal lim x) [ zero ↦ continueFrom lim x (x .session .paused) | suc n ↦ stops (suc n) (worldOf x) (x .page) ]
+continueRunIn lim x = elim (firstRefusal lim x) [ zero ↦ continueFrom lim x (x .session .paused) | suc n ↦ stops (suc n) (lentWorld x) (x .page) ]
 
 -- "at most 72"
 abbrev pub limit : ℕ

@@ -5,9 +5,8 @@ use mathlib.Core.List.{List, [], _∷_, _++_}
 use lib.ListN.{take, getD, replicate}
 use Rattle.nibl.specs.Bytes.{bytes}
 use Rattle.nibl.specs.Page.{used}
-use Rattle.nibl.specs.Stack.{noPlace, noEntry}
-use Rattle.nibl.specs.Calls.{Lent, Outcome, takeLine}
-use Rattle.nibl.specs.declared.Paused.the-variants.{Nowhere}
+use Rattle.nibl.specs.Record.{fresh}
+use Rattle.nibl.specs.Calls.{Lent, Outcome, lentAll, takeLine}
 use Rattle.nibl.specs.declared.Session.{Session}
 
 -- what the desk sees after its lines: the stops, what was written, A's value, the memory, and the page up to TOP
@@ -23,28 +22,10 @@ pub record Row : Type 0 where
   pub memory : List ℕ
   pub seen : Seen
 
-abbrev pub freshSession : Session
-freshSession =
-    record {
-      vars = replicate 26 0;
-      flags = 0;
-      gosubs = record { depth = 0; places = replicate 8 noPlace };
-      dos = record { depth = 0; places = replicate 8 noPlace };
-      fors = record { depth = 0; entries = replicate 4 noEntry };
-      paused = Nowhere;
-    }
-
 -- one line typed, with a fresh output
 abbrev pub lentFor : Session → List ℕ → List ℕ → String → Lent
 lentFor s page mem l =
-    record {
-      session = s;
-      page = page;
-      memory = mem;
-      input = bytes l ++ (13 ∷ []);
-      output = replicate 100 0;
-      call = record { inpos = 0; outpos = 0; sense = 0; budget = 10000 };
-    }
+    lentAll s page mem (bytes l ++ (13 ∷ [])) (replicate 100 0) (record { inpos = 0; outpos = 0; sense = 0; budget = 10000 })
 
 abbrev pub look : Outcome → Seen
 look o =
@@ -69,7 +50,7 @@ freshPage = 255 ∷ 255 ∷ replicate 4094 0
 
 abbrev pub typeAll : List ℕ → List String → Seen
 typeAll mem [] = record { stops = []; written = []; a = 0; memory = mem; page = [] }
-typeAll mem (l ∷ ls) = type freshSession freshPage mem l ls
+typeAll mem (l ∷ ls) = type fresh freshPage mem l ls
 
 -- rows that keep the page, the memory and A
 abbrev pub gives : String → ℕ → String → Row

@@ -10,10 +10,10 @@ use lib.ListN.{length}
 use lib.Dec.{eqb}
 use Rattle.nibl.specs.Bytes.{if_then_else_, isSpace, isText, All}
 use Rattle.nibl.specs.Words.{Token, variable, decimal, hex, string, sign, number, command}
-use Rattle.nibl.specs.Tree.{Op, times, over, both, plus, minus, either, equal, less, greater, atMost, atLeast, unequal}
+use Rattle.nibl.specs.Tree.{Op, times, dividedBy, andBits, plus, minus, orBits, equal, less, greater, atMost, atLeast, unequal}
 use Rattle.nibl.specs.Tree.{Expr, var, const, stat, top, byteAt, invert, negate, modulo, two}
 use Rattle.nibl.specs.Tree.{Item, text, stored, value}
-use Rattle.nibl.specs.Tree.{Stmt, letVar, letStat, letByte, letCopy, letText, goto, gosub, until, return, loop, remark, end, print, ifThen, for, next, input, inputText}
+use Rattle.nibl.specs.Tree.{Stmt, letVar, letStat, letByte, letCopy, letText, goto, gosub, until, return, doLoop, remark, end, print, ifThen, for, next, input, inputText}
 use Rattle.nibl.specs.Tree.{Member, Typed, blank, new, clear, run, delete, list, store, immediate}
 
 -- which operators join factors, terms and sums
@@ -21,10 +21,10 @@ abbrev pub Joints : Type 0
 Joints = List (ℕ × Op)
 
 abbrev pub factorJoints : Joints
-factorJoints = (number "*", times) ∷ (number "/", over) ∷ (number "AND", both) ∷ []
+factorJoints = (number "*", times) ∷ (number "/", dividedBy) ∷ (number "AND", andBits) ∷ []
 
 abbrev pub termJoints : Joints
-termJoints = (number "+", plus) ∷ (number "-", minus) ∷ (number "OR", either) ∷ []
+termJoints = (number "+", plus) ∷ (number "-", minus) ∷ (number "OR", orBits) ∷ []
 
 abbrev pub sumJoints : Joints
 sumJoints =
@@ -79,8 +79,8 @@ module _ (W : List ℕ → Token → List ℕ → Type 0) where
     parted : {s t s' : List ℕ} → Key first s t → Key second t s' → Either one first second s s'
 
   pub data PrintWord : List ℕ → List ℕ → Type 0 where
-    pr : {s s' : List ℕ} → Key "PR" s s' → PrintWord s s'
-    printed : {s s' : List ℕ} → Key "PRINT" s s' → PrintWord s s'
+    shortPrint : {s s' : List ℕ} → Key "PR" s s' → PrintWord s s'
+    longPrint : {s s' : List ℕ} → Key "PRINT" s s' → PrintWord s s'
 
   pub data AnItem : List ℕ → Item → List ℕ → Type 0 where
     aString : {s s' bs : List ℕ} → W s (string bs) s' → AnItem s (text bs) s'
@@ -119,7 +119,7 @@ module _ (W : List ℕ → Token → List ℕ → Type 0) where
     aPrint : {s t u s' : List ℕ} {is : List Item} {b : Bool} → PrintWord s t → Items t is u → LastSemicolon u b s' → Statement s (print is b) s'
     anIf : {s t u x s' : List ℕ} {a : Expr} {q : Stmt} → Key "IF" s t → Relation t a u → May "THEN" u x → Statement x q s'
         → Statement s (ifThen a q) s'
-    aDo : {s s' : List ℕ} → Key "DO" s s' → Statement s loop s'
+    aDo : {s s' : List ℕ} → Key "DO" s s' → Statement s doLoop s'
     anUntil : {s t s' : List ℕ} {a : Expr} → Key "UNTIL" s t → Relation t a s' → Statement s (until a) s'
     aFor : {s t u x y z p s' : List ℕ} {v : ℕ} {a b c : Expr} → Key "FOR" s t → W t (variable v) u → Key "=" u x → Relation x a y
         → Key "TO" y z → Relation z b p → AStep p c s' → Statement s (for v a b c) s'

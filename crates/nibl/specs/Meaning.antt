@@ -3,21 +3,20 @@ use Prim.Native.Nat.{ℕ, suc, _+_, _*_, _/_, _%_}
 use mathlib.Core.Bool.{Bool, true, false, not}
 use mathlib.Core.List.{List, [], _∷_, _++_}
 use mathlib.Core.Option.{Option, none, some}
-use lib.ListN.{length, getD, set, drop}
+use lib.ListN.{length, getD, drop}
 use lib.Seq.{sets}
 use lib.Dec.{ltb, leb, eqb}
 use Rattle.nibl.specs.Bytes.{if_then_else_, bytes, notCR, front, all}
 use Rattle.nibl.specs.Tree.{Expr, var, const, stat, top, byteAt, invert, negate, modulo, two}
 use Rattle.nibl.specs.Tree.{Item, text, stored, value}
-use Rattle.nibl.specs.Tree.{Stmt, letVar, letStat, letByte, letCopy, letText, goto, gosub, until, return, loop, remark, end, print, ifThen, for, next, input, inputText}
+use Rattle.nibl.specs.Tree.{Stmt, letVar, letStat, letByte, letCopy, letText, goto, gosub, until, return, doLoop, remark, end, print, ifThen, for, next, input, inputText}
 use Rattle.nibl.specs.Read.{replied}
 use Rattle.nibl.specs.Values.{Result, is, no, Value, add16, sub16, not16, mod16, apply, isNegative, less16, printed}
 use Rattle.nibl.specs.Stack.{pushOf, popOf, pushFor, popFor}
 use Rattle.nibl.specs.Typing.{Gathered, gather}
-use Rattle.nibl.specs.Page.{find, used, mark}
+use Rattle.nibl.specs.Record.{place, mark, withVar, withFlags, withGosubs, withDos, withFors}
+use Rattle.nibl.specs.Page.{find, used}
 use Rattle.nibl.specs.declared.Place.{Place}
-use Rattle.nibl.specs.declared.PlaceStack.{PlaceStack}
-use Rattle.nibl.specs.declared.ForStack.{ForStack}
 use Rattle.nibl.specs.declared.Top.{Top}
 use Rattle.nibl.specs.declared.Top.the-variants as top
 use Rattle.nibl.specs.declared.TopFor.{TopFor}
@@ -39,25 +38,6 @@ pub record Env : Type 0 where
   pub input : List ℕ
   pub sense : ℕ
   pub here : ℕ
-
--- the record with a part changed
-abbrev pub withVars : Session → List ℕ → Session
-withVars s x = record { vars = x; flags = s .flags; gosubs = s .gosubs; dos = s .dos; fors = s .fors; paused = s .paused }
-
-abbrev pub withVar : Session → ℕ → ℕ → Session
-withVar s v x = withVars s (set (s .vars) v x)
-
-abbrev pub withFlags : Session → ℕ → Session
-withFlags s x = record { vars = s .vars; flags = x; gosubs = s .gosubs; dos = s .dos; fors = s .fors; paused = s .paused }
-
-abbrev pub withGosubs : Session → PlaceStack → Session
-withGosubs s g = record { vars = s .vars; flags = s .flags; gosubs = g; dos = s .dos; fors = s .fors; paused = s .paused }
-
-abbrev pub withDos : Session → PlaceStack → Session
-withDos s d = record { vars = s .vars; flags = s .flags; gosubs = s .gosubs; dos = d; fors = s .fors; paused = s .paused }
-
-abbrev pub withFors : Session → ForStack → Session
-withFors s f = record { vars = s .vars; flags = s .flags; gosubs = s .gosubs; dos = s .dos; fors = f; paused = s .paused }
 
 -- the world with a part changed
 abbrev pub withSession : World → Session → World
@@ -155,9 +135,6 @@ abbrev pub lineThere : Option ℕ → Result ℕ
 lineThere none = no 8
 lineThere (some q) = is q
 
-abbrev pub place : ℕ → Place
-place p = record { 0 = p }
-
 -- "RETURN to the immediate mark" is 0; else the run goes on after the place
 abbrev pub after : Place → Next
 after p = if eqb (p .0) mark then stop 0 else go (suc (p .0))
@@ -232,7 +209,7 @@ exec e (goto a) w = given (bind (eval e w a) (λ n. lineThere (find (e .page) n)
 exec e (gosub a) w = given (bind (eval e w a) (λ n. lineThere (find (e .page) n))) w (gosubTo e w)
 exec e (until a) w = given (eval e w a) w (λ x. untilBy w x (popOf (w .session .dos) .top))
 exec e return w = returnBy w (popOf (w .session .gosubs) .top)
-exec e loop w = doHere e w
+exec e doLoop w = doHere e w
 exec e remark w = done on w
 exec e end w = done (stop 20) w
 exec e (print is′ b) w = went (putItems e is′ w) (putEnd b)

@@ -9,11 +9,10 @@ use Rattle.nibl.specs.Bytes.{if_then_else_, isDigit, starts, all}
 use Rattle.nibl.specs.Tree.{Member}
 use Rattle.nibl.specs.Read.{reading}
 use Rattle.nibl.specs.Values.{digits}
+use Rattle.nibl.specs.Record.{mark}
 use Rattle.nibl.specs.declared.Place.{Place}
 use Rattle.nibl.specs.declared.ForEntry.{ForEntry}
 use Rattle.nibl.specs.declared.Session.{Session}
-use Rattle.nibl.specs.declared.Paused.{Paused}
-use Rattle.nibl.specs.declared.Paused.the-variants.{Nowhere, Start, At}
 
 -- a record of the page
 pub record Stored : Type 0 where
@@ -127,15 +126,12 @@ abbrev pub isAmong : List ℕ → ℕ → Bool
 isAmong [] p = false
 isAmong (q ∷ qs) p = eqb p q || isAmong qs p
 
--- the immediate mark, which is no position of a page
-abbrev pub mark : ℕ
-mark = 65535
-
 -- "A session record fits a page when"
-abbrev pub fitsPaused : List ℕ → Paused → Bool
-fitsPaused ps Nowhere = true
-fitsPaused ps Start = true
-fitsPaused ps (At p) = isAmong ps (p .0)
+-- the pause: nowhere, the program's start, or after a place
+abbrev pub fitsPaused : List ℕ → ℕ → Bool
+fitsPaused ps zero = true
+fitsPaused ps (suc zero) = true
+fitsPaused ps (suc (suc p)) = isAmong ps p
 
 abbrev pub fitsWith : List ℕ → Session → Bool
 fitsWith ps s =

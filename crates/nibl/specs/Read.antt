@@ -7,16 +7,16 @@ use mathlib.Core.Option.{Option, none, some}
 use lib.ListN.{length}
 use lib.Dec.{leb, eqb}
 use Rattle.nibl.specs.Bytes.{if_then_else_, isSpace, isText, isDigit, isCapital, isHexDigit, isQuotable, front, past, all, decimalValue, hexValue}
-use Rattle.nibl.specs.Words.{Token, variable, decimal, hex, string, sign, keywords, commands, placeIn, pairs, isSymbol, number, command}
+use Rattle.nibl.specs.Words.{Token, variable, decimal, hex, string, sign, keywords, commands, indexIn, pairs, isSymbol, number, command}
 use Rattle.nibl.specs.Grammar.{Joints, factorJoints, termJoints, sumJoints, jointOf}
 use Rattle.nibl.specs.Tree.{Op, Expr, var, const, stat, top, byteAt, invert, negate, modulo, two}
 use Rattle.nibl.specs.Tree.{Item, text, stored, value}
-use Rattle.nibl.specs.Tree.{Stmt, letVar, letStat, letByte, letCopy, letText, goto, gosub, until, return, loop, remark, end, print, ifThen, for, next, input, inputText}
+use Rattle.nibl.specs.Tree.{Stmt, letVar, letStat, letByte, letCopy, letText, goto, gosub, until, return, doLoop, remark, end, print, ifThen, for, next, input, inputText}
 use Rattle.nibl.specs.Tree.{Member, Typed, blank, new, clear, run, delete, list, store, immediate}
 
 -- what stands at the front of a text: nothing but spaces, no word, or a word and what follows it
 pub data Step : Type 0 where
-  ended wrong : Step
+  atEnd wrong : Step
   got : Token → List ℕ → Step
 
 abbrev pub signOr : Option ℕ → List ℕ → Step
@@ -26,7 +26,7 @@ signOr (some k) s = got (sign k) s
 abbrev pub lettersStep : List (List ℕ) → List ℕ → List ℕ → Step
 lettersStep table [] s = wrong
 lettersStep table (c ∷ []) s = got (variable (c - 65)) s
-lettersStep table (c ∷ d ∷ cs) s = signOr (placeIn table (c ∷ d ∷ cs)) s
+lettersStep table (c ∷ d ∷ cs) s = signOr (indexIn table (c ∷ d ∷ cs)) s
 
 abbrev pub digitsStep : ℕ → List ℕ → Step
 digitsStep n s = if leb n 32767 then got (decimal n) s else wrong
@@ -58,7 +58,7 @@ wordStep table b s =
     else wrong
 
 unfoldable pub stepIn : List (List ℕ) → List ℕ → Step
-stepIn table [] = ended
+stepIn table [] = atEnd
 stepIn table (b ∷ s) = elim (isSpace b) [ true ↦ stepIn table s | false ↦ wordStep table b s ]
 
 -- Readers: what was read and what follows it, or nothing
@@ -78,7 +78,7 @@ module _ {A : Type 0} where
 
   -- by the next word
   abbrev pub onStep : Step → (Token → Reader A) → Found A
-  onStep ended k = nothing
+  onStep atEnd k = nothing
   onStep wrong k = nothing
   onStep (got w s) k = k w s
 
@@ -190,17 +190,17 @@ module _ (rd : Part → Reader Expr) where
   factorOf (sign k) = choose factorCases fail k
 
   -- one more operand, by the part q, and what follows it; or none
-  abbrev pub onward : Joints → Part → (Expr → Reader Expr) → Expr → Reader Expr
-  onward js q go a s = orElse (aJoint js s) (λ o. rd q >>= (λ b. go (two o a b))) (give a) s
+  abbrev pub moreOperands : Joints → Part → (Expr → Reader Expr) → Expr → Reader Expr
+  moreOperands js q go a s = orElse (aJoint js s) (λ o. rd q >>= (λ b. go (two o a b))) (give a) s
 
   unfoldable pub part : Part → Reader Expr
   part factor s = byWord factorOf s
   part term s = (rd factor >>= (λ a. rd (factors a))) s
   part sum s = ifKey "-" (rd term >>= (λ a. rd (terms (negate a)))) (may "+" (rd term >>= (λ a. rd (terms a)))) s
   part relation s = (rd sum >>= (λ a. rd (related a))) s
-  part (factors a) s = onward factorJoints factor (λ b. rd (factors b)) a s
-  part (terms a) s = onward termJoints term (λ b. rd (terms b)) a s
-  part (related a) s = onward sumJoints sum give a s
+  part (factors a) s = moreOperands factorJoints factor (λ b. rd (factors b)) a s
+  part (terms a) s = moreOperands termJoints term (λ b. rd (terms b)) a s
+  part (related a) s = moreOperands sumJoints sum give a s
 
 -- k bounds how deep the parts nest
 unfoldable pub readN : ℕ → Part → Reader Expr
@@ -279,7 +279,7 @@ module _ (rd : Reader Stmt) where
       ∷ (number "GO", ifKey "TO" (aRelation goto) (key "SUB" (aRelation gosub)))
       ∷ (number "RETURN", give return) ∷ (number "PR", printing) ∷ (number "PRINT", printing)
       ∷ (number "IF", read relation >>= (λ a. may "THEN" (rd >>= (λ q. give (ifThen a q)))))
-      ∷ (number "DO", give loop) ∷ (number "UNTIL", aRelation until) ∷ (number "FOR", forTo)
+      ∷ (number "DO", give doLoop) ∷ (number "UNTIL", aRelation until) ∷ (number "FOR", forTo)
       ∷ (number "NEXT", aVariable >>= (λ v. give (next v))) ∷ (number "INPUT", inputting)
       ∷ (number "REM", remarking) ∷ (number "END", give end) ∷ letCases
 
@@ -302,13 +302,13 @@ unfoldable pub statement : Reader Stmt
 statement s = statementN (suc (length s)) s
 
 -- a member ends at the text's end or at a ":"
-abbrev pub ended? : Stmt → Reader Member
-ended? q s =
+abbrev pub endsMember : Stmt → Reader Member
+endsMember q s =
     if all isSpace s then found (record { statement = q; left = 0 }) []
     else key ":" (λ t. found (record { statement = q; left = suc (length t) }) t) s
 
 unfoldable pub member : Reader Member
-member = statement >>= ended?
+member = statement >>= endsMember
 
 -- no reading
 abbrev pub unread : {A : Type 0} → List ℕ → Option A
@@ -348,8 +348,8 @@ storing n s (some ms) = some (store n s ms)
 abbrev pub numbered : ℕ → List ℕ → Option Typed
 numbered n s = elim (all isSpace s) [ true ↦ some (delete n) | false ↦ storing n s (reading s) ]
 
-abbrev pub immediately : List ℕ → Option Typed
-immediately s = orElse (statement s) (λ q. alone (immediate q)) unread s
+abbrev pub aloneStatement : List ℕ → Option Typed
+aloneStatement s = orElse (statement s) (λ q. alone (immediate q)) unread s
 
 abbrev pub commandCases : List (ℕ × (List ℕ → Option Typed))
 commandCases =
@@ -357,7 +357,7 @@ commandCases =
     ∷ (command "LIST", λ s. orElse (aDecimal s) (λ n. alone (list n)) (alone (list 0)) s) ∷ (command "RUN", alone run) ∷ []
 
 abbrev pub unnumbered : List ℕ → Option Typed
-unnumbered s = orElse (onStep (stepIn commands s) signOf) (choose commandCases (λ t. immediately s)) immediately s
+unnumbered s = orElse (onStep (stepIn commands s) signOf) (choose commandCases (λ t. aloneStatement s)) aloneStatement s
 
 unfoldable pub typed : List ℕ → Option Typed
 typed s = elim (all isSpace s) [ true ↦ some blank | false ↦ orElse (aDecimal s) numbered unnumbered s ]

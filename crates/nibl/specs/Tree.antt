@@ -4,7 +4,7 @@ use mathlib.Core.List.{List}
 use mathlib.Core.Bool.{Bool}
 
 pub data Op : Type 0 where
-  times over both plus minus either : Op  -- * / AND + - OR
+  times dividedBy andBits plus minus orBits : Op  -- * / AND + - OR
   equal less greater atMost atLeast unequal : Op  -- = < > <= >= <>
 
 pub data Expr : Type 0 where
@@ -24,7 +24,7 @@ pub data Stmt : Type 0 where
   letByte letCopy : Expr → Expr → Stmt  -- "@" factor = relation, "$" factor = "$" factor
   letText : Expr → List ℕ → Stmt
   goto gosub until : Expr → Stmt
-  return loop remark end : Stmt  -- loop is DO
+  return doLoop remark end : Stmt  -- RETURN, DO, REM, END
   print : List Item → Bool → Stmt  -- whether a last ";" is there
   ifThen : Expr → Stmt → Stmt
   for : ℕ → Expr → Expr → Expr → Stmt  -- first value, limit, step

@@ -5,7 +5,7 @@ use mathlib.Core.List.{List, [], _∷_, _++_}
 use mathlib.Core.Option.{Option, none, some}
 use lib.ListN.{length, take}
 use lib.Dec.{ltb, eqb}
-use Rattle.nibl.specs.Bytes.{if_then_else_, dropped, ends, erases, discards, classOf}
+use Rattle.nibl.specs.Bytes.{if_then_else_, classDropped, classCR, classErase, classDiscard, classOf}
 
 -- the bytes kept so far, and whether one more than the limit would have been kept
 pub record Kept : Type 0 where
@@ -18,9 +18,9 @@ kept bs l = record { bytes = bs; long = l }
 -- "Bytes 0 and 10 are dropped, 95 removes the last kept byte if any, 21 throws away all kept so far"
 unfoldable pub keep : ℕ → Kept → ℕ → Kept
 keep lim k b =
-    if eqb (classOf b) dropped then k
-    else if eqb (classOf b) erases then kept (take (length (k .bytes) - 1) (k .bytes)) (k .long)
-    else if eqb (classOf b) discards then kept [] false
+    if eqb (classOf b) classDropped then k
+    else if eqb (classOf b) classErase then kept (take (length (k .bytes) - 1) (k .bytes)) (k .long)
+    else if eqb (classOf b) classDiscard then kept [] false
     else if ltb (length (k .bytes)) lim then kept (k .bytes ++ (b ∷ [])) (k .long)
     else kept (k .bytes) true
 
@@ -31,7 +31,7 @@ pub record Gathered : Type 0 where
 
 unfoldable pub gatherFrom : ℕ → Kept → ℕ → List ℕ → Option Gathered
 gatherFrom lim k n [] = none
-gatherFrom lim k n (b ∷ s) = elim (eqb (classOf b) ends) [ true ↦ some (record { line = k; taken = suc n }) | false ↦ gatherFrom lim (keep lim k b) (suc n) s ]
+gatherFrom lim k n (b ∷ s) = elim (eqb (classOf b) classCR) [ true ↦ some (record { line = k; taken = suc n }) | false ↦ gatherFrom lim (keep lim k b) (suc n) s ]
 
 unfoldable pub gather : ℕ → List ℕ → Option Gathered
 gather lim s = gatherFrom lim (kept [] false) 0 s

@@ -5,7 +5,7 @@ use mathlib.Core.List.{List, [], _∷_, _++_}
 use lib.Dec.{ltb, eqb}
 use lib.Bits.{bitAnd, bitOr}
 use Rattle.nibl.specs.Bytes.{if_then_else_}
-use Rattle.nibl.specs.Tree.{Op, times, over, both, plus, minus, either, equal, less, greater, atMost, atLeast, unequal}
+use Rattle.nibl.specs.Tree.{Op, times, dividedBy, andBits, plus, minus, orBits, equal, less, greater, atMost, atLeast, unequal}
 
 -- what was asked for, or the number of the refusal
 pub data Result (A : Type 0) : Type 0 where
@@ -68,11 +68,11 @@ not16 a = 65535 - a
 -- what an operator makes of its operands
 unfoldable pub apply : Op → ℕ → ℕ → Value
 apply times a b = is (mul16 a b)
-apply over a b = unlessZero b (quotient16 a b)
-apply both a b = is (bitAnd a b)
+apply dividedBy a b = unlessZero b (quotient16 a b)
+apply andBits a b = is (bitAnd a b)
 apply plus a b = is (add16 a b)
 apply minus a b = is (sub16 a b)
-apply either a b = is (bitOr a b)
+apply orBits a b = is (bitOr a b)
 apply equal a b = is (bit (eqb a b))
 apply less a b = is (bit (less16 a b))
 apply greater a b = is (bit (less16 b a))

@@ -26,12 +26,12 @@ abbrev pub commands : List (List ℕ)
 commands = bytes "NEW" ∷ bytes "CLEAR" ∷ bytes "LIST" ∷ bytes "RUN" ∷ []
 
 -- the first number whose spelling in the list is this one, counted from n; keywords and commands are counted from 128
-abbrev pub placeFrom : ℕ → List (List ℕ) → List ℕ → Option ℕ
-placeFrom n [] w = none
-placeFrom n (k ∷ ks) w = if same k w then some n else placeFrom (suc n) ks w
+abbrev pub indexFrom : ℕ → List (List ℕ) → List ℕ → Option ℕ
+indexFrom n [] w = none
+indexFrom n (k ∷ ks) w = if same k w then some n else indexFrom (suc n) ks w
 
-abbrev pub placeIn : List (List ℕ) → List ℕ → Option ℕ
-placeIn = placeFrom 128
+abbrev pub indexIn : List (List ℕ) → List ℕ → Option ℕ
+indexIn = indexFrom 128
 
 -- a pair's number: "the pairs <= >= <> are one word"
 abbrev pub pairs : ℕ → ℕ → Option ℕ
@@ -63,9 +63,9 @@ pub record Run (p : ℕ → Bool) (ds s : List ℕ) : Type 0 where
 pub data Word (table : List (List ℕ)) : List ℕ → Token → List ℕ → Type 0 where
   spaced : {w : Token} {s s' : List ℕ} → Word table s w s' → Word table (32 ∷ s) w s'
   letter : {c : ℕ} {s : List ℕ} → Run isCapital (c ∷ []) s → Word table (c ∷ s) (variable (c - 65)) s
-  letters : {c d k : ℕ} {cs s : List ℕ} → Run isCapital (c ∷ d ∷ cs) s → placeIn table (c ∷ d ∷ cs) ≡ some k
+  letters : {c d k : ℕ} {cs s : List ℕ} → Run isCapital (c ∷ d ∷ cs) s → indexIn table (c ∷ d ∷ cs) ≡ some k
       → Word table (c ∷ d ∷ cs ++ s) (sign k) s
-  digits : {ds s : List ℕ} → Run isDigit ds s → decimalValue 0 ds ≤ 32767 → Word table (ds ++ s) (decimal (decimalValue 0 ds)) s
+  decimalDigits : {ds s : List ℕ} → Run isDigit ds s → decimalValue 0 ds ≤ 32767 → Word table (ds ++ s) (decimal (decimalValue 0 ds)) s
   hexDigits : {ds s : List ℕ} → Run isHexDigit ds s → Word table (35 ∷ ds ++ s) (hex (hexValue 0 ds % 65536)) s
   quoted : {bs s : List ℕ} → All isQuotable bs → Word table (34 ∷ bs ++ 34 ∷ s) (string bs) s
   pair : {a b k : ℕ} {s : List ℕ} → pairs a b ≡ some k → Word table (a ∷ b ∷ s) (sign k) s
@@ -79,8 +79,8 @@ numberOr n (some k) = k
 abbrev pub numberIn : List (List ℕ) → List ℕ → ℕ
 numberIn table [] = 0
 numberIn table (a ∷ []) = a
-numberIn table (a ∷ b ∷ []) = numberOr (numberOr 0 (pairs a b)) (placeIn table (a ∷ b ∷ []))
-numberIn table (a ∷ b ∷ c ∷ s) = numberOr 0 (placeIn table (a ∷ b ∷ c ∷ s))
+numberIn table (a ∷ b ∷ []) = numberOr (numberOr 0 (pairs a b)) (indexIn table (a ∷ b ∷ []))
+numberIn table (a ∷ b ∷ c ∷ s) = numberOr 0 (indexIn table (a ∷ b ∷ c ∷ s))
 
 abbrev pub number : String → ℕ
 number name = numberIn keywords (bytes name)

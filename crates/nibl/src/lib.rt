@@ -1,16 +1,96 @@
 // The types that the promises name. A session's record is plain data, passed by value; each stack is a struct
 // whose push and pop take it and hand it back with the answer.
-ghost use Prim.Native.Nat.{_-_};
+ghost use Prim.Native.Nat.{_-_, _≤_};
 ghost use mathlib.Core.Path.{_≡_};
+ghost use lib.Dec.{eqb};
 ghost use Rattle.nibl.specs.Stack.{onTop, pushOf, topOf, popOf, pushFor, topFor, popFor};
+ghost use Rattle.nibl.specs.Record.{place, mark, positionOf, nowhere, pausedAt, pauseNumber, unpaused, stackless, cleared, partsOf, sessionOf, withFlags};
 
-// A position in the page: of the ":" that ends a statement, or of a record's CR. 65535 is the immediate mark.
+// Bytes that the rules name: what ends a typed line, a record's text and a string; what follows it in the output; what stands
+// between two statements; and the end mark, which is two of these.
+pub const CR: u8 = 13;
+
+pub const LF: u8 = 10;
+
+pub const COLON: u8 = 58;
+
+pub const END_MARK: u8 = 255;
+
+// The highest line number.
+pub const LAST_LINE: u16 = 32767;
+
+// How many bytes of a typed line, or of a reply, are kept.
+pub const LIMIT: usize = 72;
+
+// How many operations and values there is room for: a record's length is one byte, and no statement has more operations
+// than bytes.
+pub const ROOM: usize = 256;
+
+// The immediate mark: a GOSUB that was typed saves it for a place. No page is so long.
+pub const MARK: u16 = 65535;
+
+// The pause of a record that has none.
+pub const NOWHERE: u16 = 0;
+
+// The line of an answer whose stop no program statement gave. No line has this number.
+pub const NO_LINE: u16 = 65535;
+
+// A position in the page: of the ":" that ends a statement, or of a record's CR; or the immediate mark.
+#[repr(C)]
 pub struct Place(pub u16);
+
+impl Place {
+    // The one function that makes a place of a position.
+    pub fn at(position: usize) -> Place
+        requires { ⌜ position ≤ 65535 ⌝ }
+        ensures { λ r. ⌜ r ≡ place position ⌝ }
+    {
+        Place(position as u16)
+    }
+
+    // And the one that opens it.
+    pub fn position(self) -> usize
+        ensures { λ r. ⌜ r ≡ self .0 ⌝ }
+    {
+        self.0 as usize
+    }
+
+    pub fn mark() -> Place
+        ensures { λ r. ⌜ r ≡ place mark ⌝ }
+    {
+        Place(MARK)
+    }
+
+    pub fn is_mark(self) -> bool
+        ensures { λ r. ⌜ r ≡ eqb (self .0) mark ⌝ }
+    {
+        self.0 == MARK
+    }
+}
 
 // What a program line is called. It is never a place: only the line finder turns one into the other.
 pub struct LineNumber(pub u16);
 
+// Where a run goes on: at the program's start, or after a place.
+pub enum Onward {
+    Start,
+    After(Place),
+}
+
+impl Onward {
+    // As a position of the page.
+    pub fn position(self) -> usize
+        ensures { λ r. ⌜ (r ≡ positionOf self) × (r ≤ 65536) ⌝ }
+    {
+        match self {
+            Onward::Start => 0,
+            Onward::After(p) => p.position() + 1,
+        }
+    }
+}
+
 // The stack of GOSUB and that of DO: the slots below the depth are live, the oldest first.
+#[repr(C)]
 pub struct PlaceStack {
     pub depth: usize,
     pub places: [Place; 8],
@@ -101,6 +181,7 @@ impl PlaceStack {
 }
 
 // A FOR under way: its variable (0 is A, 25 is Z), its limit and step, and the place that ends the FOR.
+#[repr(C)]
 pub struct ForEntry {
     pub var: u8,
     pub limit: u16,
@@ -108,6 +189,7 @@ pub struct ForEntry {
     pub place: Place,
 }
 
+#[repr(C)]
 pub struct ForStack {
     pub depth: usize,
     pub entries: [ForEntry; 4],
@@ -182,24 +264,128 @@ impl ForStack {
     }
 }
 
-// Where a run that ran out of budget goes on: after a place, or at the program's start.
+// Where a run that ran out of budget goes on, if one did.
 pub enum Paused {
     Nowhere,
-    Start,
-    At(Place),
+    At(Onward),
 }
 
-// What the controller keeps between calls. The flags are bits 0 to 2.
+impl Paused {
+    // The pause that a record's number says: every number is one.
+    pub fn of(number: u16) -> Paused
+        ensures { λ r. ⌜ pauseNumber r ≡ number ⌝ }
+    {
+        match number {
+            0 => Paused::Nowhere,
+            1 => Paused::At(Onward::Start),
+            _ => Paused::At(Onward::After(Place(number - 2))),
+        }
+    }
+}
+
+impl Onward {
+    // The number that a record holds for a pause there.
+    pub fn pause(self) -> u16
+        requires { ⌜ positionOf self ≤ 65534 ⌝ }
+        ensures { λ r. ⌜ r ≡ pausedAt (positionOf self) ⌝ }
+    {
+        (self.position() + 1) as u16
+    }
+}
+
+// What the controller keeps between calls: numbers alone, so that any bits that a host lends are a record.
+// The flags are bits 0 to 2; the pause is read by `Paused::of`.
+#[repr(C)]
 pub struct Session {
     pub vars: [u16; 26],
     pub flags: u8,
     pub gosubs: PlaceStack,
     pub dos: PlaceStack,
     pub fors: ForStack,
-    pub paused: Paused,
+    pub paused: u16,
+}
+
+// What a statement changes besides the variables, the memory and the output's bytes: the rest of the record but its pause,
+// and a call's two positions.
+pub struct Parts {
+    pub flags: u8,
+    pub gosubs: PlaceStack,
+    pub dos: PlaceStack,
+    pub fors: ForStack,
+    pub inpos: usize,
+    pub outpos: usize,
+}
+
+impl Session {
+    // A call past its first refusals ends any pause.
+    pub fn unpaused(self) -> Session
+        ensures { λ r. ⌜ r ≡ unpaused self ⌝ }
+    {
+        let mut next = self;
+        next.paused = NOWHERE;
+        next
+    }
+
+    // An edit clears the stacks: the slots keep what they held.
+    pub fn stackless(self) -> Session
+        ensures { λ r. ⌜ r ≡ stackless self ⌝ }
+    {
+        let mut next = self;
+        next.gosubs.depth = 0;
+        next.dos.depth = 0;
+        next.fors.depth = 0;
+        next
+    }
+
+    // CLEAR zeroes the variables and clears the stacks.
+    pub fn cleared(self) -> Session
+        ensures { λ r. ⌜ r ≡ cleared self ⌝ }
+    {
+        let zeros = [0u16; 26];
+        let mut next = self.stackless();
+        next.vars = zeros;
+        next
+    }
+
+    // All but the variables and the pause, for a run.
+    pub fn parts(self, inpos: usize, outpos: usize) -> Parts
+        ensures { λ r. ⌜ r ≡ partsOf self inpos outpos ⌝ }
+    {
+        let gosubs = self.gosubs;
+        let dos = self.dos;
+        let fors = self.fors;
+        Parts {
+            flags: self.flags,
+            gosubs: gosubs,
+            dos: dos,
+            fors: fors,
+            inpos: inpos,
+            outpos: outpos,
+        }
+    }
+}
+
+impl Parts {
+    // The record again, with the variables that the run left.
+    pub fn session(self, vars: [u16; 26], paused: u16) -> Session
+        ensures { λ r. ⌜ r ≡ sessionOf self vars paused ⌝ }
+    {
+        let gosubs = self.gosubs;
+        let dos = self.dos;
+        let fors = self.fors;
+        Session {
+            vars: vars,
+            flags: self.flags,
+            gosubs: gosubs,
+            dos: dos,
+            fors: fors,
+            paused: paused,
+        }
+    }
 }
 
 // The numbers that a call is given: where to read, where to write, the sense byte and the step budget.
+#[repr(C)]
 pub struct Call {
     pub inpos: usize,
     pub outpos: usize,
@@ -207,15 +393,11 @@ pub struct Call {
     pub budget: usize,
 }
 
-// The line of the program statement that gave a stop, if one did.
-pub enum StopLine {
-    NoLine,
-    At(LineNumber),
-}
-
+// What a call answers. The line is that of the program statement that gave the stop, or NO_LINE.
+#[repr(C)]
 pub struct Answer {
     pub stop: u8,
-    pub line: StopLine,
+    pub line: u16,
     pub steps: u16,
     pub inpos: usize,
     pub outpos: usize,

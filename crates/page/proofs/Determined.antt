@@ -1,15 +1,16 @@
 -- One outcome: two answers that meet a public function's promise for the same arguments are equal, and so are all lent bytes. Assumes nothing.
-use Prim.Native.Nat.{ℕ, suc}
+use Prim.Native.Nat.{ℕ}
 use mathlib.Core.Path.{_≡_, refl, sym, ap, _∙_}
 use mathlib.Core.Bool.{Bool}
 use mathlib.Core.List.{List}
 use lib.ListN.{length, drop}
 use lib.Dec.{eqb}
 use native.Mathlib.Omega.{arith}
-use Rattle.nibl.proofs.Determined.{determined}
+use Rattle.nibl.proofs.Determined.{determined, onward-same}
 use Rattle.nibl.specs.Bytes.{if_then_else_}
 use Rattle.nibl.specs.declared.LineNumber.{LineNumber}
 use Rattle.nibl.specs.Page.{isEnd, lineAt, recordsOf, find, lineOf, used}
+use Rattle.nibl.specs.Record.{positionOf}
 use Rattle.nibl.specs.Values.{digits}
 use Rattle.nibl.specs.Calls.{textFrom}
 use Rattle.page.specs.declared.FoundLine.{FoundLine}
@@ -21,7 +22,7 @@ use Rattle.page.specs.declared.Edited.{Edited}
 use Rattle.page.specs.declared.Edited.the-variants as edited
 use Rattle.page.specs.declared.Listed.{Listed}
 use Rattle.page.specs.declared.Listed.the-variants as lines
-use Rattle.page.specs.Walk.{sizeAt, positionOf, reached, beginOf, textOf}
+use Rattle.page.specs.Walk.{sizeAt, foundAt, reached, beginOf, textOf}
 use Rattle.page.specs.Edits.{Changed, changed, moved, canMove, storeOf, deleteOf, newOf}
 use Rattle.page.specs.Listing.{Shown, shown, listing}
 
@@ -40,19 +41,14 @@ digits-determined n = determined (length (digits n))
 pub used-determined : (page : List ℕ) (a b : ℕ) → a ≡ used page → b ≡ used page → a ≡ b
 used-determined page = determined (used page)
 
-position-same : (r s : FoundLine) → positionOf r ≡ positionOf s → r ≡ s
-position-same line.Nothing line.Nothing e = refl
-position-same line.First line.First e = refl
-position-same (line.After p) (line.After q) e = let j : suc (p .0) ≡ suc (q .0) = cc in let k : p .0 ≡ q .0 = omega arith in λ i. line.After (record { 0 = k i })
-position-same line.Nothing line.First e = let z : _≡_ {A = ℕ} 0 1 = cc in absurd (omega arith)
-position-same line.Nothing (line.After q) e = let z : _≡_ {A = ℕ} 0 1 = cc in absurd (omega arith)
-position-same line.First line.Nothing e = let z : _≡_ {A = ℕ} 0 1 = cc in absurd (omega arith)
-position-same line.First (line.After q) e = let z : _≡_ {A = ℕ} 0 1 = cc in absurd (omega arith)
-position-same (line.After p) line.Nothing e = let z : _≡_ {A = ℕ} 0 1 = cc in absurd (omega arith)
-position-same (line.After p) line.First e = let z : _≡_ {A = ℕ} 0 1 = cc in absurd (omega arith)
+found-same : (r s : FoundLine) → foundAt r ≡ foundAt s → r ≡ s
+found-same line.Nothing line.Nothing e = refl
+found-same (line.At o) (line.At p) e = let k : positionOf o ≡ positionOf p = cc in let h = onward-same o p k in cc
+found-same line.Nothing (line.At p) e = let z : _≡_ {A = ℕ} 0 1 = cc in absurd (omega arith)
+found-same (line.At o) line.Nothing e = let z : _≡_ {A = ℕ} 0 1 = cc in absurd (omega arith)
 
-pub find-determined : (page : List ℕ) (n : ℕ) (r s : FoundLine) → positionOf r ≡ reached (find page n) → positionOf s ≡ reached (find page n) → r ≡ s
-find-determined page n r s p q = position-same r s (determined (reached (find page n)) (positionOf r) (positionOf s) p q)
+pub find-determined : (page : List ℕ) (n : ℕ) (r s : FoundLine) → foundAt r ≡ reached (find page n) → foundAt s ≡ reached (find page n) → r ≡ s
+find-determined page n r s p q = found-same r s (determined (reached (find page n)) (foundAt r) (foundAt s) p q)
 
 pub line-determined : (page : List ℕ) (p : ℕ) (r s : LineNumber) → r .0 ≡ lineOf page p → s .0 ≡ lineOf page p → r ≡ s
 line-determined page p r s a b = let e : r .0 ≡ s .0 = determined (lineOf page p) (r .0) (s .0) a b in λ i. record { 0 = e i }

@@ -12,10 +12,10 @@ use borrow.Author.Tests.{leb-true, eqb-true, lt-ltb}
 use Rattle.nibl.specs.Bytes.{if_then_else_, isText, All, none as no-byte, each as each-byte}
 use Rattle.nibl.specs.Page.{Stored, recordBytes, programBytes, isGood, recordsOf, lineAt, size, used, hasLine, with, positionIn, find, onto}
 use Rattle.nibl.proofs.Words.{if-split}
-use Rattle.page.specs.Walk.{stopsAt, sizeAt, reached}
+use Rattle.page.specs.Walk.{stopsAt, sizeAt, reached, LineRecord, isThere}
 use Rattle.page.specs.declared.Seat.{Seat}
 use Rattle.page.specs.declared.Edited.the-variants as edited
-use Rattle.page.specs.Edits.{seatOf, spliced, Changed, changed, canStore, storeOf, deleteOf, newOf}
+use Rattle.page.specs.Edits.{seatOf, spliced, Changed, changed, canStore, storeOf, deleteOf, newOf, Untouched}
 use Rattle.page.proofs.Walk.{by-cases, stop, size-some, met}
 use Rattle.page.proofs.Program.{both, Bytes, Storable, Program, none as empty, each}
 use Rattle.page.proofs.Laid.{good-program}
@@ -120,9 +120,6 @@ unfolding newOf
 new-bytes page b = if-split (λ (c : Changed). Bytes (c .page)) (leb 2 (length page)) (λ e. onto-bytes {lim = 0} page b empty) (λ e. b)
 
 -- An edit that is refused, or finds nothing to do, leaves the page as it was
-abbrev Untouched : List ℕ → Changed → Type 0
-Untouched page c = c .edits ≡ false → c .page ≡ page
-
 undone : (page p : List ℕ) → Untouched page (changed p edited.Done)
 undone page p e = let z : _≡_ {A = ℕ} 0 1 = cc in absurd (omega arith)
 
@@ -146,12 +143,6 @@ module _ (page : List ℕ) where
   unfolding storeOf
   no-room-untouched n t =
       if-split (λ (c : Changed). c .stop ≡ 2 → c .page ≡ page) (canStore page (seatOf page n) (length t + 4)) (λ e f. absurd (omega arith)) (λ e f. refl)
-
--- a record of line n stands at q
-pub record LineRecord (page : List ℕ) (n q : ℕ) : Type 0 where
-  pub inside : q + 3 ≤ length page
-  pub line : lineAt (drop q page) ≡ n
-  pub there : stopsAt (drop q page) ≡ false
 
 found : (k : ℕ) (page : List ℕ) (n at q : ℕ) → length page - at < k → positionIn n at (recordsOf (drop at page)) ≡ some q → LineRecord page n q
 found zero page n at q h e = absurd (omega arith)
@@ -182,10 +173,6 @@ reached-all page n h = go (find page n) (λ q e. find-record page n q e)
     go (some q) k = rw (lt-ltb q 65536 (omega (arith, k q refl .inside)))
 
 -- and it finds the lines that are there
-abbrev pub isThere : Option ℕ → Bool
-isThere none = false
-isThere (some q) = true
-
 there-has : (n at : ℕ) (rs : List Stored) → isThere (positionIn n at rs) ≡ hasLine n rs
 there-has n at [] = refl
 there-has n at (r ∷ rs) =

@@ -12,18 +12,8 @@ use lib.Dec.{leb, eqb}
 use borrow.Author.Tests.{le-leb, leb-true, eqb-true, ne-eqb, le-ltb}
 use Rattle.nibl.specs.Page.{Stored, recordBytes, programBytes, isEnd, lineAt, lengthAt, textAt, isStorable, isRecord, goodN, isGood, recordsOf, size, usedBy}
 use Rattle.page.specs.Walk.{stopsAt, recordAt}
+pub use Rattle.page.specs.Standing.{Bytes, Storable}
 use Rattle.page.proofs.Walk.{by-cases, stop, step, size-is}
-
--- every one is a byte, as in a slice
-abbrev pub Bytes : List ℕ → Type 0
-Bytes p = (i : ℕ) → getD p i 0 < 256
-
--- a record that a page may hold
-pub record Storable (lim : ℕ) (r : Stored) : Type 0 where
-  pub number : r .line ≤ 32767
-  pub some : 1 ≤ length (r .text)
-  pub short : length (r .text) ≤ 251
-  pub text : isStorable lim (r .line) (r .text) ≡ true
 
 -- the records of a good page, which rise from low on
 pub data Program (lim : ℕ) : ℕ → List Stored → Type 0 where

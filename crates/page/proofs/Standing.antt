@@ -22,6 +22,7 @@ use Rattle.nibl.proofs.Statements.{statement-left, left-short}
 use Rattle.nibl.proofs.Lines.{reading-sound}
 use Rattle.nibl.proofs.Ends.{text-notCR, Followed, first, later, After, after, reading-after, Begins, alone, before, reading-begins}
 use Rattle.page.specs.Standing.{Stands, LiesIn}
+pub use Rattle.page.specs.Standing.{Ready, Follows, nothing, text}
 use Rattle.page.proofs.Walk.{by-cases, or-right, first-at}
 use Rattle.page.proofs.Stored.{stored-read, stored-text, stored-short}
 use Rattle.page.proofs.Laid.{Whole, Laid, ends, laid, laid-room, good-laid}
@@ -79,16 +80,6 @@ followed-within : {ms rest : List Member} {k : ℕ} (b n : ℕ) → Followed ms 
 followed-within b n (first {m = m} {ms = ms} e) p h = or-right (eqb p (b + (n - m .left))) (isAmong (endsFrom b n ms) p) h
 followed-within b n (later {m = m} {ms = ms} f) p h = or-right (eqb p (b + (n - m .left))) (isAmong (endsFrom b n ms) p) (followed-within b n f p h)
 
--- What a run finds at a text: a first member, whose end and CR are places. The text is within the limit and on the page
-pub record Ready (lim : ℕ) (page : List ℕ) (a : ℕ) : Type 0 where
-  pub begins : Member
-  pub rest : List ℕ
-  pub finds : member (lineFrom page a) ≡ found begins rest
-  pub end : isAmong (placesOf page) (a + (length (lineFrom page a) - begins .left)) ≡ true
-  pub cr : isAmong (placesOf page) (a + length (lineFrom page a)) ≡ true
-  pub short : length (lineFrom page a) ≤ lim
-  pub inside : a + length (lineFrom page a) < length page
-
 members-some : {s : List ℕ} {P : Type 0} → {l : List Member} → Members W s l → ((m : Member) (ms : List Member) → l ≡ m ∷ ms → P) → P
 members-some (lastMember p a) f = f _ _ refl
 members-some (moreMembers p k m) f = f _ _ refl
@@ -116,11 +107,6 @@ module _ {lim a : ℕ} {page : List ℕ} (r : Ready lim page a) where
   -- and whichever was found, its end is a place
   pub ready-end : (m : Member) (s : List ℕ) → member (lineFrom page a) ≡ found m s → isAmong (placesOf page) (a + (length (lineFrom page a) - m .left)) ≡ true
   ready-end m s e = let f = r .finds in let same : r .begins ≡ m = cc in rw same at (r .end)
-
--- At a position nothing follows, or a text does that a run can read
-pub data Follows (lim : ℕ) (page : List ℕ) (q : ℕ) : Type 0 where
-  nothing : textFrom page q ≡ none → Follows lim page q
-  text : {a : ℕ} → textFrom page q ≡ some a → Ready lim page a → Follows lim page q
 
 -- what a text that follows is: the one that was found
 follows-ready : {lim q a : ℕ} {page : List ℕ} → Follows lim page q → textFrom page q ≡ some a → Ready lim page a

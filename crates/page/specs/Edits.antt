@@ -8,7 +8,8 @@ use lib.Seq.{paste}
 use lib.Dec.{ltb, leb, eqb}
 use Rattle.nibl.specs.Bytes.{if_then_else_}
 use Rattle.nibl.specs.Page.{Stored, recordBytes, recordsOf, size, used, usedBy, onto}
-use Rattle.nibl.specs.Calls.{Outcome, stops, clearStacks}
+use Rattle.nibl.specs.Calls.{Outcome, stops}
+use Rattle.nibl.specs.Record.{stackless}
 use Rattle.nibl.specs.Meaning.{World, withSession}
 use Rattle.page.specs.declared.Seat.{Seat}
 use Rattle.page.specs.declared.Edited.{Edited}
@@ -49,6 +50,10 @@ pub record Changed : Type 0 where
   pub stop : ℕ
   pub edits : Bool
 
+-- an edit that is refused, or finds nothing to do, leaves the page as it was
+abbrev pub Untouched : List ℕ → Changed → Type 0
+Untouched page c = c .edits ≡ false → c .page ≡ page
+
 -- what each answer says
 abbrev pub changed : List ℕ → Edited → Changed
 changed p edited.Done = record { page = p; stop = 0; edits = true }
@@ -78,5 +83,5 @@ newOf page = if leb 2 (length page) then changed (onto page []) edited.Done else
 -- the call that ends with an edit
 abbrev pub outcomeOf : World → Changed → Outcome
 outcomeOf w c =
-    if c .edits then stops (c .stop) (withSession w (clearStacks (w .session))) (c .page)
+    if c .edits then stops (c .stop) (withSession w (stackless (w .session))) (c .page)
     else stops (c .stop) w (c .page)

@@ -10,23 +10,38 @@ ghost use lib.ListN.{length, getD, drop};
 ghost use lib.Seq.{paste};
 ghost use Rattle.nibl.specs.Bytes.{if_then_else_};
 ghost use Rattle.nibl.specs.Page.{recordBytes, isEnd, find, lineAt, lengthAt, lineOf, used, usedBy, recordsOf};
+ghost use Rattle.nibl.specs.Record.{positionOf};
 ghost use Rattle.nibl.specs.Calls.{lineFrom, textFrom, listed};
 ghost use Rattle.nibl.specs.Values.{digits};
 ghost use Rattle.value.specs.Writes.{Writes};
 ghost use Rattle.page.specs.Edits.{Seated, moved, canMove, spliced, changed, storeOf, deleteOf, newOf};
 ghost use Rattle.page.specs.Listing.{shown, listing, Here};
-ghost use Rattle.page.specs.Walk.{stopsAt, sizeAt, recordAt, cut, positionOf, reached, beginOf, textOf};
+ghost use Rattle.page.specs.Walk.{stopsAt, sizeAt, recordAt, cut, reached, foundAt, beginOf, textOf};
+use nibl::COLON;
+use nibl::CR;
+use nibl::END_MARK;
+use nibl::LF;
 use nibl::LineNumber;
+use nibl::Onward;
 use nibl::Place;
 use value::Wrote;
 use value::write_digits;
 use value::write_item;
 
-// Where a line's record stands: at the program's start, or after the place that ends the record before it.
+// A record's bytes before its text: the number and the length; and all but the text: those and the CR.
+const HEAD: usize = 3;
+
+const FRAME: usize = 4;
+
+// The shortest record and the longest: a text has a byte at least, and the length is one byte.
+const LEAST: usize = 5;
+
+const MOST: usize = 255;
+
+// Where a run goes on to come to a line: at the program's start, or after the place that ends the record before it.
 pub enum FoundLine {
     Nothing,
-    First,
-    After(Place),
+    At(Onward),
 }
 
 // Where the next text begins, if there is one.
@@ -35,10 +50,10 @@ pub enum Begins {
     At(usize),
 }
 
-// Which bytes the running statement is in, and from where on.
+// Where the running statement is: in the page, from a position on, or in the typed line.
 pub enum Where {
     Page(usize),
-    Line(usize),
+    Line,
 }
 
 // Where a line's record stands or is to stand, and how many bytes of that line are there.
@@ -72,10 +87,10 @@ fn is_mark(page: &[u8], at: usize) -> bool
     requires { ⌜ at + 2 ≤ length (now page) ⌝ }
     ensures { λ r. ⌜ r ≡ isEnd (drop at (now (page .entry))) ⌝ }
 {
-    if page[at] != 255 {
+    if page[at] != END_MARK {
         return false;
     }
-    page[at + 1] == 255
+    page[at + 1] == END_MARK
 }
 
 // Whether the end mark stands at `at`.
@@ -106,7 +121,7 @@ fn stands(page: &[u8], at: usize) -> bool
     if is_mark(page, at) {
         return false;
     }
-    5 <= page[at + 2]
+    LEAST <= length_at(page, at)
 }
 
 // The length byte of the record at `at`.
@@ -186,20 +201,20 @@ pub fn used_bytes(page: &[u8]) -> usize
 
 // A record's position, by the place before it. Past what a place can name there is none.
 fn found_at(at: usize) -> FoundLine
-    ensures { λ r. ⌜ positionOf r ≡ reached (some at) ⌝ }
+    ensures { λ r. ⌜ foundAt r ≡ reached (some at) ⌝ }
 {
     if at == 0 {
-        return FoundLine::First;
+        return FoundLine::At(Onward::Start);
     }
     if at < 65536 {
-        return FoundLine::After(Place((at - 1) as u16));
+        return FoundLine::At(Onward::After(Place::at(at - 1)));
     }
     FoundLine::Nothing
 }
 
 // The line finder, which alone turns a line number into a place.
 pub fn find_line(page: &[u8], number: LineNumber) -> FoundLine
-    ensures { λ r. ⌜ positionOf r ≡ reached (find (now (page .entry)) (number .0)) ⌝ }
+    ensures { λ r. ⌜ foundAt r ≡ reached (find (now (page .entry)) (number .0)) ⌝ }
 {
     let n = number.0;
     let mut at: usize = 0;
@@ -212,11 +227,10 @@ pub fn find_line(page: &[u8], number: LineNumber) -> FoundLine
     FoundLine::Nothing
 }
 
-// The line of the record that a place lies in; 0 past the records.
-pub fn line_of(page: &[u8], place: Place) -> LineNumber
-    ensures { λ r. ⌜ r .0 ≡ lineOf (now (page .entry)) (place .0) ⌝ }
+// The line of the record that the position p lies in; 0 past the records.
+fn line_around(page: &[u8], p: usize) -> LineNumber
+    ensures { λ r. ⌜ r .0 ≡ lineOf (now (page .entry)) p ⌝ }
 {
-    let p = place.0 as usize;
     let mut at: usize = 0;
     let mut size = size_at(page, at);
     while 0 < size {
@@ -229,13 +243,20 @@ pub fn line_of(page: &[u8], place: Place) -> LineNumber
     LineNumber(0)
 }
 
+// The line of the record that a place lies in.
+pub fn line_of(page: &[u8], place: Place) -> LineNumber
+    ensures { λ r. ⌜ r .0 ≡ lineOf (now (page .entry)) (place .0) ⌝ }
+{
+    line_around(page, place.position())
+}
+
 // Where the text from `at` on ends: at the next CR, or at the end.
 fn text_end(s: &[u8], at: usize) -> usize
     ensures { λ r. ⌜ r ≡ at + length (lineFrom (now (s .entry)) at) ⌝ }
 {
     let mut e = at;
     while e < s.len() {
-        if s[e] == 13 {
+        if s[e] == CR {
             return e;
         }
         e += 1;
@@ -260,7 +281,7 @@ pub fn running<'a>(page: &'a [u8], line: &'a [u8], at: Where) -> &'a [u8]
 {
     match at {
         Where::Page(a) => text_at(page, a),
-        Where::Line(a) => text_at(line, a),
+        Where::Line => line,
     }
 }
 
@@ -271,21 +292,21 @@ fn after_colon(page: &[u8], at: usize) -> bool
     if at < 1 {
         return false;
     }
-    byte_at(page, at - 1) == 58
+    byte_at(page, at - 1) == COLON
 }
 
-// Where the text begins that is next at a position.
-pub fn text_from(page: &[u8], position: u32) -> Begins
-    ensures { λ r. ⌜ beginOf r ≡ textFrom (now (page .entry)) position ⌝ }
+// Where the text begins that is next.
+pub fn text_from(page: &[u8], from: Onward) -> Begins
+    ensures { λ r. ⌜ beginOf r ≡ textFrom (now (page .entry)) (positionOf from) ⌝ }
 {
-    let at = position as usize;
+    let at = from.position();
     if after_colon(page, at) {
         return Begins::At(at);
     }
     if is_end(page, at) {
         return Begins::Nowhere;
     }
-    Begins::At(at + 3)
+    Begins::At(at + HEAD)
 }
 
 // The walk to a line's seat.
@@ -385,9 +406,9 @@ fn put_record(s: &mut [u8], number: LineNumber, text: &[u8])
     let x = number.0;
     s[0] = (x / 256) as u8;
     s[1] = (x % 256) as u8;
-    s[2] = (n + 4) as u8;
-    put_text(s, 3, text);
-    s[3 + n] = 13;
+    s[2] = (n + FRAME) as u8;
+    put_text(s, HEAD, text);
+    s[HEAD + n] = CR;
 }
 
 // On the page from a seat on: `gone` bytes go, a record comes, and the `rest` behind them moves.
@@ -395,7 +416,7 @@ fn put_in(s: &mut [u8], gone: usize, rest: usize, number: LineNumber, text: &[u8
     requires { ⌜ (gone + rest ≤ length (now s)) × ((length (now text) + 4 ≤ 255) × (length (now text) + 4 + rest ≤ length (now s))) ⌝ }
     ensures { λ _. ⌜ now (s .exit) ≡ spliced (now (s .entry)) 0 gone (gone + rest) (recordBytes (record { line = number .0; text = now (text .entry) })) ⌝ }
 {
-    let size = text.len() + 4;
+    let size = text.len() + FRAME;
     shift(s, gone, size, rest);
     put_record(s, number, text);
 }
@@ -412,8 +433,8 @@ pub fn store_line(page: &mut [u8], number: LineNumber, text: &[u8]) -> Edited
     if room < top {
         return Edited::NoRoom;
     }
-    let size = text.len() + 4;
-    if 255 < size {
+    let size = text.len() + FRAME;
+    if MOST < size {
         return Edited::NoRoom;
     }
     let kept = top - gone;
@@ -451,8 +472,8 @@ pub fn new_page(page: &mut [u8]) -> Edited
     if page.len() < 2 {
         return Edited::NoRoom;
     }
-    page[0] = 255;
-    page[1] = 255;
+    page[0] = END_MARK;
+    page[1] = END_MARK;
     Edited::Done
 }
 
@@ -492,10 +513,10 @@ fn list_line(page: &[u8], at: usize, size: usize, output: &mut [u8], pos: usize)
     }
     write_digits(output, pos, line);
     let a = pos + count;
-    write_item(output, a, &page[at + 3..at + size - 1]);
-    let e = a + size - 4;
-    output[e] = 13;
-    output[e + 1] = 10;
+    write_item(output, a, &page[at + HEAD..at + size - 1]);
+    let e = a + size - FRAME;
+    output[e] = CR;
+    output[e + 1] = LF;
     Wrote::To(e + 2)
 }
 

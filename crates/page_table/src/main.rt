@@ -11,6 +11,7 @@ ghost use lib.ListN.{length};
 use letter::Gathering;
 use line::LineRead;
 use nibl::LineNumber;
+use nibl::Onward;
 use page::Edited;
 use page::FoundLine;
 use page::Listed;
@@ -52,14 +53,20 @@ fn show_end(answer: Edited) {
     }
 }
 
+fn show_onward(o: Onward) {
+    match o {
+        Onward::Start => say(b" first"),
+        Onward::After(p) => {
+            say(b" ");
+            io::print_decimal(1, p.position() as u64);
+        }
+    }
+}
+
 fn show_place(page: &[u8], n: LineNumber) {
     match page::find_line(page, n) {
         FoundLine::Nothing => say(b" -"),
-        FoundLine::First => say(b" first"),
-        FoundLine::After(p) => {
-            say(b" ");
-            io::print_decimal(1, p.0 as u64);
-        }
+        FoundLine::At(o) => show_onward(o),
     }
 }
 

@@ -16,7 +16,7 @@ use Rattle.nibl.specs.Values.{digits}
 use Rattle.nibl.specs.Page.{isEnd, lineAt, lengthAt, textAt, hasReading, isStorable, isRecord, goodN}
 use Rattle.page.proofs.Walk.{by-cases}
 use Rattle.page.proofs.Program.{record-known, both}
-use Rattle.places.specs.Whole.{isWhole, wholeSize, recordSize}
+use Rattle.places.specs.Whole.{isWholeRecord, wholeSize, recordSize}
 
 -- a text that a page may hold
 pub starts-none : (p : ℕ → Bool) (t : List ℕ) → length t < 1 → starts p t ≡ false
@@ -78,16 +78,16 @@ module _ (q : List ℕ) where
   whole-short h = by-cases (leb 5 (lengthAt q)) (λ e. let l = leb-true 5 (lengthAt q) e in whole-cut (omega arith)) (λ e. whole-small (leb-false 5 (lengthAt q) e))
 
   -- what is known where one was found
-  pub record Found : Type 0 where
+  pub record WholeRecord : Type 0 where
     pub long : wholeSize q ≡ lengthAt q
     pub least : 5 ≤ lengthAt q
     pub inside : lengthAt q ≤ length q
     pub cr : getD q (lengthAt q - 1) 0 ≡ 13
 
-  pub whole-found : 0 < wholeSize q → Found
+  pub whole-found : 0 < wholeSize q → WholeRecord
   unfolding wholeSize
   whole-found h =
-      by-cases (isWhole q)
+      by-cases (isWholeRecord q)
       (λ e.
       let a = both (leb 5 (lengthAt q)) _ e in
       let b = both (leb (lengthAt q) (length q)) _ (a .1) in
@@ -120,12 +120,12 @@ module _ (q : List ℕ) where
     pub record-above : 32767 < lineAt q → recordSize lim low q ≡ 0
     record-above h = record-not (above h)
 
-    storable : Found → low ≤ lineAt q → lineAt q ≤ 32767 → isRecord lim low q ≡ isStorable lim (lineAt q) (textAt q)
+    storable : WholeRecord → low ≤ lineAt q → lineAt q ≤ 32767 → isRecord lim low q ≡ isStorable lim (lineAt q) (textAt q)
     unfolding isRecord
     storable f h l =
         rw (le-leb low (lineAt q) h, le-leb (lineAt q) 32767 l, le-leb 5 (lengthAt q) (f .least), le-leb (lengthAt q) (length q) (f .inside), eq-eqb (getD q (lengthAt q - 1) 0) 13 (f .cr))
 
-    pub record-text : Found → low ≤ lineAt q → lineAt q ≤ 32767 → recordSize lim low q ≡ (if isStorable lim (lineAt q) (textAt q) then lengthAt q else 0)
+    pub record-text : WholeRecord → low ≤ lineAt q → lineAt q ≤ 32767 → recordSize lim low q ≡ (if isStorable lim (lineAt q) (textAt q) then lengthAt q else 0)
     unfolding recordSize
     record-text f h l = rw (storable f h l)
 
@@ -167,12 +167,12 @@ module _ (lim : ℕ) where
         (λ f. rw (e, f, goodN))
 
     -- a record that may stand here: the page is good if it is so from the next one on
-    pub record Next (n : ℕ) : Type 0 where
+    pub record NextRecord (n : ℕ) : Type 0 where
       pub least : 5 ≤ n
       pub inside : n ≤ length q
       pub good : goodFrom low q ≡ goodFrom (suc (lineAt q)) (drop n q)
 
-    pub good-next : (n : ℕ) → isEnd q ≡ false → n ≡ recordSize lim low q → 0 < n → Next n
+    pub good-next : (n : ℕ) → isEnd q ≡ false → n ≡ recordSize lim low q → 0 < n → NextRecord n
     unfolding goodN
     good-next n e f h =
         let k = known low q (omega arith) in

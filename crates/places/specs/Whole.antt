@@ -13,11 +13,11 @@ pub record Roomy (text ops : List ℕ) : Type 0 where
   pub short : length text ≤ 251
 
 -- the bytes that the length byte names are there, and a CR ends them
-abbrev pub isWhole : List ℕ → Bool
-isWhole q = leb 5 (lengthAt q) && (leb (lengthAt q) (length q) && eqb (getD q (lengthAt q - 1) 0) 13)
+abbrev pub isWholeRecord : List ℕ → Bool
+isWholeRecord q = leb 5 (lengthAt q) && (leb (lengthAt q) (length q) && eqb (getD q (lengthAt q - 1) 0) 13)
 
 unfoldable pub wholeSize : List ℕ → ℕ
-wholeSize q = if isWhole q then lengthAt q else 0
+wholeSize q = if isWholeRecord q then lengthAt q else 0
 
 -- how many bytes a record has that a good page may hold here; 0 where none stands
 unfoldable pub recordSize : ℕ → ℕ → List ℕ → ℕ

@@ -10,7 +10,10 @@ ghost use Rattle.page.specs.Walk.{sizeAt};
 ghost use Rattle.places.specs.Whole.{Roomy, wholeSize, recordSize};
 use line::EndRead;
 use line::ListRead;
+use nibl::CR;
+use nibl::LAST_LINE;
 use nibl::Place;
+use nibl::ROOM;
 
 // Whether a text has a reading as a statement list.
 fn reads(text: &[u8], ops: &mut [u32]) -> bool
@@ -74,7 +77,7 @@ fn whole_size(page: &[u8], at: usize) -> usize
     if left < size {
         return 0;
     }
-    if page[at + size - 1] != 13 {
+    if page[at + size - 1] != CR {
         return 0;
     }
     size
@@ -93,7 +96,7 @@ fn record_size(page: &[u8], at: usize, low: u32, lim: usize, ops: &mut [u32]) ->
     if (line as u32) < low {
         return 0;
     }
-    if 32767 < line {
+    if LAST_LINE < line {
         return 0;
     }
     let n = size - 4;
@@ -107,7 +110,7 @@ fn record_size(page: &[u8], at: usize, low: u32, lim: usize, ops: &mut [u32]) ->
 pub fn is_good(page: &[u8], lim: usize) -> bool
     ensures { λ r. ⌜ r ≡ isGood lim (now (page .entry)) ⌝ }
 {
-    let mut ops = [0u32; 256];
+    let mut ops = [0u32; ROOM];
     let mut at: usize = 0;
     let mut low: u32 = 0;
     while !page::is_end(page, at) {
@@ -129,7 +132,7 @@ fn ends_in(page: &[u8], at: usize, size: usize, i: usize) -> bool
     if i < 3 {
         return false;
     }
-    let mut ops = [0u32; 256];
+    let mut ops = [0u32; ROOM];
     ends_at(&page[at + 3..at + size - 1], i - 3, &mut ops)
 }
 
@@ -137,7 +140,7 @@ fn ends_in(page: &[u8], at: usize, size: usize, i: usize) -> bool
 pub fn is_place(page: &[u8], place: Place) -> bool
     ensures { λ r. ⌜ r ≡ isAmong (placesOf (now (page .entry))) (place .0) ⌝ }
 {
-    let p = place.0 as usize;
+    let p = place.position();
     let mut at: usize = 0;
     let mut size = page::size_at(page, at);
     while 0 < size {

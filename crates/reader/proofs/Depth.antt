@@ -5,8 +5,10 @@ use native.Mathlib.Omega.{arith}
 use lib.ListN.{length, length-append}
 use Rattle.nibl.specs.Tree.{Expr, var, const, stat, top, byteAt, invert, negate, modulo, two}
 use Rattle.nibl.specs.Tree.{Item, text, stored, value}
-use Rattle.nibl.specs.Tree.{Stmt, letVar, letStat, letByte, letCopy, letText, goto, gosub, until, return, loop, remark, end, print, ifThen, for, next, input, inputText}
-use Rattle.relation.specs.Code.{values, op, opNumber}
+use Rattle.nibl.specs.Tree.{Stmt, letVar, letStat, letByte, letCopy, letText, goto, gosub, until, return, doLoop, remark, end, print, ifThen, for, next, input, inputText}
+use Rattle.relation.specs.Code.{values}
+use Rattle.codes.specs.Codes.{op}
+use Rattle.codes.specs.Operators.{opNumber}
 use Rattle.reader.specs.Code.{texts, itemCode, itemsCode, endCode, compile}
 use Rattle.reader.specs.Depth.{valueDepth, itemDepth, itemsDepth, depth}
 
@@ -66,7 +68,7 @@ statement-depth (goto a) = one-more _ (values a) _ (value-depth a)
 statement-depth (gosub a) = one-more _ (values a) _ (value-depth a)
 statement-depth (until a) = one-more _ (values a) _ (value-depth a)
 statement-depth return = omega arith
-statement-depth loop = omega arith
+statement-depth doLoop = omega arith
 statement-depth remark = omega arith
 statement-depth end = omega arith
 statement-depth (print is b) = front _ (itemsCode is) _ (items-depth is)

@@ -8,20 +8,20 @@ use denote.Enum.Declared.{tagOf}
 use types.Run.{OneOf, miss}
 use lib.ListN.{length, drop, length-append, length-drop}
 use lib.Dec.{leb}
-use Rattle.nibl.specs.Words.{Token, variable, decimal, hex, string, sign, keywords, Word, spaced, letter, letters, digits, hexDigits, quoted, pair, symbol}
+use Rattle.nibl.specs.Words.{Token, variable, decimal, hex, string, sign, keywords, Word, spaced, letter, letters, decimalDigits, hexDigits, quoted, pair, symbol}
 use Rattle.nibl.specs.Read.{Step, stepIn, nothing, Reader, onStep, byWord, variableOf, stringOf, signOf, aVariable, aString, aSign, fail}
 use Rattle.nibl.proofs.Words.{word-sound, of-pairs, no-symbol}
 use Rattle.word.specs.declared.Cursor.{Cursor}
 use Rattle.word.specs.declared.Word.{Word as Read}
 use Rattle.word.specs.declared.Word.the-variants as word
 use Rattle.word.proofs.Word.{the-type as word-type}
-use Rattle.word.specs.Found.{stepOf, Stands}
+use Rattle.word.specs.Found.{firstKeyword, stepOf, WordIs}
 use Rattle.relation.specs.Makes.{need, Leads, onto, Over, Stood, stood, Absent, stopped, absent, SignIs, nowhere, another}
 use Rattle.relation.specs.declared.Made.{Made}
 use Rattle.relation.specs.declared.Made.the-variants.{Next, NoReading}
 use Rattle.relation.specs.declared.Signed.the-variants as signed
 use Rattle.relation.proofs.Signs.{over-here}
-use Rattle.reader.specs.Forms.{halted, Heads, heads, Unkind, atEnd, noWord, aDecimal, aHex, Headless, headless, KindIs, Unless, unless, KeyedIs, Long}
+use Rattle.reader.specs.Forms.{halted, Heads, heads, Unkind, textEnd, noWord, aDecimal, aHex, Headless, headless, KindIs, Unless, unless, KeyedIs, Long}
 use Rattle.reader.specs.declared.Kind.{Kind}
 use Rattle.reader.specs.declared.Kind.the-variants as kind
 use Rattle.reader.specs.declared.Keyed.the-variants as keyed
@@ -34,20 +34,20 @@ unkind text (word.Decimal n p) k = aDecimal
 unkind text (word.Hex n p) k = aHex
 unkind text (word.Text i j p) k = absurd (miss (1 ∷ 2 ∷ 5 ∷ 6 ∷ []) 3 tt k)
 unkind text (word.Sign n p) k = absurd (miss (1 ∷ 2 ∷ 5 ∷ 6 ∷ []) 4 tt k)
-unkind text word.End k = atEnd
+unkind text word.End k = textEnd
 unkind text word.Wrong k = noWord
 
 module _ {text : List ℕ} {r : Made} {c : Cursor} {o : ℕ} (e : r ≡ Next c o) where
-  pub kind-variable : {v : ℕ} {p : Cursor} → Stands (stepIn keywords) text (c .at) (word.Variable v p) → KindIs text r (kind.Variable v (Next p o))
+  pub kind-variable : {v : ℕ} {p : Cursor} → WordIs (stepIn keywords) text (c .at) (word.Variable v p) → KindIs text r (kind.Variable v (Next p o))
   kind-variable h = rw e (heads (sym (h .same)) (h .inside .0) (h .inside .1))
 
-  pub kind-text : {i j : ℕ} {p : Cursor} → Stands (stepIn keywords) text (c .at) (word.Text i j p) → KindIs text r (kind.Text i j (Next p o))
+  pub kind-text : {i j : ℕ} {p : Cursor} → WordIs (stepIn keywords) text (c .at) (word.Text i j p) → KindIs text r (kind.Text i j (Next p o))
   kind-text h = rw e (heads (sym (h .same)) (h .inside .0) (h .inside .1), h .inside .2, omega (arith, h .inside .1, h .inside .3))
 
-  pub kind-sign : {k : ℕ} {p : Cursor} → Stands (stepIn keywords) text (c .at) (word.Sign k p) → KindIs text r (kind.Sign k (Next p o))
+  pub kind-sign : {k : ℕ} {p : Cursor} → WordIs (stepIn keywords) text (c .at) (word.Sign k p) → KindIs text r (kind.Sign k (Next p o))
   kind-sign h = rw e (heads (sym (h .same)) (h .inside .0) (h .inside .1))
 
-  pub kind-other : (w : Read) → Stands (stepIn keywords) text (c .at) w → OneOf (1 ∷ 2 ∷ 5 ∷ 6 ∷ []) (tagOf word-type w) → KindIs text r kind.Other
+  pub kind-other : (w : Read) → WordIs (stepIn keywords) text (c .at) w → OneOf (1 ∷ 2 ∷ 5 ∷ 6 ∷ []) (tagOf word-type w) → KindIs text r kind.Other
   kind-other w h k = rw e (headless (rw (h .same) at (unkind text w k)))
 
 pub kind-none : {text : List ℕ} {r : Made} → r ≡ NoReading → KindIs text r kind.Other
@@ -55,7 +55,7 @@ kind-none e = rw e halted
 
 -- Readers by the next word
 no-kind : {A : Type 0} (k : Token → Reader A) {s : Step} → ((n : ℕ) → k (decimal n) ≡ fail) → ((n : ℕ) → k (hex n) ≡ fail) → Unkind s → onStep s k ≡ nothing
-no-kind k f g atEnd = refl
+no-kind k f g textEnd = refl
 no-kind k f g noWord = refl
 no-kind k f g (aDecimal {n} {s}) = ap (λ (q : Reader _). q s) (f n)
 no-kind k f g (aHex {n} {s}) = ap (λ (q : Reader _). q s) (g n)
@@ -136,30 +136,30 @@ module _ {text : List ℕ} where
   keyed-none {k} h = absent-unless k h
 
 -- How many bytes a word takes
-keyword-size : {s t : List ℕ} {w : Token} (k : ℕ) → Word keywords s w t → w ≡ sign k → 128 ≤ k → length t + 2 ≤ length s
+keyword-size : {s t : List ℕ} {w : Token} (k : ℕ) → Word keywords s w t → w ≡ sign k → firstKeyword ≤ k → length t + 2 ≤ length s
 keyword-size k (spaced w) e h = omega (arith, keyword-size k w e h)
 keyword-size k (letter r) e h = let z : _≡_ {A = ℕ} 0 1 = cc in absurd (omega arith)
 keyword-size k (letters {cs} {s} r p) e h = omega (arith, length-append cs s)
-keyword-size k (digits r l) e h = let z : _≡_ {A = ℕ} 0 1 = cc in absurd (omega arith)
+keyword-size k (decimalDigits r l) e h = let z : _≡_ {A = ℕ} 0 1 = cc in absurd (omega arith)
 keyword-size k (hexDigits r) e h = let z : _≡_ {A = ℕ} 0 1 = cc in absurd (omega arith)
 keyword-size k (quoted a) e h = let z : _≡_ {A = ℕ} 0 1 = cc in absurd (omega arith)
 keyword-size k (pair {a} {b} {k = j} p) e h =
-    let i : j ≡ k = cc in absurd (of-pairs (λ x y n. 128 ≤ n → ⊥) a b j (omega arith) (omega arith) (omega arith) p (omega arith))
+    let i : j ≡ k = cc in absurd (of-pairs (λ x y n. firstKeyword ≤ n → ⊥) a b j (omega arith) (omega arith) (omega arith) p (omega arith))
 keyword-size k (symbol {b} p n) e h =
-    let i : b ≡ k = cc in let l = leb-false 128 b (no-symbol (λ x. leb 128 x) b refl p) in absurd (omega arith)
+    let i : b ≡ k = cc in let l = leb-false firstKeyword b (no-symbol (λ x. leb firstKeyword x) b refl p) in absurd (omega arith)
 
 string-size : {s t : List ℕ} {w : Token} (bs : List ℕ) → Word keywords s w t → w ≡ string bs → length t + length bs + 2 ≤ length s
 string-size bs (spaced w) e = omega (arith, string-size bs w e)
 string-size bs (letter r) e = let z : _≡_ {A = ℕ} 0 1 = cc in absurd (omega arith)
 string-size bs (letters r p) e = let z : _≡_ {A = ℕ} 0 1 = cc in absurd (omega arith)
-string-size bs (digits r l) e = let z : _≡_ {A = ℕ} 0 1 = cc in absurd (omega arith)
+string-size bs (decimalDigits r l) e = let z : _≡_ {A = ℕ} 0 1 = cc in absurd (omega arith)
 string-size bs (hexDigits r) e = let z : _≡_ {A = ℕ} 0 1 = cc in absurd (omega arith)
 string-size bs (quoted {bs = cs} {s} a) e = let i : cs ≡ bs = cc in rw (← i) (omega (arith, length-append cs (34 ∷ s)))
 string-size bs (pair p) e = let z : _≡_ {A = ℕ} 0 1 = cc in absurd (omega arith)
 string-size bs (symbol p n) e = let z : _≡_ {A = ℕ} 0 1 = cc in absurd (omega arith)
 
 module _ {text : List ℕ} where
-  pub heads-long : {k : ℕ} {r m : Made} → Heads (sign k) text r m → 128 ≤ k → Long text r m
+  pub heads-long : {k : ℕ} {r m : Made} → Heads (sign k) text r m → firstKeyword ≤ k → Long text r m
   heads-long {k} (heads {c} {d} e l h) g =
       let n = keyword-size k (word-sound keywords _ _ _ e) refl g in
       record { low = omega arith; spare = λ j. omega (arith, length-drop (c .at) text, length-drop (d .at) text) }

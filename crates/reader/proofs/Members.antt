@@ -12,7 +12,7 @@ use lib.Seq.{sets}
 use lib.Dec.{leb}
 use Rattle.nibl.specs.Bytes.{if_then_else_}
 use Rattle.nibl.specs.Tree.{Member}
-use Rattle.nibl.specs.Read.{nothing, found, statement, ended?, member}
+use Rattle.nibl.specs.Read.{nothing, found, statement, endsMember, member}
 use Rattle.nibl.proofs.Words.{and-left, and-right}
 use Rattle.word.specs.declared.Cursor.{Cursor}
 use Rattle.relation.specs.Makes.{Gives, stopped, refused, given, only, bare}
@@ -71,15 +71,15 @@ at-start {text} {c} F e = let i : c .at ≡ 0 = ap aheadOf e in rw i
 member-unread : {text ops ops1 : List ℕ} {r s : Made} → r ≡ start → Gives (only statement) bare compile text ops ops1 r s → EndsIs text s read.NoReading → member text ≡ nothing
 unfolding member
 member-unread e stopped halted = let z : _≡_ {A = ℕ} 0 1 = cc in absurd (omega arith)
-member-unread {text} e (refused f) halted = then-nothing statement ended? text (sym (at-start statement e) ∙ f tt)
-member-unread {text} e (given grow tail f g h w) (unended k) = then-found statement ended? text (sym (at-start statement e) ∙ f tt) ∙ k (grow tt)
+member-unread {text} e (refused f) halted = then-nothing statement endsMember text (sym (at-start statement e) ∙ f tt)
+member-unread {text} e (given grow tail f g h w) (unended k) = then-found statement endsMember text (sym (at-start statement e) ∙ f tt) ∙ k (grow tt)
 
 module _ {text ops ops1 : List ℕ} (room : hasRoom text ops ≡ true) where
   member-gives : {r s : Made} {n l : ℕ} → r ≡ start → Gives (only statement) bare compile text ops ops1 r s → EndsIs text s (read.Member n l) → MemberIs text ops (read.Member n l) ops1
   unfolding member
   member-gives e (given {o} grow tail f g h w) (ends l t k) =
       let z : o ≡ 0 = ap countOf e in
-      by-found room (then-found statement ended? text (sym (at-start statement e) ∙ f tt) ∙ k (grow tt)) (w .buf ∙ rw (z, g tt)) (w .pos ∙ rw (z, g tt) (omega arith)) refl
+      by-found room (then-found statement endsMember text (sym (at-start statement e) ∙ f tt) ∙ k (grow tt)) (w .buf ∙ rw (z, g tt)) (w .pos ∙ rw (z, g tt) (omega arith)) refl
 
   pub member-found : {s : Made} {m : MemberRead} {n l : ℕ} → m ≡ read.Member n l → Spends 0 (only statement) bare compile text ops start ops1 s → EndsIs text s m
       → MemberIs text ops (read.Member n l) ops1

@@ -9,7 +9,7 @@ use lib.Seq.{sets}
 use Rattle.nibl.specs.Words.{number}
 use Rattle.nibl.specs.Read.{nothing, Reader, aSign, fail, give, ifKey, key, may, _>>=_}
 use Rattle.word.specs.declared.Cursor.{Cursor}
-use Rattle.relation.specs.Makes.{ahead, need, filled, Wrote, Written, written, Gives, stopped, refused, given, Reads, Leads, onto, only, bare, Over, Stood, stood, Absent, absent, KeyIs, there}
+use Rattle.relation.specs.Makes.{ahead, need, filled, WroteOps, Written, written, Gives, stopped, refused, given, Reads, Leads, onto, only, bare, Over, Stood, stood, Absent, absent, KeyIs, there}
 use Rattle.relation.specs.declared.Made.{Made}
 use Rattle.relation.specs.declared.Made.the-variants.{Next, NoReading}
 use Rattle.relation.proofs.Readers.{then-found, then-nothing, if-there, if-other}
@@ -17,7 +17,7 @@ use Rattle.relation.proofs.Signs.{stood-over}
 use Rattle.relation.proofs.States.{wrote-both, filled-need, key-low, key-spare, written-ahead, written-need, chain, led, same}
 use Rattle.reader.specs.Forms.{Room, Spends, halted, Unless, unless, MayIs, gone, kept, Puts, puts, Long}
 
-wrote-one : {ops ops' : List ℕ} {o : ℕ} (v : ℕ) → ops' ≡ sets ops o (v ∷ []) → Wrote ops o (v ∷ []) ops' (o + 1)
+wrote-one : {ops ops' : List ℕ} {o : ℕ} (v : ℕ) → ops' ≡ sets ops o (v ∷ []) → WroteOps ops o (v ∷ []) ops' (o + 1)
 wrote-one v e = record { pos = omega arith; buf = e }
 
 pub need-mono : (text : List ℕ) (r : Made) (i j : ℕ) → i ≤ j → need i text r ≤ need j text r
@@ -170,7 +170,7 @@ pub puts-none : {ops : List ℕ} (s : Made) → Puts [] ops s ops s
 puts-none NoReading = halted
 puts-none {ops} (Next c o) = let e : o + 0 ≡ o = omega arith in subst (λ n. Puts [] ops (Next c o) ops (Next c n)) e puts
 
-wrote-puts : {ops ops' w : List ℕ} {c : Cursor} {o n : ℕ} → Wrote ops o w ops' n → Puts w ops (Next c o) ops' (Next c n)
+wrote-puts : {ops ops' w : List ℕ} {c : Cursor} {o n : ℕ} → WroteOps ops o w ops' n → Puts w ops (Next c o) ops' (Next c n)
 wrote-puts w = rw (w .pos, w .buf) puts
 
 pub puts-then : {v : ℕ} {ops ops1 ops2 w : List ℕ} {r s t : Made} → Puts w ops r ops1 s → Written v ops1 s ops2 t → Puts (w ++ (v ∷ [])) ops r ops2 t

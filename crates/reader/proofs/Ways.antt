@@ -14,12 +14,14 @@ use lib.Dec.{eqb, leb}
 use Rattle.nibl.specs.Bytes.{if_then_else_, isText, all}
 use Rattle.nibl.specs.Words.{Token, variable, decimal, hex, string, sign, number}
 use Rattle.nibl.specs.Tree.{Expr, const, Item, text as textItem, stored, value}
-use Rattle.nibl.specs.Tree.{Stmt, letVar, letStat, letByte, letCopy, letText, goto, gosub, until, return, loop, remark, end, print, ifThen, for, next, input, inputText}
+use Rattle.nibl.specs.Tree.{Stmt, letVar, letStat, letByte, letCopy, letText, goto, gosub, until, return, doLoop, remark, end, print, ifThen, for, next, input, inputText}
 use Rattle.nibl.specs.Read.{Step, Found, nothing, found, Reader, onStep, byWord, choose, andThen, _>>=_, orElse, aVariable, aString, aSign, fail, give, ifKey, key, Part, read, factor, relation, aRelation, assigned, letCases, letOf, anItem, joined, printing, forTo, inputting, remarking, statement, aStatement, statementOf, statementCases}
 use Rattle.nibl.proofs.Words.{and-left, and-right}
 use Rattle.nibl.proofs.Statements.{statement-eq, joined-eq, items-join, variables-join}
 use Rattle.word.specs.declared.Cursor.{Cursor}
-use Rattle.relation.specs.Code.{op, values}
+use Rattle.word.specs.Found.{firstKeyword}
+use Rattle.relation.specs.Code.{values}
+use Rattle.codes.specs.Codes.{op, codeConstant, codeCopyString, codeDo, codeEnd, codeFor, codeGosub, codeGoto, codeIf, codeInput, codeInputString, codeInputVariable, codeNext, codePrintByte, codePrintEnd, codePrintNumber, codePrintRoom, codePrintString, codeReturn, codeSetByte, codeSetStat, codeSetVariable, codeStoreString, codeStringByte, codeUntil}
 use Rattle.relation.specs.Makes.{ahead, need, filled, Written, written, Gives, stopped, refused, given, Makes, Leads, onto, only, bare, Over, Stood, stood, Absent, absent, KeyIs, there, SignIs}
 use Rattle.relation.specs.declared.Made.{Made}
 use Rattle.relation.specs.declared.Made.the-variants.{Next, NoReading}
@@ -112,7 +114,7 @@ module _ {text : List ℕ} where
       → Spends 1 (only (read p)) bare (λ a. values a ++ (v ∷ [])) text ops r ops2 s
   with-is p y w = added {i = 0} (omega arith) (spent y) w
 
-  pub assigned-is : (v : ℕ) {ops ops1 : List ℕ} {r e s : Made} → KeyIs 61 text r e → Spends 1 (only (read relation)) bare (λ a. values a ++ (v ∷ [])) text ops e ops1 s
+  pub assigned-is : (v : ℕ) {ops ops1 : List ℕ} {r e s : Made} → KeyIs (number "=") text r e → Spends 1 (only (read relation)) bare (λ a. values a ++ (v ∷ [])) text ops e ops1 s
       → Spends 0 (only (key "=" (read relation))) bare (λ a. values a ++ (v ∷ [])) text ops r ops1 s
   assigned-is v k y = past-key "=" (omega arith) k y
 
@@ -124,35 +126,35 @@ module _ {text : List ℕ} where
 
   -- Assignments
   module _ {ops ops1 : List ℕ} {r s : Made} where
-    pub assigns-is : (n v : ℕ) → v ≡ op 16 n → Spends 0 (only (key "=" (read relation))) bare (λ a. values a ++ (v ∷ [])) text ops r ops1 s
+    pub assigns-is : (n v : ℕ) → v ≡ op codeSetVariable n → Spends 0 (only (key "=" (read relation))) bare (λ a. values a ++ (v ∷ [])) text ops r ops1 s
         → Spends 0 (only (assigned (letVar n))) bare compile text ops r ops1 s
     unfolding compile
     assigns-is n v e y = assigning v (λ x. letVar n) (λ x a. rw e) y
 
-    pub stat-is : Spends 0 (only (key "=" (read relation))) bare (λ a. values a ++ (17 ∷ [])) text ops r ops1 s
+    pub stat-is : Spends 0 (only (key "=" (read relation))) bare (λ a. values a ++ (op codeSetStat 0 ∷ [])) text ops r ops1 s
         → Spends 0 (only (assigned letStat)) bare compile text ops r ops1 s
     unfolding compile
-    stat-is y = assigning 17 (λ x. letStat) (λ x a. refl) y
+    stat-is y = assigning (op codeSetStat 0) (λ x. letStat) (λ x a. refl) y
 
-    pub byte-is : {ops2 : List ℕ} {a : Made} → Makes (read factor) values text ops r ops1 a → Spends 0 (only (key "=" (read relation))) bare (λ b. values b ++ (18 ∷ [])) text ops1 a ops2 s
+    pub byte-is : {ops2 : List ℕ} {a : Made} → Makes (read factor) values text ops r ops1 a → Spends 0 (only (key "=" (read relation))) bare (λ b. values b ++ (op codeSetByte 0 ∷ [])) text ops1 a ops2 s
         → Spends 0 (only (read factor >>= (λ b. assigned (letByte b)))) bare compile text ops r ops2 s
     unfolding compile
-    byte-is x y = then-on {i = 0} {j = 0} (omega arith) (spent x) (assigning 18 letByte (λ a b. refl) y)
+    byte-is x y = then-on {i = 0} {j = 0} (omega arith) (spent x) (assigning (op codeSetByte 0) letByte (λ a b. refl) y)
 
-    pub text-is : {ops2 : List ℕ} {a e : Made} → Makes (read factor) values text ops r ops1 a → KeyIs 61 text a e → Spends 0 copying values compile text ops1 e ops2 s
+    pub text-is : {ops2 : List ℕ} {a e : Made} → Makes (read factor) values text ops r ops1 a → KeyIs (number "=") text a e → Spends 0 copying values compile text ops1 e ops2 s
         → Spends 0 (only (read factor >>= (λ b. key "=" (copying b)))) bare compile text ops r ops2 s
     text-is x k y = then-on {i = 0} {j = 0} (omega arith) (spent x) (past-key "=" (omega arith) k y)
 
-  pub copy-text : {bs ops ops1 ops2 : List ℕ} {r m t s : Made} {v : ℕ} → v ≡ op 19 (length bs + 1) → Heads (string bs) text r m → Puts (v ∷ texts 20 bs) ops m ops1 t
-      → Written 852 ops1 t ops2 s → Spends 0 copying values compile text ops r ops2 s
+  pub copy-text : {bs ops ops1 ops2 : List ℕ} {r m t s : Made} {v : ℕ} → v ≡ op codeStoreString (length bs + 1) → Heads (string bs) text r m → Puts (v ∷ texts codeStringByte bs) ops m ops1 t
+      → Written (op codeStringByte 13) ops1 t ops2 s → Spends 0 copying values compile text ops r ops2 s
   unfolding compile
   copy-text {bs} e h p w =
-      led-by (2 + length bs) (omega (arith, length-append (texts 20 bs) (852 ∷ []), length-map bs (λ b. op 20 b))) (omega (arith, heads-over h .low)) (heads-size h)
+      led-by (2 + length bs) (omega (arith, length-append (texts codeStringByte bs) (op codeStringByte 13 ∷ []), length-map bs (λ b. op codeStringByte b))) (omega (arith, heads-over h .low)) (heads-size h)
       (string-leads (λ a cs. give (letText a cs)) _ (heads-string h)) (all-put (λ a. letText a bs) (λ a. rw e) (puts-then p w))
 
-  pub copy-slice : {i j v : ℕ} {ops ops1 ops2 : List ℕ} {r m t s : Made} → v ≡ op 19 (j - i + 1) → KindIs text r (kind.Text i j m) → Puts (v ∷ texts 20 (slice i j text)) ops m ops1 t
-      → Written 852 ops1 t ops2 s → Spends 0 copying values compile text ops r ops2 s
-  copy-slice {i} {j} e h p w = copy-text (e ∙ ap (λ n. op 19 (n + 1)) (sym (length-slice i j text (h .2)))) (h .0) p w
+  pub copy-slice : {i j v : ℕ} {ops ops1 ops2 : List ℕ} {r m t s : Made} → v ≡ op codeStoreString (j - i + 1) → KindIs text r (kind.Text i j m) → Puts (v ∷ texts codeStringByte (slice i j text)) ops m ops1 t
+      → Written (op codeStringByte 13) ops1 t ops2 s → Spends 0 copying values compile text ops r ops2 s
+  copy-slice {i} {j} e h p w = copy-text (e ∙ ap (λ n. op codeStoreString (n + 1)) (sym (length-slice i j text (h .2)))) (h .0) p w
 
   -- the room for a string
   pub slice-fits : {i j n : ℕ} {ops : List ℕ} {r m : Made} → Room n text ops r → KindIs text r (kind.Text i j m) → filledBy (1 + (j - i)) m ≤ length ops
@@ -166,8 +168,8 @@ module _ {text : List ℕ} where
       let bs = slice i j text in
       omega (arith, a .fits, need-mono text r 0 n (omega arith), heads-size (h .0) 0, need-mono text m (suc (length (texts code bs)) + 1) (2 + length bs + 0) (omega (arith, length-map bs (λ b. op code b))), puts-few text p 1, filled-need text t)
 
-  pub copy-other : {ops ops1 : List ℕ} {r d s : Made} → Absent aString text r → KeyIs 36 text r d
-      → Spends 1 (only (read factor)) bare (λ a. values a ++ (21 ∷ [])) text ops d ops1 s → Spends 0 copying values compile text ops r ops1 s
+  pub copy-other : {ops ops1 : List ℕ} {r d s : Made} → Absent aString text r → KeyIs (number "$") text r d
+      → Spends 1 (only (read factor)) bare (λ a. values a ++ (op codeCopyString 0 ∷ [])) text ops d ops1 s → Spends 0 copying values compile text ops r ops1 s
   unfolding compile
   copy-other h k y =
       led-here (unstring-leads (λ a cs. give (letText a cs)) _ h) (past-key "$" (omega arith) k (renamed letCopy (λ a b. refl) y))
@@ -181,7 +183,7 @@ module _ {text : List ℕ} where
   unkinded k f g i kind.Other h t = headless-absent k g i h
 
   module _ {ops ops1 : List ℕ} {r m s : Made} where
-    pub let-variable : {n : ℕ} (v : ℕ) → v ≡ op 16 n → Heads (variable n) text r m → Spends 0 (only (key "=" (read relation))) bare (λ a. values a ++ (v ∷ [])) text ops m ops1 s
+    pub let-variable : {n : ℕ} (v : ℕ) → v ≡ op codeSetVariable n → Heads (variable n) text r m → Spends 0 (only (key "=" (read relation))) bare (λ a. values a ++ (v ∷ [])) text ops m ops1 s
         → Spends 0 (only (byWord letOf)) bare compile text ops r ops1 s
     let-variable v e h y = led-over (omega arith) (heads-over h) (heads-leads (λ x. letOf) h) (assigns-is _ v e y)
 
@@ -195,28 +197,28 @@ module _ {text : List ℕ} where
 
   -- GO
   module _ {ops ops1 : List ℕ} {r m s : Made} {k : ℕ} (h : SignIs text r (signed.By k m)) where
-    pub go-to-is : k ≡ 130 → Spends 1 (only (read relation)) bare (λ a. values a ++ (22 ∷ [])) text ops m ops1 s → Spends 0 (only going) bare compile text ops r ops1 s
+    pub go-to-is : k ≡ number "TO" → Spends 1 (only (read relation)) bare (λ a. values a ++ (op codeGoto 0 ∷ [])) text ops m ops1 s → Spends 0 (only going) bare compile text ops r ops1 s
     unfolding compile
     go-to-is e y = if-past "TO" (only (key "SUB" (aRelation gosub))) (omega arith) (rw e at h) (renamed (λ x. goto) (λ x a. refl) y)
 
-    pub go-sub-is : k ≡ 131 → Spends 1 (only (read relation)) bare (λ a. values a ++ (23 ∷ [])) text ops m ops1 s → Spends 0 (only going) bare compile text ops r ops1 s
+    pub go-sub-is : k ≡ number "SUB" → Spends 1 (only (read relation)) bare (λ a. values a ++ (op codeGosub 0 ∷ [])) text ops m ops1 s → Spends 0 (only going) bare compile text ops r ops1 s
     unfolding compile
     go-sub-is e y =
-        if-not "TO" (only (aRelation goto)) (stood-unless 130 (omega arith) h) (past-key "SUB" (omega arith) (there (rw e at h)) (renamed (λ x. gosub) (λ x a. refl) y))
+        if-not "TO" (only (aRelation goto)) (stood-unless (number "TO") (omega arith) h) (past-key "SUB" (omega arith) (there (rw e at h)) (renamed (λ x. gosub) (λ x a. refl) y))
 
-  pub go-none : {ops ops1 : List ℕ} {r : Made} → Unless 130 text r → Unless 131 text r → Spends 0 (only going) bare compile text ops r ops1 NoReading
+  pub go-none : {ops ops1 : List ℕ} {r : Made} → Unless (number "TO") text r → Unless (number "SUB") text r → Spends 0 (only going) bare compile text ops r ops1 NoReading
   go-none a b = if-not "TO" (only (aRelation goto)) a (past-key "SUB" {j = 0} (omega arith) (unless-key b) (record { low = omega arith; few = λ k. omega arith; gives = stopped }))
 
   -- PRINT
   module _ {ops ops1 : List ℕ} {r m s : Made} where
-    pub item-text : {bs : List ℕ} {v : ℕ} → v ≡ op 25 (length bs) → Heads (string bs) text r m → Puts (v ∷ texts 26 bs) ops m ops1 s
+    pub item-text : {bs : List ℕ} {v : ℕ} → v ≡ op codePrintRoom (length bs) → Heads (string bs) text r m → Puts (v ∷ texts codePrintByte bs) ops m ops1 s
         → Spends 1 (only anItem) bare itemCode text ops r ops1 s
     unfolding anItem itemCode
     item-text {bs} e h p =
-        led-by (2 + length bs) (omega (arith, length-map bs (λ b. op 26 b))) (omega (arith, heads-over h .low)) (heads-size h)
+        led-by (2 + length bs) (omega (arith, length-map bs (λ b. op codePrintByte b))) (omega (arith, heads-over h .low)) (heads-size h)
         (string-leads (λ x cs. give (textItem cs)) (only keyedItem) (heads-string h)) (all-put (λ x. textItem bs) (λ x. rw e) p)
 
-    pub item-stored : {k : ℕ} → k ≡ 36 → Absent aString text r → Heads (sign k) text r m → Spends 1 (only (read factor)) bare (λ a. values a ++ (27 ∷ [])) text ops m ops1 s
+    pub item-stored : {k : ℕ} → k ≡ number "$" → Absent aString text r → Heads (sign k) text r m → Spends 1 (only (read factor)) bare (λ a. values a ++ (op codePrintString 0 ∷ [])) text ops m ops1 s
         → Spends 1 (only anItem) bare itemCode text ops r ops1 s
     unfolding anItem itemCode
     item-stored e n h y =
@@ -224,57 +226,57 @@ module _ {text : List ℕ} where
         (if-past "$" (only valued) (omega arith) (rw e at (heads-sign h)) (renamed (λ x. stored) (λ x a. refl) y))
 
   module _ {ops ops1 : List ℕ} {r s : Made} where
-    pub item-value : Absent aString text r → Unless 36 text r → Spends 1 (only (read relation)) bare (λ a. values a ++ (28 ∷ [])) text ops r ops1 s
+    pub item-value : Absent aString text r → Unless (number "$") text r → Spends 1 (only (read relation)) bare (λ a. values a ++ (op codePrintNumber 0 ∷ [])) text ops r ops1 s
         → Spends 1 (only anItem) bare itemCode text ops r ops1 s
     unfolding anItem itemCode
     item-value n k y =
         led-here (unstring-leads (λ x cs. give (textItem cs)) (only keyedItem) n)
         (if-not "$" (only (read factor >>= (λ a. give (stored a)))) k (renamed (λ x. value) (λ x a. refl) y))
 
-  pub item-slice : {i j v : ℕ} {ops ops1 : List ℕ} {r m s : Made} → v ≡ op 25 (j - i) → KindIs text r (kind.Text i j m) → Puts (v ∷ texts 26 (slice i j text)) ops m ops1 s
+  pub item-slice : {i j v : ℕ} {ops ops1 : List ℕ} {r m s : Made} → v ≡ op codePrintRoom (j - i) → KindIs text r (kind.Text i j m) → Puts (v ∷ texts codePrintByte (slice i j text)) ops m ops1 s
       → Spends 1 (only anItem) bare itemCode text ops r ops1 s
-  item-slice {i} {j} e h p = item-text (e ∙ ap (λ n. op 25 n) (sym (length-slice i j text (h .2)))) (h .0) p
+  item-slice {i} {j} e h p = item-text (e ∙ ap (λ n. op codePrintRoom n) (sym (length-slice i j text (h .2)))) (h .0) p
 
   -- What is joined by commas
   module _ {A : Type 0} {one : Reader A} {code : A → List ℕ} {codes : List A → List ℕ}
       (law : (s : List ℕ) → joined one s ≡ (one >>= (λ a. ifKey "," (joined one >>= (λ as′. give (a ∷ as′))) (give (a ∷ [])))) s)
       (each : (a : A) (as′ : List A) → codes (a ∷ as′) ≡ code a ++ codes as′) (none : codes [] ≡ []) where
-    pub joined-more : {ops ops1 ops2 : List ℕ} {r a m s : Made} {n : ℕ} → n ≤ 1 → Spends n (only one) bare code text ops r ops1 a → Stood aSign 44 text a m
+    pub joined-more : {ops ops1 ops2 : List ℕ} {r a m s : Made} {n : ℕ} → n ≤ 1 → Spends n (only one) bare code text ops r ops1 a → Stood aSign (number ",") text a m
         → Spends n (only (joined one)) bare codes text ops1 m ops2 s → Spends n (only (joined one)) bare codes text ops r ops2 s
     joined-more {n} h y k z =
         same-as (λ x s. law s) (then-on {j = 0} (omega arith) y (if-past "," (λ a. give (a ∷ [])) (omega arith) k (renamed (λ a as′. a ∷ as′) each z)))
 
-    pub joined-last : {ops ops1 : List ℕ} {r a : Made} {n : ℕ} → Spends n (only one) bare code text ops r ops1 a → Unless 44 text a
+    pub joined-last : {ops ops1 : List ℕ} {r a : Made} {n : ℕ} → Spends n (only one) bare code text ops r ops1 a → Unless (number ",") text a
         → Spends n (only (joined one)) bare codes text ops r ops1 a
     joined-last {a} y k =
         same-as (λ x s. law s) (then-on {j = 0} (omega arith) y
         (if-not "," (λ a. joined one >>= (λ as′. give (a ∷ as′))) k (all-put (λ a. a ∷ []) (λ a. each a [] ∙ ap (λ l. code a ++ l) none) (puts-none a))))
 
   module _ {ops ops1 ops2 : List ℕ} {r a m s : Made} where
-    pub items-more : Spends 1 (only anItem) bare itemCode text ops r ops1 a → Stood aSign 44 text a m → Spends 1 (only (joined anItem)) bare itemsCode text ops1 m ops2 s
+    pub items-more : Spends 1 (only anItem) bare itemCode text ops r ops1 a → Stood aSign (number ",") text a m → Spends 1 (only (joined anItem)) bare itemsCode text ops1 m ops2 s
         → Spends 1 (only (joined anItem)) bare itemsCode text ops r ops2 s
     unfolding itemsCode
     items-more y k z = joined-more (joined-eq items-join) (λ i is. refl) refl (omega arith) y k z
 
-    pub variables-more : Spends 0 (only aVariable) bare (λ v. op 36 v ∷ []) text ops r ops1 a → Stood aSign 44 text a m
-        → Spends 0 (only (joined aVariable)) bare (texts 36) text ops1 m ops2 s → Spends 0 (only (joined aVariable)) bare (texts 36) text ops r ops2 s
+    pub variables-more : Spends 0 (only aVariable) bare (λ v. op codeInputVariable v ∷ []) text ops r ops1 a → Stood aSign (number ",") text a m
+        → Spends 0 (only (joined aVariable)) bare (texts codeInputVariable) text ops1 m ops2 s → Spends 0 (only (joined aVariable)) bare (texts codeInputVariable) text ops r ops2 s
     variables-more y k z = joined-more (joined-eq variables-join) (λ v vs. refl) refl (omega arith) y k z
 
   module _ {ops ops1 : List ℕ} {r a : Made} where
-    pub items-last : Spends 1 (only anItem) bare itemCode text ops r ops1 a → Unless 44 text a → Spends 1 (only (joined anItem)) bare itemsCode text ops r ops1 a
+    pub items-last : Spends 1 (only anItem) bare itemCode text ops r ops1 a → Unless (number ",") text a → Spends 1 (only (joined anItem)) bare itemsCode text ops r ops1 a
     unfolding itemsCode
     items-last y k = joined-last (joined-eq items-join) (λ i is. refl) refl y k
 
-    pub variables-last : Spends 0 (only aVariable) bare (λ v. op 36 v ∷ []) text ops r ops1 a → Unless 44 text a
-        → Spends 0 (only (joined aVariable)) bare (texts 36) text ops r ops1 a
+    pub variables-last : Spends 0 (only aVariable) bare (λ v. op codeInputVariable v ∷ []) text ops r ops1 a → Unless (number ",") text a
+        → Spends 0 (only (joined aVariable)) bare (texts codeInputVariable) text ops r ops1 a
     variables-last y k = joined-last (joined-eq variables-join) (λ v vs. refl) refl y k
 
-  pub end-semicolon : {ops : List ℕ} {r s : Made} → Stood aSign 59 text r s → Spends 1 ending itemsCode compile text ops r ops s
+  pub end-semicolon : {ops : List ℕ} {r s : Made} → Stood aSign (number ";") text r s → Spends 1 ending itemsCode compile text ops r ops s
   unfolding compile
   end-semicolon {s} k = if-past ";" (λ is. give (print is false)) (omega arith) k (all-put (λ is. print is true) (λ is. refl) (puts-none s))
 
   module _ {ops ops1 : List ℕ} {r s : Made} where
-    pub end-line : Unless 59 text r → Written 29 ops r ops1 s → Spends 1 ending itemsCode compile text ops r ops1 s
+    pub end-line : Unless (number ";") text r → Written (op codePrintEnd 0) ops r ops1 s → Spends 1 ending itemsCode compile text ops r ops1 s
     unfolding compile
     end-line k w = if-not ";" (λ is. give (print is true)) k (all-put (λ is. print is false) (λ is. refl) (written-puts w))
 
@@ -283,23 +285,23 @@ module _ {text : List ℕ} where
     print-is y z = then-on {i = 1} {j = 1} (omega arith) y z
 
     -- FOR
-    pub step-some : {m : Made} → Stood aSign 142 text r m → Makes (read relation) values text ops m ops1 s → Spends 1 (only stepping) bare values text ops r ops1 s
+    pub step-some : {m : Made} → Stood aSign (number "STEP") text r m → Makes (read relation) values text ops m ops1 s → Spends 1 (only stepping) bare values text ops r ops1 s
     step-some k y = if-past "STEP" (only (give (const 1))) {j = 0} (omega arith) k (spent y)
 
-    pub step-none : Unless 142 text r → Written 64 ops r ops1 s → Spends 1 (only stepping) bare values text ops r ops1 s
+    pub step-none : Unless (number "STEP") text r → Written (op codeConstant 1) ops r ops1 s → Spends 1 (only stepping) bare values text ops r ops1 s
     unfolding values
     step-none k w = if-not "STEP" (only (read relation)) k (all-put (λ x. const 1) (λ x. refl) (written-puts w))
 
-  for-step : {ops ops1 ops2 : List ℕ} {r s t : Made} {v : ℕ} (n : ℕ) → v ≡ op 33 n → Spends 1 (only stepping) bare values text ops r ops1 s → Written v ops1 s ops2 t
+  for-step : {ops ops1 ops2 : List ℕ} {r s t : Made} {v : ℕ} (n : ℕ) → v ≡ op codeFor n → Spends 1 (only stepping) bare values text ops r ops1 s → Written v ops1 s ops2 t
       → Spends 2 (λ (p : Expr × Expr). ifKey "STEP" (aRelation (for n (p .0) (p .1))) (give (for n (p .0) (p .1) (const 1)))) (λ (p : Expr × Expr). values (p .0) ++ values (p .1))
       compile text ops r ops2 t
   unfolding _>>=_ compile
   for-step n e y w =
       same-as (λ p s. if-mapped "STEP" (read relation) (give (const 1)) (λ c. give (for n (p .0) (p .1) c)) (give (for n (p .0) (p .1) (const 1))) (λ t. refl) s)
-      (renamed (λ p c. for n (p .0) (p .1) c) (λ p c. rw e (sym (append-assoc (values (p .0)) (values (p .1)) (values c ++ (op 33 n ∷ []))))) (added (omega arith) y w))
+      (renamed (λ p c. for n (p .0) (p .1) c) (λ p c. rw e (sym (append-assoc (values (p .0)) (values (p .1)) (values c ++ (op codeFor n ∷ []))))) (added (omega arith) y w))
 
-  pub for-is : {ops ops1 ops2 ops3 ops4 : List ℕ} {r m e a f b s t : Made} {n v : ℕ} → v ≡ op 33 n → Stood aVariable n text r m → KeyIs 61 text m e
-      → Makes (read relation) values text ops e ops1 a → KeyIs 130 text a f → Makes (read relation) values text ops1 f ops2 b
+  pub for-is : {ops ops1 ops2 ops3 ops4 : List ℕ} {r m e a f b s t : Made} {n v : ℕ} → v ≡ op codeFor n → Stood aVariable n text r m → KeyIs (number "=") text m e
+      → Makes (read relation) values text ops e ops1 a → KeyIs (number "TO") text a f → Makes (read relation) values text ops1 f ops2 b
       → Spends 1 (only stepping) bare values text ops2 b ops3 s → Written v ops3 s ops4 t → Spends 0 (only forTo) bare compile text ops r ops4 t
   for-is {n} u h k x l y z w =
       led-over (omega arith) (stood-over h) (stood-leads counting h)
@@ -315,7 +317,7 @@ module _ {text : List ℕ} where
   variable-is {n} code e h w = led-over (omega arith) (stood-over h) (stood-give h) (all-put (λ x. n) (λ x. rw e) (written-puts w))
 
 -- Operations of a string
-pub put-none : {w ops ops' : List ℕ} {r : Made} → r ≡ NoReading → Puts w ops r ops' NoReading
+pub put-none : {w ops : List ℕ} {r : Made} → r ≡ NoReading → Puts w ops r ops NoReading
 put-none e = rw e halted
 
 pub put-next : {v n o : ℕ} {w ops ops' : List ℕ} {r : Made} {c : Cursor} → r ≡ Next c o → ops' ≡ sets (set ops o v) (o + 1) w → n ≡ o + 1 + length w
@@ -326,13 +328,13 @@ put-next {v} {n} {o} {w} e f g =
     rw (e, f, i, j) puts
 
 -- The variables of INPUT
-pub counted-none : {ops ops' : List ℕ} {r s : Made} → r ≡ NoReading → Counted ops r s ops' NoReading
+pub counted-none : {ops : List ℕ} {r s : Made} → r ≡ NoReading → Counted ops r s ops NoReading
 counted-none e = rw e halted
 
-pub counted-unread : {ops ops' : List ℕ} {r s : Made} → s ≡ NoReading → Counted ops r s ops' NoReading
+pub counted-unread : {ops : List ℕ} {r s : Made} → s ≡ NoReading → Counted ops r s ops NoReading
 counted-unread e = rw e unread
 
-pub counted-next : {ops : List ℕ} {r s : Made} {c d : Cursor} {o n v : ℕ} → r ≡ Next c o → s ≡ Next d n → v ≡ op 35 (n - o - 1) → Counted ops r s (set ops o v) (Next d n)
+pub counted-next : {ops : List ℕ} {r s : Made} {c d : Cursor} {o n v : ℕ} → r ≡ Next c o → s ≡ Next d n → v ≡ op codeInput (n - o - 1) → Counted ops r s (set ops o v) (Next d n)
 counted-next {o} {n} e f g = let i : n - o - 1 ≡ n - suc o = omega arith in rw (e, f, g, i) counted
 
 pub countable-at : (ops : List ℕ) {r s : Made} {c d : Cursor} {o n : ℕ} → r ≡ Next c o → s ≡ Next d n → Countable ops r s
@@ -343,18 +345,18 @@ set-sets : (w l : List ℕ) (i j b : ℕ) → i < j → set (sets l j w) i b ≡
 set-sets [] l i j b h = refl
 set-sets (a ∷ w) l i j b h = set-sets w (set l j a) i (suc j) b (omega arith) ∙ ap (λ m. sets m (suc j) w) (set-comm l j i a b (λ e. omega arith))
 
-counts : {text ops ops1 ops2 ops3 : List ℕ} {r a s t : Made} → Written 35 ops r ops1 a → Gives (only (joined aVariable)) bare (texts 36) text ops1 ops2 a s
+counts : {text ops ops1 ops2 ops3 : List ℕ} {r a s t : Made} → Written (op codeInput 0) ops r ops1 a → Gives (only (joined aVariable)) bare (texts codeInputVariable) text ops1 ops2 a s
     → Counted ops2 r s ops3 t → Gives (only (joined aVariable)) bare variablesInto text ops ops3 r t
 counts stopped stopped halted = stopped
 counts stopped stopped unread = stopped
 counts written (refused e) unread = refused e
 counts {ops} (written {o}) (given {n} grow tail e f h w) counted =
-    let size : length (grow tt) ≡ n - suc o = omega (arith, w .pos, ap length (f tt), length-map (grow tt) (λ v. op 36 v)) in
-    given {o = o} {n = n} grow (op 35 (n - suc o) ∷ tail) e (λ x. rw (size, f tt)) h
+    let size : length (grow tt) ≡ n - suc o = omega (arith, w .pos, ap length (f tt), length-map (grow tt) (λ v. op codeInputVariable v)) in
+    given {o = o} {n = n} grow (op codeInput (n - suc o) ∷ tail) e (λ x. rw (size, f tt)) h
     (record {
       pos = omega (arith, w .pos);
-      buf = ap (λ l. set l o (op 35 (n - suc o))) (w .buf ∙ ap (λ i. sets (set ops o 35) i tail) (omega arith)) ∙ set-sets tail (set ops o 35) o (suc o) (op 35 (n - suc o)) (omega arith)
-          ∙ ap (λ l. sets l (suc o) tail) (set-set ops o 35 (op 35 (n - suc o)));
+      buf = ap (λ l. set l o (op codeInput (n - suc o))) (w .buf ∙ ap (λ i. sets (set ops o (op codeInput 0)) i tail) (omega arith)) ∙ set-sets tail (set ops o (op codeInput 0)) o (suc o) (op codeInput (n - suc o)) (omega arith)
+          ∙ ap (λ l. sets l (suc o) tail) (set-set ops o (op codeInput 0) (op codeInput (n - suc o)));
     })
 
 counted-low : (text : List ℕ) {ops ops' : List ℕ} {r s t : Made} → Counted ops r s ops' t → ahead text t ≤ ahead text s
@@ -367,7 +369,7 @@ counted-need text halted k = omega arith
 counted-need text unread k = omega arith
 counted-need text counted k = omega arith
 
-pub variables-are : {text ops ops1 ops2 ops3 : List ℕ} {r a s t : Made} → Written 35 ops r ops1 a → Spends 0 (only (joined aVariable)) bare (texts 36) text ops1 a ops2 s
+pub variables-are : {text ops ops1 ops2 ops3 : List ℕ} {r a s t : Made} → Written (op codeInput 0) ops r ops1 a → Spends 0 (only (joined aVariable)) bare (texts codeInputVariable) text ops1 a ops2 s
     → Counted ops2 r s ops3 t → Spends 1 (only (joined aVariable)) bare variablesInto text ops r ops3 t
 variables-are {text} {r} {a} w y c =
     record {
@@ -376,24 +378,24 @@ variables-are {text} {r} {a} w y c =
       gives = counts w (y .gives) c;
     }
 
-countable-by : {text ops ops1 ops2 : List ℕ} {r a s : Made} → Room 1 text ops r → Written 35 ops r ops1 a → Gives (only (joined aVariable)) bare (texts 36) text ops1 ops2 a s
+countable-by : {text ops ops1 ops2 : List ℕ} {r a s : Made} → Room 1 text ops r → Written (op codeInput 0) ops r ops1 a → Gives (only (joined aVariable)) bare (texts codeInputVariable) text ops1 ops2 a s
     → need 0 text s ≤ need 0 text a → length ops2 ≡ length ops → Countable ops2 r s
 countable-by h stopped stopped l e = tt
 countable-by h written (refused f) l e = tt
 countable-by h written (given grow tail f g i w) l e = let m = h .fits in let n = h .small in (omega (arith, w .pos), omega arith, omega arith)
 
-pub countable : {text ops ops1 ops2 : List ℕ} {r a s : Made} → Room 1 text ops r → Written 35 ops r ops1 a
-    → Spends 0 (only (joined aVariable)) bare (texts 36) text ops1 a ops2 s → length ops2 ≡ length ops → Countable ops2 r s
+pub countable : {text ops ops1 ops2 : List ℕ} {r a s : Made} → Room 1 text ops r → Written (op codeInput 0) ops r ops1 a
+    → Spends 0 (only (joined aVariable)) bare (texts codeInputVariable) text ops1 a ops2 s → length ops2 ≡ length ops → Countable ops2 r s
 countable {text} {a} h w y e = countable-by h w (y .gives) (omega (arith, y .few 0)) e
 
 -- INPUT
 module _ {text ops ops1 : List ℕ} {r s : Made} where
-  pub input-text : {m : Made} → Stood aSign 36 text r m → Spends 1 (only (read factor)) bare (λ a. values a ++ (37 ∷ [])) text ops m ops1 s
+  pub input-text : {m : Made} → Stood aSign (number "$") text r m → Spends 1 (only (read factor)) bare (λ a. values a ++ (op codeInputString 0 ∷ [])) text ops m ops1 s
       → Spends 1 (only inputting) bare compile text ops r ops1 s
   unfolding compile
   input-text k y = if-past "$" (only (joined aVariable >>= (λ vs. give (input vs)))) (omega arith) k (renamed (λ x. inputText) (λ x a. refl) y)
 
-  pub input-variables : Unless 36 text r → Spends 1 (only (joined aVariable)) bare variablesInto text ops r ops1 s
+  pub input-variables : Unless (number "$") text r → Spends 1 (only (joined aVariable)) bare variablesInto text ops r ops1 s
       → Spends 1 (only inputting) bare compile text ops r ops1 s
   unfolding compile
   input-variables k y = if-not "$" (only (read factor >>= (λ a. give (inputText a)))) k (renamed (λ x. input) (λ x vs. refl) y)
@@ -417,34 +419,34 @@ remark-none e ops = rw e (record { low = omega arith; few = λ k. omega arith; g
 
 -- Statements of a relation, of a variable, or of one operation
 module _ {text ops ops1 : List ℕ} {r s : Made} where
-  pub goto-is : Spends 1 (only (read relation)) bare (λ a. values a ++ (22 ∷ [])) text ops r ops1 s → Spends 2 (only (aRelation goto)) bare compile text ops r ops1 s
+  pub goto-is : Spends 1 (only (read relation)) bare (λ a. values a ++ (op codeGoto 0 ∷ [])) text ops r ops1 s → Spends 2 (only (aRelation goto)) bare compile text ops r ops1 s
   unfolding compile
   goto-is y = looser (omega arith) (renamed (λ x. goto) (λ x a. refl) y)
 
-  pub gosub-is : Spends 1 (only (read relation)) bare (λ a. values a ++ (23 ∷ [])) text ops r ops1 s → Spends 2 (only (aRelation gosub)) bare compile text ops r ops1 s
+  pub gosub-is : Spends 1 (only (read relation)) bare (λ a. values a ++ (op codeGosub 0 ∷ [])) text ops r ops1 s → Spends 2 (only (aRelation gosub)) bare compile text ops r ops1 s
   unfolding compile
   gosub-is y = looser (omega arith) (renamed (λ x. gosub) (λ x a. refl) y)
 
-  pub until-is : Spends 1 (only (read relation)) bare (λ a. values a ++ (32 ∷ [])) text ops r ops1 s → Spends 2 (only (aRelation until)) bare compile text ops r ops1 s
+  pub until-is : Spends 1 (only (read relation)) bare (λ a. values a ++ (op codeUntil 0 ∷ [])) text ops r ops1 s → Spends 2 (only (aRelation until)) bare compile text ops r ops1 s
   unfolding compile
   until-is y = looser (omega arith) (renamed (λ x. until) (λ x a. refl) y)
 
-  pub next-is : Spends 0 (only aVariable) bare (λ v. op 34 v ∷ []) text ops r ops1 s → Spends 2 (only (aVariable >>= (λ v. give (next v)))) bare compile text ops r ops1 s
+  pub next-is : Spends 0 (only aVariable) bare (λ v. op codeNext v ∷ []) text ops r ops1 s → Spends 2 (only (aVariable >>= (λ v. give (next v)))) bare compile text ops r ops1 s
   unfolding compile
   next-is y = looser (omega arith) (renamed (λ x. next) (λ x a. refl) y)
 
   single : (q : Stmt) {v : ℕ} → compile q ≡ v ∷ [] → Written v ops r ops1 s → Spends 2 (only (give q)) bare compile text ops r ops1 s
   single q e w = looser (omega arith) (all-put (λ x. q) (λ x. e) (written-puts w))
 
-  pub return-is : Written 24 ops r ops1 s → Spends 2 (only (give return)) bare compile text ops r ops1 s
+  pub return-is : Written (op codeReturn 0) ops r ops1 s → Spends 2 (only (give return)) bare compile text ops r ops1 s
   unfolding compile
   return-is w = single return refl w
 
-  pub do-is : Written 31 ops r ops1 s → Spends 2 (only (give loop)) bare compile text ops r ops1 s
+  pub do-is : Written (op codeDo 0) ops r ops1 s → Spends 2 (only (give doLoop)) bare compile text ops r ops1 s
   unfolding compile
-  do-is w = single loop refl w
+  do-is w = single doLoop refl w
 
-  pub end-is : Written 38 ops r ops1 s → Spends 2 (only (give end)) bare compile text ops r ops1 s
+  pub end-is : Written (op codeEnd 0) ops r ops1 s → Spends 2 (only (give end)) bare compile text ops r ops1 s
   unfolding compile
   end-is w = single end refl w
 
@@ -453,7 +455,7 @@ by-statement : {text : List ℕ} {r m : Made} {w : Token} → Heads w text r m �
 unfolding aStatement
 by-statement {text} (heads {c} e l h) = onto (λ x. statement-eq (drop (c .at) text) ∙ ap (λ (f : Step). onStep f (statementOf statement)) e) (λ i. h)
 
-pub front-assigns : {text : List ℕ} {r m : Made} {n v : ℕ} → v ≡ op 16 n → KindIs text r (kind.Variable n m) → FrontIs text r (front.Assigns v m)
+pub front-assigns : {text : List ℕ} {r m : Made} {n v : ℕ} → v ≡ op codeSetVariable n → KindIs text r (kind.Variable n m) → FrontIs text r (front.Assigns v m)
 front-assigns {n} e h = assigns n e (by-statement h) (heads-over h)
 
 -- the cases before those of an assignment
@@ -464,7 +466,7 @@ formCases =
     ∷ (number "GO", going)
     ∷ (number "RETURN", give return) ∷ (number "PR", printing) ∷ (number "PRINT", printing)
     ∷ (number "IF", iffing)
-    ∷ (number "DO", give loop) ∷ (number "UNTIL", aRelation until) ∷ (number "FOR", forTo)
+    ∷ (number "DO", give doLoop) ∷ (number "UNTIL", aRelation until) ∷ (number "FOR", forTo)
     ∷ (number "NEXT", aVariable >>= (λ v. give (next v))) ∷ (number "INPUT", inputting)
     ∷ (number "REM", remarking) ∷ (number "END", give end) ∷ []
 
@@ -481,21 +483,21 @@ pub form-let : {text ops ops1 : List ℕ} {r s : Made} {k : ℕ} → NoneOf k fo
 form-let h y = looser (omega arith) (same-as (λ x s. ap (λ (q : Reader Stmt). q s) (not-form h)) y)
 
 -- no symbol is a keyword
-none-low : {A : Type 0} {k : ℕ} (cs : List (ℕ × A)) → k < 128 → all (λ (c : ℕ × A). leb 128 (c .0)) cs ≡ true → NoneOf k cs
+none-low : {A : Type 0} {k : ℕ} (cs : List (ℕ × A)) → k < firstKeyword → all (λ (c : ℕ × A). leb firstKeyword (c .0)) cs ≡ true → NoneOf k cs
 none-low [] l h = noneLeft
 none-low {A} {k} (c ∷ cs) l h =
-    let b = leb-true 128 (c .0) (and-left (leb 128 (c .0)) (all (λ (d : ℕ × A). leb 128 (d .0)) cs) h) in
+    let b = leb-true firstKeyword (c .0) (and-left (leb firstKeyword (c .0)) (all (λ (d : ℕ × A). leb firstKeyword (d .0)) cs) h) in
     let d : k ≡ c .0 → ⊥ = λ e. omega arith in
-    d but none-low cs l (and-right (leb 128 (c .0)) (all (λ (d : ℕ × A). leb 128 (d .0)) cs) h)
+    d but none-low cs l (and-right (leb firstKeyword (c .0)) (all (λ (d : ℕ × A). leb firstKeyword (d .0)) cs) h)
 
-pub front-symbol : {text : List ℕ} {r m : Made} {k : ℕ} → k < 128 → KindIs text r (kind.Sign k m) → FrontIs text r (front.Symbol k m)
+pub front-symbol : {text : List ℕ} {r m : Made} {k : ℕ} → k < firstKeyword → KindIs text r (kind.Sign k m) → FrontIs text r (front.Symbol k m)
 front-symbol {text} {r} {m} l h =
     symbol (subst (λ q. Leads (only statement) (only q) text r m) (not-form (none-low formCases l refl)) (by-statement h)) (heads-over h)
 
-pub front-if : {text : List ℕ} {r m : Made} {k : ℕ} → k ≡ 137 → KindIs text r (kind.Sign k m) → FrontIs text r (front.If m)
+pub front-if : {text : List ℕ} {r m : Made} {k : ℕ} → k ≡ number "IF" → KindIs text r (kind.Sign k m) → FrontIs text r (front.If m)
 front-if e h = when (by-statement (rw e at h)) (heads-over h)
 
-pub front-keyword : {text : List ℕ} {r m : Made} {k : ℕ} → 128 ≤ k → (k ≡ 137 → ⊥) → KindIs text r (kind.Sign k m) → FrontIs text r (front.Keyword k m)
+pub front-keyword : {text : List ℕ} {r m : Made} {k : ℕ} → firstKeyword ≤ k → (k ≡ number "IF" → ⊥) → KindIs text r (kind.Sign k m) → FrontIs text r (front.Keyword k m)
 front-keyword l d h = keyword d (by-statement h) (heads-long h l)
 
 unstated : {text : List ℕ} {r : Made} → Absent (byWord (statementOf statement)) text r → Absent statement text r
@@ -531,23 +533,23 @@ module _ {text : List ℕ} {r m : Made} where
   pub assigns-over : {v : ℕ} → FrontIs text r (front.Assigns v m) → Over text r m
   assigns-over (assigns n e l o) = o
 
-  pub keyword-long : {k : ℕ} → FrontIs text r (front.Keyword k m) → Long text r m × (k ≡ 137 → ⊥)
+  pub keyword-long : {k : ℕ} → FrontIs text r (front.Keyword k m) → Long text r m × (k ≡ number "IF" → ⊥)
   keyword-long (keyword d l o) = (o, d)
 
 pub by-none : {text ops ops1 : List ℕ} {r : Made} → FrontIs text r front.Other → Spends 0 (only statement) bare compile text ops r ops1 NoReading
 by-none (other h) = missing h
 
 -- the operation of IF stands before those of its statement
-iffed-gives : {text ops ops1 ops2 : List ℕ} {r i s : Made} → Written 30 ops r ops1 i → Gives (only statement) bare compile text ops1 ops2 i s
+iffed-gives : {text ops ops1 ops2 : List ℕ} {r i s : Made} → Written (op codeIf 0) ops r ops1 i → Gives (only statement) bare compile text ops1 ops2 i s
     → Gives (λ a. statement >>= (λ q. give (ifThen a q))) values compile text ops ops2 r s
 unfolding compile
 iffed-gives stopped stopped = stopped
 iffed-gives written (refused e) = refused (λ a. then-nothing statement _ _ (e tt))
 iffed-gives {ops} (written {o}) (given {n} grow tail e f h w) =
-    given {o = o} {n = n} (λ a. ifThen a (grow tt)) (30 ∷ tail) (λ a. then-found statement _ _ (e tt)) (λ a. rw (f tt)) h
-    (record { pos = omega (arith, w .pos); buf = w .buf ∙ ap (λ j. sets (set ops o 30) j tail) (omega arith) })
+    given {o = o} {n = n} (λ a. ifThen a (grow tt)) (op codeIf 0 ∷ tail) (λ a. then-found statement _ _ (e tt)) (λ a. rw (f tt)) h
+    (record { pos = omega (arith, w .pos); buf = w .buf ∙ ap (λ j. sets (set ops o (op codeIf 0)) j tail) (omega arith) })
 
-iffed : {text ops ops1 ops2 : List ℕ} {r i s : Made} → Written 30 ops r ops1 i → Spends 0 (only statement) bare compile text ops1 i ops2 s
+iffed : {text ops ops1 ops2 : List ℕ} {r i s : Made} → Written (op codeIf 0) ops r ops1 i → Spends 0 (only statement) bare compile text ops1 i ops2 s
     → Spends 1 (λ a. statement >>= (λ q. give (ifThen a q))) values compile text ops r ops2 s
 iffed {text} {r} {i} w y =
     record {
@@ -556,7 +558,7 @@ iffed {text} {r} {i} w y =
       gives = iffed-gives w (y .gives);
     }
 
-pub by-if : {text ops ops1 ops2 ops3 : List ℕ} {r m a t i s : Made} → FrontIs text r (front.If m) → Makes (read relation) values text ops m ops1 a → MayIs 138 text a t
-    → Written 30 ops1 t ops2 i → Spends 0 (only statement) bare compile text ops2 i ops3 s → Spends 0 (only statement) bare compile text ops r ops3 s
+pub by-if : {text ops ops1 ops2 ops3 : List ℕ} {r m a t i s : Made} → FrontIs text r (front.If m) → Makes (read relation) values text ops m ops1 a → MayIs (number "THEN") text a t
+    → Written (op codeIf 0) ops1 t ops2 i → Spends 0 (only statement) bare compile text ops2 i ops3 s → Spends 0 (only statement) bare compile text ops r ops3 s
 by-if (when l o) x k w y =
     led-over (omega arith) o l (then-on {i = 0} {j = 1} {n = 1} (omega arith) (spent x) (if-may "THEN" k (iffed w y)))

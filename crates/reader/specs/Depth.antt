@@ -3,7 +3,7 @@ use Prim.Native.Nat.{ℕ, suc, max}
 use mathlib.Core.List.{List, [], _∷_}
 use Rattle.nibl.specs.Tree.{Expr, var, const, stat, top, byteAt, invert, negate, modulo, two}
 use Rattle.nibl.specs.Tree.{Item, text, stored, value}
-use Rattle.nibl.specs.Tree.{Stmt, letVar, letStat, letByte, letCopy, letText, goto, gosub, until, return, loop, remark, end, print, ifThen, for, next, input, inputText}
+use Rattle.nibl.specs.Tree.{Stmt, letVar, letStat, letByte, letCopy, letText, goto, gosub, until, return, doLoop, remark, end, print, ifThen, for, next, input, inputText}
 
 -- the first operand stays while the second is worked out
 unfoldable pub valueDepth : Expr → ℕ
@@ -36,7 +36,7 @@ depth (goto a) = valueDepth a
 depth (gosub a) = valueDepth a
 depth (until a) = valueDepth a
 depth return = 0
-depth loop = 0
+depth doLoop = 0
 depth remark = 0
 depth end = 0
 depth (print is b) = itemsDepth is

@@ -5,11 +5,11 @@ use mathlib.Core.Bool.{true, false}
 use mathlib.Core.List.{List, _∷_}
 use lib.ListN.{length, drop, set}
 use lib.Seq.{sets, slice}
-use Rattle.nibl.specs.Words.{Token, variable, decimal, hex, string, sign, keywords}
+use Rattle.nibl.specs.Words.{Token, variable, decimal, hex, string, sign, keywords, number}
 use Rattle.nibl.specs.Tree.{Expr, const, Item, Stmt, letVar, letText, letCopy, goto, gosub, print, ifThen}
-use Rattle.nibl.specs.Read.{Step, ended, wrong, got, stepIn, nothing, found, Reader, aString, aSign, choose, fail, give, ifKey, key, may, orElse, _>>=_, read, factor, relation, aRelation, assigned, letCases, remarking, statementCases, statement, ended?}
+use Rattle.nibl.specs.Read.{Step, atEnd, wrong, got, stepIn, nothing, found, Reader, aString, aSign, choose, fail, give, ifKey, key, may, orElse, _>>=_, read, factor, relation, aRelation, assigned, letCases, remarking, statementCases, statement, endsMember}
 use Rattle.word.specs.declared.Cursor.{Cursor}
-use Rattle.relation.specs.Code.{op}
+use Rattle.codes.specs.Codes.{op, codeSetVariable, codeInput, codeInputVariable}
 use Rattle.relation.specs.Makes.{ahead, need, Gives, Leads, only, bare, Over, Stood, Absent, Otherwise}
 use Rattle.relation.specs.declared.Made.{Made}
 use Rattle.relation.specs.declared.Made.the-variants.{Next, NoReading}
@@ -42,7 +42,7 @@ pub data Heads (w : Token) (text : List ℕ) : Made → Made → Type 0 where
 
 -- no variable, string or sign
 pub data Unkind : Step → Type 0 where
-  atEnd : Unkind ended
+  textEnd : Unkind atEnd
   noWord : Unkind wrong
   aDecimal : {n : ℕ} {s : List ℕ} → Unkind (got (decimal n) s)
   aHex : {n : ℕ} {s : List ℕ} → Unkind (got (hex n) s)
@@ -71,21 +71,21 @@ pub data MayIs (k : ℕ) (text : List ℕ) (r : Made) : Made → Type 0 where
   gone : {s : Made} → Stood aSign k text r s → MayIs k text r s
   kept : Unless k text r → MayIs k text r r
 
--- so many places past the operations there are
+-- so many operations past those there are
 abbrev pub filledBy : ℕ → Made → ℕ
 filledBy n NoReading = 0
 filledBy n (Next c o) = o + n
 
 -- the operations w were written
 pub data Puts (w : List ℕ) (ops : List ℕ) : Made → List ℕ → Made → Type 0 where
-  halted : {ops' : List ℕ} → Puts w ops NoReading ops' NoReading
+  halted : Puts w ops NoReading ops NoReading
   puts : {c : Cursor} {o : ℕ} → Puts w ops (Next c o) (sets ops o w) (Next c (o + length w))
 
--- the operation at r's place asks for as many variables as stand behind it
+-- the operation at r asks for as many variables as stand behind it
 pub data Counted (ops : List ℕ) : Made → Made → List ℕ → Made → Type 0 where
-  halted : {s : Made} {ops' : List ℕ} → Counted ops NoReading s ops' NoReading
-  refused : {r : Made} {ops' : List ℕ} → Counted ops r NoReading ops' NoReading
-  counted : {c d : Cursor} {o n : ℕ} → Counted ops (Next c o) (Next d n) (set ops o (op 35 (n - suc o))) (Next d n)
+  halted : {s : Made} → Counted ops NoReading s ops NoReading
+  refused : {r : Made} → Counted ops r NoReading ops NoReading
+  counted : {c d : Cursor} {o n : ℕ} → Counted ops (Next c o) (Next d n) (set ops o (op codeInput (n - suc o))) (Next d n)
 
 -- where the count fits
 abbrev pub Countable : List ℕ → Made → Made → Type 0
@@ -113,7 +113,7 @@ abbrev pub stepping : Reader Expr
 stepping = ifKey "STEP" (read relation) (give (const 1))
 
 abbrev pub variablesInto : List ℕ → List ℕ
-variablesInto vs = op 35 (length vs) ∷ texts 36 vs
+variablesInto vs = op codeInput (length vs) ∷ texts codeInputVariable vs
 
 -- what follows IF
 abbrev pub iffing : Reader Stmt
@@ -125,17 +125,17 @@ RemarkIs text r s = (ops : List ℕ) → Spends 0 (only remarking) bare compile 
 
 -- how a statement begins
 pub data FrontIs (text : List ℕ) (r : Made) : Front → Type 0 where
-  assigns : {v : ℕ} {m : Made} (n : ℕ) → v ≡ op 16 n → Leads (only statement) (only (assigned (letVar n))) text r m → Over text r m
+  assigns : {v : ℕ} {m : Made} (n : ℕ) → v ≡ op codeSetVariable n → Leads (only statement) (only (assigned (letVar n))) text r m → Over text r m
       → FrontIs text r (front.Assigns v m)
   symbol : {k : ℕ} {m : Made} → Leads (only statement) (only (choose letCases fail k)) text r m → Over text r m → FrontIs text r (front.Symbol k m)
   when : {m : Made} → Leads (only statement) (only iffing) text r m → Over text r m → FrontIs text r (front.If m)
-  keyword : {k : ℕ} {m : Made} → (k ≡ 137 → ⊥) → Leads (only statement) (only (choose (statementCases statement) fail k)) text r m → Long text r m
+  keyword : {k : ℕ} {m : Made} → (k ≡ number "IF" → ⊥) → Leads (only statement) (only (choose (statementCases statement) fail k)) text r m → Long text r m
       → FrontIs text r (front.Keyword k m)
   other : Absent statement text r → FrontIs text r front.Other
 
 -- how a member ends behind its statement, whatever that is
 pub data EndsIs (text : List ℕ) : Made → MemberRead → Type 0 where
   halted : EndsIs text NoReading member.NoReading
-  refused : {c : Cursor} {n : ℕ} → ((q : Stmt) → ended? q (drop (c .at) text) ≡ nothing) → EndsIs text (Next c n) member.NoReading
-  ends : {c : Cursor} {n : ℕ} (left : ℕ) (t : List ℕ) → ((q : Stmt) → ended? q (drop (c .at) text) ≡ found (record { statement = q; left = left }) t)
+  refused : {c : Cursor} {n : ℕ} → ((q : Stmt) → endsMember q (drop (c .at) text) ≡ nothing) → EndsIs text (Next c n) member.NoReading
+  ends : {c : Cursor} {n : ℕ} (left : ℕ) (t : List ℕ) → ((q : Stmt) → endsMember q (drop (c .at) text) ≡ found (record { statement = q; left = left }) t)
       → EndsIs text (Next c n) (member.Member n left)

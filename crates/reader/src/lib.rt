@@ -4,14 +4,17 @@ use relation::Made;
 use relation::Signed;
 use word::Cursor;
 use word::Word;
+use word::sign;
 ghost use Prim.Native.Nat.{_+_, _*_, _-_, _≤_, _<_};
 ghost use mathlib.Core.Path.{_≡_};
 ghost use mathlib.Core.List.{[], _∷_, _++_};
 ghost use lib.ListN.{length, drop};
 ghost use lib.Seq.{sets, slice};
 ghost use Rattle.nibl.specs.Bytes.{if_then_else_, isText, all};
+ghost use Rattle.nibl.specs.Words.{number};
 ghost use Rattle.nibl.specs.Read.{read, factor, relation, key, choose, fail, byWord, letOf, letCases, aVariable, anItem, joined, printing, forTo, inputting, statementCases, statement, member};
-ghost use Rattle.relation.specs.Code.{values, op};
+ghost use Rattle.relation.specs.Code.{values};
+ghost use Rattle.codes.specs.Codes.{codes, op, codeInputVariable};
 ghost use Rattle.relation.specs.Makes.{only, bare};
 ghost use Rattle.reader.specs.Code.{texts, itemCode, itemsCode, compile};
 ghost use Rattle.reader.specs.Forms.{Room, Spends, KindIs, KeyedIs, MayIs, filledBy, Puts, Counted, Countable, copying, going, ending, stepping, variablesInto, RemarkIs, FrontIs, EndsIs};
@@ -49,6 +52,15 @@ pub enum MemberRead {
     NoRoom,
 }
 
+// The CR that a stored string ends with, as an operation.
+const STRING_END: u32 = 13 * codes::CODES + codes::STRING_BYTE;
+
+// The step of FOR where none is given, as an operation.
+const STEP_OF_ONE: u32 = codes::CODES + codes::CONSTANT;
+
+// The longest text: its counts fit into an operation.
+const LONGEST: usize = 65535;
+
 fn wide(b: u8) -> u32
     ensures { λ r. ⌜ r ≡ b ⌝ }
 {
@@ -57,10 +69,10 @@ fn wide(b: u8) -> u32
 
 // The operation of a code that counts.
 fn count(n: usize, code: u32) -> u32
-    requires { ⌜ (n ≤ 65536) × (code < 64) ⌝ }
+    requires { ⌜ (n ≤ 65536) × (code < codes) ⌝ }
     ensures { λ r. ⌜ r ≡ op code n ⌝ }
 {
-    n as u32 * 64 + code
+    codes::operation(code, n as u32)
 }
 
 fn kind_at(text: &[u8], r: Made) -> Kind
@@ -126,31 +138,31 @@ fn assigned(text: &[u8], r: Made, ops: &mut [u32], v: u32) -> Made
     requires { ⌜ Room 0 (now text) (now ops) r ⌝ }
     ensures { λ s. ⌜ Spends 0 (only (key "=" (read relation))) bare (λ a. values a ++ (v ∷ [])) (now (text .entry)) (now (ops .entry)) r (now (ops .exit)) s ⌝ }
 {
-    let e = relation::past_sign(text, r, 61);
+    let e = relation::past_sign(text, r, sign::EQUAL);
     with_relation(text, e, ops, v)
 }
 
 // A variable, and the operation of a code with it.
 fn with_variable(text: &[u8], r: Made, ops: &mut [u32], code: u32) -> Made
-    requires { ⌜ Room 0 (now text) (now ops) r × (code < 64) ⌝ }
+    requires { ⌜ Room 0 (now text) (now ops) r × (code < codes) ⌝ }
     ensures { λ s. ⌜ Spends 0 (only aVariable) bare (λ v. op code v ∷ []) (now (text .entry)) (now (ops .entry)) r (now (ops .exit)) s ⌝ }
 {
     let w = kind_at(text, r);
     let Kind::Variable(v, m) = w else {
         return Made::NoReading;
     };
-    relation::write(ops, m, wide(v) * 64 + code)
+    relation::write(ops, m, codes::operation(code, wide(v)))
 }
 
 // An operation of the code for each byte of a part of the text.
 fn put_text(text: &[u8], from: usize, to: usize, ops: &mut [u32], o: usize, code: u32)
-    requires { ⌜ (from ≤ to) × (to ≤ length (now text)) × (o + (to - from) ≤ length (now ops)) × (code < 64) ⌝ }
+    requires { ⌜ (from ≤ to) × (to ≤ length (now text)) × (o + (to - from) ≤ length (now ops)) × (code < codes) ⌝ }
     ensures { λ r. ⌜ now (ops .exit) ≡ sets (now (ops .entry)) o (texts code (slice from to (now (text .entry)))) ⌝ }
 {
     let mut i = from;
     let mut n = o;
     while i < to {
-        ops[n] = wide(text[i]) * 64 + code;
+        ops[n] = codes::operation(code, wide(text[i]));
         n += 1;
         i += 1;
     }
@@ -166,7 +178,7 @@ fn with_text(
     v: u32,
     code: u32,
 ) -> Made
-    requires { ⌜ (from ≤ to) × (to ≤ length (now text)) × (filledBy (1 + (to - from)) r ≤ length (now ops)) × (code < 64) ⌝ }
+    requires { ⌜ (from ≤ to) × (to ≤ length (now text)) × (filledBy (1 + (to - from)) r ≤ length (now ops)) × (code < codes) ⌝ }
     ensures { λ s. ⌜ Puts (v ∷ texts code (slice from to (now (text .entry)))) (now (ops .entry)) r (now (ops .exit)) s ⌝ }
 {
     let Made::Next(c, o) = r else {
@@ -186,12 +198,20 @@ fn copied(text: &[u8], r: Made, ops: &mut [u32]) -> Made
     let w = kind_at(text, r);
     match w {
         Kind::Text(i, j, m) => {
-            let t = with_text(text, i, j, m, ops, count(j - i + 1, 19), 20);
-            relation::write(ops, t, 852)
+            let t = with_text(
+                text,
+                i,
+                j,
+                m,
+                ops,
+                count(j - i + 1, codes::STORE_STRING),
+                codes::STRING_BYTE,
+            );
+            relation::write(ops, t, STRING_END)
         }
         _ => {
-            let d = relation::past_sign(text, r, 36);
-            with_factor(text, d, ops, 21)
+            let d = relation::past_sign(text, r, sign::DOLLAR);
+            with_factor(text, d, ops, codes::COPY_STRING)
         }
     }
 }
@@ -202,14 +222,14 @@ fn let_form(text: &[u8], r: Made, ops: &mut [u32], k: u8) -> Made
     ensures { λ s. ⌜ Spends 0 (only (choose letCases fail k)) bare compile (now (text .entry)) (now (ops .entry)) r (now (ops .exit)) s ⌝ }
 {
     match k {
-        147 => assigned(text, r, ops, 17),
-        64 => {
+        sign::STAT => assigned(text, r, ops, codes::SET_STAT),
+        sign::AT => {
             let a = relation::read_factor(text, r, ops);
-            assigned(text, a, ops, 18)
+            assigned(text, a, ops, codes::SET_BYTE)
         }
-        36 => {
+        sign::DOLLAR => {
             let a = relation::read_factor(text, r, ops);
-            let e = relation::past_sign(text, a, 61);
+            let e = relation::past_sign(text, a, sign::EQUAL);
             copied(text, e, ops)
         }
         _ => Made::NoReading,
@@ -223,7 +243,9 @@ fn let_at(text: &[u8], r: Made, ops: &mut [u32]) -> Made
 {
     let w = kind_at(text, r);
     match w {
-        Kind::Variable(v, m) => assigned(text, m, ops, wide(v) * 64 + 16),
+        Kind::Variable(v, m) => {
+            assigned(text, m, ops, codes::operation(codes::SET_VARIABLE, wide(v)))
+        }
         Kind::Sign(k, m) => let_form(text, m, ops, k),
         _ => Made::NoReading,
     }
@@ -239,8 +261,8 @@ fn go_to(text: &[u8], r: Made, ops: &mut [u32]) -> Made
         return Made::NoReading;
     };
     match k {
-        130 => with_relation(text, m, ops, 22),
-        131 => with_relation(text, m, ops, 23),
+        sign::TO => with_relation(text, m, ops, codes::GOTO),
+        sign::SUB => with_relation(text, m, ops, codes::GOSUB),
         _ => Made::NoReading,
     }
 }
@@ -252,14 +274,24 @@ fn item(text: &[u8], r: Made, ops: &mut [u32]) -> Made
 {
     let w = kind_at(text, r);
     match w {
-        Kind::Text(i, j, m) => with_text(text, i, j, m, ops, count(j - i, 25), 26),
-        Kind::Sign(k, m) => {
-            if k == 36 {
-                return with_factor(text, m, ops, 27);
-            }
-            with_relation(text, r, ops, 28)
+        Kind::Text(i, j, m) => {
+            with_text(
+                text,
+                i,
+                j,
+                m,
+                ops,
+                count(j - i, codes::PRINT_ROOM),
+                codes::PRINT_BYTE,
+            )
         }
-        _ => with_relation(text, r, ops, 28),
+        Kind::Sign(k, m) => {
+            if k == sign::DOLLAR {
+                return with_factor(text, m, ops, codes::PRINT_STRING);
+            }
+            with_relation(text, r, ops, codes::PRINT_NUMBER)
+        }
+        _ => with_relation(text, r, ops, codes::PRINT_NUMBER),
     }
 }
 
@@ -269,7 +301,7 @@ fn items(text: &[u8], r: Made, ops: &mut [u32]) -> Made
     ensures { λ s. ⌜ Spends 1 (only (joined anItem)) bare itemsCode (now (text .entry)) (now (ops .entry)) r (now (ops .exit)) s ⌝ }
 {
     let a = item(text, r, ops);
-    let n = next_is(text, a, 44);
+    let n = next_is(text, a, sign::COMMA);
     match n {
         Keyed::Past(m) => items(text, m, ops),
         Keyed::Not => a,
@@ -281,10 +313,10 @@ fn print_end(text: &[u8], r: Made, ops: &mut [u32]) -> Made
     requires { ⌜ Room 1 (now text) (now ops) r ⌝ }
     ensures { λ s. ⌜ Spends 1 ending itemsCode compile (now (text .entry)) (now (ops .entry)) r (now (ops .exit)) s ⌝ }
 {
-    let n = next_is(text, r, 59);
+    let n = next_is(text, r, sign::SEMICOLON);
     match n {
         Keyed::Past(m) => m,
-        Keyed::Not => relation::write(ops, r, 29),
+        Keyed::Not => relation::write(ops, r, codes::PRINT_END),
     }
 }
 
@@ -302,10 +334,10 @@ fn step(text: &[u8], r: Made, ops: &mut [u32]) -> Made
     requires { ⌜ Room 1 (now text) (now ops) r ⌝ }
     ensures { λ s. ⌜ Spends 1 (only stepping) bare values (now (text .entry)) (now (ops .entry)) r (now (ops .exit)) s ⌝ }
 {
-    let n = next_is(text, r, 142);
+    let n = next_is(text, r, sign::STEP);
     match n {
         Keyed::Past(m) => relation::read_relation(text, m, ops),
-        Keyed::Not => relation::write(ops, r, 64),
+        Keyed::Not => relation::write(ops, r, STEP_OF_ONE),
     }
 }
 
@@ -318,28 +350,28 @@ fn for_to(text: &[u8], r: Made, ops: &mut [u32]) -> Made
     let Kind::Variable(v, m) = w else {
         return Made::NoReading;
     };
-    let e = relation::past_sign(text, m, 61);
+    let e = relation::past_sign(text, m, sign::EQUAL);
     let a = relation::read_relation(text, e, ops);
-    let t = relation::past_sign(text, a, 130);
+    let t = relation::past_sign(text, a, sign::TO);
     let b = relation::read_relation(text, t, ops);
     let s = step(text, b, ops);
-    relation::write(ops, s, wide(v) * 64 + 33)
+    relation::write(ops, s, codes::operation(codes::FOR, wide(v)))
 }
 
 // Variables joined by commas, each with the operation that gives it a value.
 fn variables(text: &[u8], r: Made, ops: &mut [u32]) -> Made
     requires { ⌜ Room 0 (now text) (now ops) r ⌝ }
-    ensures { λ s. ⌜ Spends 0 (only (joined aVariable)) bare (texts 36) (now (text .entry)) (now (ops .entry)) r (now (ops .exit)) s ⌝ }
+    ensures { λ s. ⌜ Spends 0 (only (joined aVariable)) bare (texts codeInputVariable) (now (text .entry)) (now (ops .entry)) r (now (ops .exit)) s ⌝ }
 {
-    let v = with_variable(text, r, ops, 36);
-    let n = next_is(text, v, 44);
+    let v = with_variable(text, r, ops, codes::INPUT_VARIABLE);
+    let n = next_is(text, v, sign::COMMA);
     match n {
         Keyed::Past(m) => variables(text, m, ops),
         Keyed::Not => v,
     }
 }
 
-// The operation at r's place asks for as many variables as were written behind it up to s.
+// The operation at r asks for as many variables as were written behind it up to s.
 fn counted(ops: &mut [u32], r: Made, s: Made) -> Made
     requires { ⌜ Countable (now ops) r s ⌝ }
     ensures { λ t. ⌜ Counted (now (ops .entry)) r s (now (ops .exit)) t ⌝ }
@@ -350,7 +382,7 @@ fn counted(ops: &mut [u32], r: Made, s: Made) -> Made
     let Made::Next(d, n) = s else {
         return Made::NoReading;
     };
-    ops[o] = count(n - o - 1, 35);
+    ops[o] = count(n - o - 1, codes::INPUT);
     Made::Next(d, n)
 }
 
@@ -359,7 +391,7 @@ fn counted_variables(text: &[u8], r: Made, ops: &mut [u32]) -> Made
     requires { ⌜ Room 1 (now text) (now ops) r ⌝ }
     ensures { λ s. ⌜ Spends 1 (only (joined aVariable)) bare variablesInto (now (text .entry)) (now (ops .entry)) r (now (ops .exit)) s ⌝ }
 {
-    let a = relation::write(ops, r, 35);
+    let a = relation::write(ops, r, codes::INPUT);
     let s = variables(text, a, ops);
     counted(ops, r, s)
 }
@@ -369,9 +401,9 @@ fn input(text: &[u8], r: Made, ops: &mut [u32]) -> Made
     requires { ⌜ Room 1 (now text) (now ops) r ⌝ }
     ensures { λ s. ⌜ Spends 1 (only inputting) bare compile (now (text .entry)) (now (ops .entry)) r (now (ops .exit)) s ⌝ }
 {
-    let n = next_is(text, r, 36);
+    let n = next_is(text, r, sign::DOLLAR);
     match n {
-        Keyed::Past(m) => with_factor(text, m, ops, 37),
+        Keyed::Past(m) => with_factor(text, m, ops, codes::INPUT_STRING),
         Keyed::Not => counted_variables(text, r, ops),
     }
 }
@@ -406,24 +438,24 @@ fn remark(text: &[u8], r: Made) -> Made
 
 // A statement past its keyword, which is not IF.
 fn form(text: &[u8], r: Made, ops: &mut [u32], k: u8) -> Made
-    requires { ⌜ Room 2 (now text) (now ops) r × (k ≡ 137 → ⊥) ⌝ }
+    requires { ⌜ Room 2 (now text) (now ops) r × (k ≡ number "IF" → ⊥) ⌝ }
     ensures { λ s. ⌜ Spends 2 (only (choose (statementCases statement) fail k)) bare compile (now (text .entry)) (now (ops .entry)) r (now (ops .exit)) s ⌝ }
 {
     match k {
-        128 => let_at(text, r, ops),
-        132 => with_relation(text, r, ops, 22),
-        133 => with_relation(text, r, ops, 23),
-        129 => go_to(text, r, ops),
-        134 => relation::write(ops, r, 24),
-        135 => print(text, r, ops),
-        136 => print(text, r, ops),
-        139 => relation::write(ops, r, 31),
-        140 => with_relation(text, r, ops, 32),
-        141 => for_to(text, r, ops),
-        143 => with_variable(text, r, ops, 34),
-        144 => input(text, r, ops),
-        145 => remark(text, r),
-        146 => relation::write(ops, r, 38),
+        sign::LET => let_at(text, r, ops),
+        sign::GOTO => with_relation(text, r, ops, codes::GOTO),
+        sign::GOSUB => with_relation(text, r, ops, codes::GOSUB),
+        sign::GO => go_to(text, r, ops),
+        sign::RETURN => relation::write(ops, r, codes::RETURN),
+        sign::PR => print(text, r, ops),
+        sign::PRINT => print(text, r, ops),
+        sign::DO => relation::write(ops, r, codes::DO),
+        sign::UNTIL => with_relation(text, r, ops, codes::UNTIL),
+        sign::FOR => for_to(text, r, ops),
+        sign::NEXT => with_variable(text, r, ops, codes::NEXT),
+        sign::INPUT => input(text, r, ops),
+        sign::REM => remark(text, r),
+        sign::END => relation::write(ops, r, codes::END),
         _ => let_form(text, r, ops, k),
     }
 }
@@ -434,12 +466,14 @@ fn front_at(text: &[u8], r: Made) -> Front
 {
     let w = kind_at(text, r);
     match w {
-        Kind::Variable(v, m) => Front::Assigns(wide(v) * 64 + 16, m),
+        Kind::Variable(v, m) => {
+            Front::Assigns(codes::operation(codes::SET_VARIABLE, wide(v)), m)
+        }
         Kind::Sign(k, m) => {
-            if k < 128 {
+            if k < sign::KEYWORD {
                 return Front::Symbol(k, m);
             }
-            if k == 137 {
+            if k == sign::IF {
                 return Front::If(m);
             }
             Front::Keyword(k, m)
@@ -459,8 +493,8 @@ fn read_statement(text: &[u8], r: Made, ops: &mut [u32]) -> Made
         Front::Symbol(k, m) => let_form(text, m, ops, k),
         Front::If(m) => {
             let a = relation::read_relation(text, m, ops);
-            let t = past_any(text, a, 138);
-            let i = relation::write(ops, t, 30);
+            let t = past_any(text, a, sign::THEN);
+            let i = relation::write(ops, t, codes::IF);
             read_statement(text, i, ops)
         }
         Front::Keyword(k, m) => form(text, m, ops, k),
@@ -469,7 +503,7 @@ fn read_statement(text: &[u8], r: Made, ops: &mut [u32]) -> Made
 }
 
 // How a member ends: with the text, or at a ":".
-fn ended(text: &[u8], r: Made) -> MemberRead
+fn member_end(text: &[u8], r: Made) -> MemberRead
     ensures { λ m. ⌜ EndsIs (now (text .entry)) r m ⌝ }
 {
     let Made::Next(c, n) = r else {
@@ -480,7 +514,7 @@ fn ended(text: &[u8], r: Made) -> MemberRead
         Word::End => MemberRead::Member(n, 0),
         Word::Sign(k, p) => {
             let at = p.at;
-            if k == 58 {
+            if k == sign::COLON {
                 return MemberRead::Member(n, text.len() - at + 1);
             }
             MemberRead::NoReading
@@ -505,7 +539,7 @@ pub fn clear(ops: &mut [u32])
 pub fn has_room(text: &[u8], ops: &[u32]) -> bool
     ensures { λ r. ⌜ r ≡ hasRoom (now (text .entry)) (now (ops .entry)) ⌝ }
 {
-    text.len() <= ops.len() && text.len() <= 65535
+    text.len() <= ops.len() && text.len() <= LONGEST
 }
 
 // The first member of a text, with its operations from 0 on. Where it has no reading they are zeros.
@@ -517,7 +551,7 @@ pub fn read_member(text: &[u8], ops: &mut [u32]) -> MemberRead
         return MemberRead::NoRoom;
     }
     let s = read_statement(text, Made::Next(Cursor { at: 0 }, 0), ops);
-    let m = ended(text, s);
+    let m = member_end(text, s);
     let MemberRead::Member(n, left) = m else {
         clear(ops);
         return MemberRead::NoReading;

@@ -1,7 +1,7 @@
--- A session record that fits a page: its parts, where its places let a run stand, and that its changes keep them. Assumes nothing.
+-- A session record that fits a page: what its test says, where its places let a run stand, and that its changes keep them. Assumes nothing.
 use Prim.Native.Nat.{ℕ, suc, _%_, _≤_, _<_}
 use mathlib.Core.Path.{_≡_, sym, _∙_}
-use mathlib.Core.Bool.{Bool, true, false, false≢true}
+use mathlib.Core.Bool.{true, false, false≢true}
 use mathlib.Core.List.{List}
 use native.Mathlib.Omega.{arith}
 use lib.ListN.{length, take, length-set}
@@ -9,13 +9,10 @@ use lib.Dec.{ltb, leb, eqb}
 use borrow.Author.Tests.{ltb-true, lt-ltb, le-leb, leb-true}
 use Rattle.nibl.specs.Bytes.{all}
 use Rattle.nibl.specs.Stack.{pushOf, popOf, pushFor, popFor}
-use Rattle.nibl.specs.Page.{isAmong, mark, isGood, placesOf, fitsPaused, fitsWith, fits}
-use Rattle.nibl.specs.Meaning.{withVars, withVar, withFlags, withGosubs, withDos, withFors}
-use Rattle.nibl.specs.Calls.{withPaused, clearStacks}
+use Rattle.nibl.specs.Page.{isAmong, isGood, placesOf, fitsPaused, fitsWith, fits}
+use Rattle.nibl.specs.Record.{mark, nowhere, pausedAt, withVars, withVar, withFlags, withGosubs, withDos, withFors, withPaused, stackless}
 use Rattle.nibl.specs.declared.Place.{Place}
 use Rattle.nibl.specs.declared.ForEntry.{ForEntry}
-use Rattle.nibl.specs.declared.Paused.{Paused}
-use Rattle.nibl.specs.declared.Paused.the-variants.{Nowhere, At}
 use Rattle.nibl.specs.declared.Session.{Session}
 use Rattle.nibl.specs.declared.Top.the-variants as top
 use Rattle.nibl.specs.declared.TopFor.the-variants as topf
@@ -24,45 +21,34 @@ use Rattle.nibl.proofs.Sizes as sizes
 use Rattle.page.specs.Standing.{Stands}
 use Rattle.page.proofs.Program.{both}
 use Rattle.record.specs.Fits.{isSaved, isUnderWay}
+use Rattle.record.specs.Fit.{isPlace, Fit}
 use Rattle.record.specs.Sound.{Sized, Sound}
-use Rattle.record.proofs.Live.{Places, Entries, held-none, push-places, pop-places, top-place, push-entries, pop-entries, top-entry}
+use Rattle.record.proofs.Live.{held-none, push-places, pop-places, top-place, push-entries, pop-entries, top-entry}
 
 -- its arrays have their lengths, by its type
 pub known-sized : (s : Session) → sizes.Known s → Sized s
 known-sized s k = record { vars = sizes.vars s k; gosubs = sizes.gosub-places s k; dos = sizes.do-places s k; fors = sizes.for-entries s k }
 
-abbrev pub placeIn : List ℕ → Place → Bool
-placeIn ps p = isAmong ps (p .0)
-
--- the places of its page are ps
-pub record Fit (ps : List ℕ) (s : Session) : Type 0 where
-  pub vars : length (s .vars) ≡ 26
-  pub gosubs : Places (isSaved ps true) (s .gosubs)
-  pub dos : Places (placeIn ps) (s .dos)
-  pub fors : Entries (isUnderWay ps) (s .fors)
-  pub flags : ltb (s .flags) 8 ≡ true
-  pub paused : fitsPaused ps (s .paused) ≡ true
-
 -- what the test of it says
-pub record Parts (ps : List ℕ) (s : Session) : Type 0 where
+pub record FitTests (ps : List ℕ) (s : Session) : Type 0 where
   pub gosubs-deep : s .gosubs .depth ≤ 8
   pub dos-deep : s .dos .depth ≤ 8
   pub fors-deep : s .fors .depth ≤ 4
   pub gosubs : all (isSaved ps true) (take (s .gosubs .depth) (s .gosubs .places)) ≡ true
-  pub dos : all (placeIn ps) (take (s .dos .depth) (s .dos .places)) ≡ true
+  pub dos : all (isPlace ps) (take (s .dos .depth) (s .dos .places)) ≡ true
   pub fors : all (isUnderWay ps) (take (s .fors .depth) (s .fors .entries)) ≡ true
   pub flags : ltb (s .flags) 8 ≡ true
   pub paused : fitsPaused ps (s .paused) ≡ true
 
-pub fits-parts : (page : List ℕ) (s : Session) → fits page s ≡ true → Parts (placesOf page) s
+pub fits-tests : (page : List ℕ) (s : Session) → fits page s ≡ true → FitTests (placesOf page) s
 unfolding fits
-fits-parts page s h =
+fits-tests page s h =
     let ps : List ℕ = placesOf page in
     let a = both (leb (s .gosubs .depth) 8) _ h in
     let b = both (leb (s .dos .depth) 8) _ (a .1) in
     let c = both (leb (s .fors .depth) 4) _ (b .1) in
     let d = both (all (isSaved ps true) (take (s .gosubs .depth) (s .gosubs .places))) _ (c .1) in
-    let e = both (all (placeIn ps) (take (s .dos .depth) (s .dos .places))) _ (d .1) in
+    let e = both (all (isPlace ps) (take (s .dos .depth) (s .dos .places))) _ (d .1) in
     let f = both (all (isUnderWay ps) (take (s .fors .depth) (s .fors .entries))) _ (e .1) in
     let g = both (ltb (s .flags) 8) _ (f .1) in
     record {
@@ -90,7 +76,7 @@ fit-fits ps s h =
 
 pub sound-fit : {lim : ℕ} {page : List ℕ} {s : Session} → Sound lim page s → Fit (placesOf page) s
 sound-fit {page = page} {s = s} h =
-    let p = fits-parts page s (h .fitting) in
+    let p = fits-tests page s (h .fitting) in
     let z = h .sized in
     record {
       vars = z .vars;
@@ -113,7 +99,7 @@ module _ (page : List ℕ) (s : Session) (h : Fit (placesOf page) s) where
       or-cases (isAmong (placesOf page) (p .0)) (eqb (p .0) mark) (top-place (isSaved (placesOf page) true) (s .gosubs) (h .gosubs) p e) (λ i. i) (λ i. absurd (false≢true (sym n ∙ i)))
 
   pub until-stands : (p : Place) → popOf (s .dos) .top ≡ top.At p → Stands page (suc (p .0))
-  until-stands p e = top-place (placeIn (placesOf page)) (s .dos) (h .dos) p e
+  until-stands p e = top-place (isPlace (placesOf page)) (s .dos) (h .dos) p e
 
   -- the variable of the FOR is one of the 26
   pub next-known : (x : ForEntry) → popFor (s .fors) .top ≡ topf.Entry x → (x .var < 26) × Stands page (suc (x .place .0))
@@ -121,8 +107,8 @@ module _ (page : List ℕ) (s : Session) (h : Fit (placesOf page) s) where
       let b = both (ltb (x .var) 26) _ (top-entry (isUnderWay (placesOf page)) (s .fors) (h .fors) x e) in
       (ltb-true _ _ (b .0), b .1)
 
-  pub paused-stands : (p : Place) → s .paused ≡ At p → Stands page (suc (p .0))
-  paused-stands p e = rw e at (h .paused)
+  pub paused-stands : (q : ℕ) → s .paused ≡ pausedAt q → Stands page q
+  paused-stands q e = rw e at (h .paused)
 
 -- What the changes of a record keep
 module _ {ps : List ℕ} {s : Session} (h : Fit ps s) where
@@ -142,10 +128,10 @@ module _ {ps : List ℕ} {s : Session} (h : Fit ps s) where
   fit-return = record { vars = h .vars; gosubs = pop-places (isSaved ps true) (s .gosubs) (h .gosubs); dos = h .dos; fors = h .fors; flags = h .flags; paused = h .paused }
 
   pub fit-do : (p : Place) → isAmong ps (p .0) ≡ true → Fit ps (withDos s (pushOf (s .dos) p .stack))
-  fit-do p e = record { vars = h .vars; gosubs = h .gosubs; dos = push-places (placeIn ps) (s .dos) (h .dos) p e; fors = h .fors; flags = h .flags; paused = h .paused }
+  fit-do p e = record { vars = h .vars; gosubs = h .gosubs; dos = push-places (isPlace ps) (s .dos) (h .dos) p e; fors = h .fors; flags = h .flags; paused = h .paused }
 
   pub fit-until : Fit ps (withDos s (popOf (s .dos) .stack))
-  fit-until = record { vars = h .vars; gosubs = h .gosubs; dos = pop-places (placeIn ps) (s .dos) (h .dos); fors = h .fors; flags = h .flags; paused = h .paused }
+  fit-until = record { vars = h .vars; gosubs = h .gosubs; dos = pop-places (isPlace ps) (s .dos) (h .dos); fors = h .fors; flags = h .flags; paused = h .paused }
 
   pub fit-for : (x : ForEntry) → isUnderWay ps x ≡ true → Fit ps (withFors s (pushFor (s .fors) x .stack))
   fit-for x e = record { vars = h .vars; gosubs = h .gosubs; dos = h .dos; fors = push-entries (isUnderWay ps) (s .fors) (h .fors) x e; flags = h .flags; paused = h .paused }
@@ -153,10 +139,10 @@ module _ {ps : List ℕ} {s : Session} (h : Fit ps s) where
   pub fit-next : Fit ps (withFors s (popFor (s .fors) .stack))
   fit-next = record { vars = h .vars; gosubs = h .gosubs; dos = h .dos; fors = pop-entries (isUnderWay ps) (s .fors) (h .fors); flags = h .flags; paused = h .paused }
 
-  pub fit-paused : (p : Paused) → fitsPaused ps p ≡ true → Fit ps (withPaused s p)
+  pub fit-paused : (p : ℕ) → fitsPaused ps p ≡ true → Fit ps (withPaused s p)
   fit-paused p e = record { vars = h .vars; gosubs = h .gosubs; dos = h .dos; fors = h .fors; flags = h .flags; paused = e }
 
 -- with its stacks cleared and no pause it fits any page
-pub fit-cleared : {ps : List ℕ} {s : Session} → Fit ps s → (qs : List ℕ) → s .paused ≡ Nowhere → Fit qs (clearStacks s)
+pub fit-cleared : {ps : List ℕ} {s : Session} → Fit ps s → (qs : List ℕ) → s .paused ≡ nowhere → Fit qs (stackless s)
 fit-cleared f qs e =
     record { vars = f .vars; gosubs = held-none _ (f .gosubs .room); dos = held-none _ (f .dos .room); fors = held-none _ (f .fors .room); flags = f .flags; paused = rw e }

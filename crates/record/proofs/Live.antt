@@ -20,6 +20,7 @@ use Rattle.nibl.specs.declared.Top.the-variants as top
 use Rattle.nibl.specs.declared.TopFor.the-variants as topf
 use Rattle.nibl.proofs.Words.{if-split}
 use Rattle.page.proofs.Program.{both}
+use Rattle.record.specs.Fit.{Held, Places, Entries}
 
 -- what is on top is there
 on-top : {B : Type 0} (n d : ℕ) (e s x : B) → onTop n d e s ≡ x → (e ≡ x → ⊥) → (1 ≤ d) × (s ≡ x)
@@ -48,18 +49,13 @@ module _ {A : Type 0} (f : A → Bool) where
   all-at (y ∷ l) (suc d) zero x h g a = both (f y) _ a .0
   all-at (y ∷ l) (suc d) (suc i) x h g a = all-at l d i x (omega arith) (omega arith) (both (f y) _ a .1)
 
-  pub record Held (n d : ℕ) (l : List A) : Type 0 where
-    pub deep : d ≤ n
-    pub room : length l ≡ n
-    pub live : all f (take d l) ≡ true
-
-  module _ {n d : ℕ} {l : List A} (h : Held n d l) where
-    held-push : (x : A) → d < n → f x ≡ true → Held n (d + 1) (set l d x)
+  module _ {n d : ℕ} {l : List A} (h : Held f n d l) where
+    held-push : (x : A) → d < n → f x ≡ true → Held f n (d + 1) (set l d x)
     held-push x g e = record { deep = omega arith; room = length-set l d x ∙ h .room; live = rw (add-one d) (all-push l d x (h .live) e) }
 
-    held-pop : Held n (onTop n d d (d - 1)) l
+    held-pop : Held f n (onTop n d d (d - 1)) l
     held-pop =
-        if-split (λ k. Held n k l) (ltb d 1) (λ _. h) (λ _. if-split (λ k. Held n k l) (ltb n d) (λ _. h)
+        if-split (λ k. Held f n k l) (ltb d 1) (λ _. h) (λ _. if-split (λ k. Held f n k l) (ltb n d) (λ _. h)
         (λ _. record { deep = omega arith; room = h .room; live = all-fewer l d (d - 1) (omega arith) (h .live) }))
 
     held-top : (x : A) → 1 ≤ d → f (getD l (d - 1) x) ≡ true
@@ -69,16 +65,10 @@ module _ {A : Type 0} (f : A → Bool) where
     held-shown : {B : Type 0} (x y : A) (e : B) (c : A → B) → onTop n d e (c (getD l (d - 1) y)) ≡ c x → (e ≡ c x → ⊥) → ((a : A) → c a ≡ c x → a ≡ x) → f x ≡ true
     held-shown x y e c g k i = let t = on-top n d e (c (getD l (d - 1) y)) (c x) g k in rw (← i (getD l (d - 1) y) (t .1)) (held-top y (t .0))
 
-  pub held-none : {n : ℕ} {l : List A} → length l ≡ n → Held n 0 l
+  pub held-none : {n : ℕ} {l : List A} → length l ≡ n → Held f n 0 l
   held-none e = record { deep = omega arith; room = e; live = refl }
 
 -- The stacks of GOSUB and DO, and of FOR
-abbrev pub Places : (Place → Bool) → PlaceStack → Type 0
-Places f s = Held f 8 (s .depth) (s .places)
-
-abbrev pub Entries : (ForEntry → Bool) → ForStack → Type 0
-Entries f s = Held f 4 (s .depth) (s .entries)
-
 module _ (f : Place → Bool) (s : PlaceStack) (h : Places f s) where
   pub push-places : (p : Place) → f p ≡ true → Places f (pushOf s p .stack)
   push-places p e = if-split (λ (r : Pushed). Places f (r .stack)) (ltb (s .depth) 8) (λ l. held-push f h p (ltb-true _ _ l) e) (λ _. h)

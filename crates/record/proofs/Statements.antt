@@ -10,13 +10,14 @@ use lib.Dec.{leb, eqb}
 use borrow.Author.Tests.{eq-eqb, lt-ltb}
 use Rattle.nibl.specs.Bytes.{if_then_else_, bytes}
 use Rattle.nibl.specs.Tree.{Expr, Item, text, stored, value}
-use Rattle.nibl.specs.Tree.{Member, Stmt, letVar, letStat, letByte, letCopy, letText, goto, gosub, until, return, loop, remark, end, print, ifThen, for, next, input, inputText}
+use Rattle.nibl.specs.Tree.{Member, Stmt, letVar, letStat, letByte, letCopy, letText, goto, gosub, until, return, doLoop, remark, end, print, ifThen, for, next, input, inputText}
 use Rattle.nibl.specs.Read.{found, member, replied}
 use Rattle.nibl.specs.Values.{Result, is, no, Value, printed}
 use Rattle.nibl.specs.Typing.{Gathered, gather}
 use Rattle.nibl.specs.Stack.{pushOf, popOf, pushFor, popFor}
-use Rattle.nibl.specs.Page.{Stored, isAmong, mark, isGood, find, placesOf}
-use Rattle.nibl.specs.Meaning.{World, Env, on, skip, go, stop, Done, done, withGosubs, withSession, withInpos, place, bind, given, went, eval, stringAt, lineThere, put, putItem, putItems, putEnd, keepIn, gosubTo, returnBy, doHere, untilBy, forHere, goesOn, nextBy, gathered, asked, assign, assignReply, exec}
+use Rattle.nibl.specs.Page.{Stored, isAmong, isGood, find, placesOf}
+use Rattle.nibl.specs.Meaning.{World, Env, on, skip, go, stop, Done, done, withSession, withInpos, bind, given, went, eval, stringAt, lineThere, put, putItem, putItems, putEnd, keepIn, gosubTo, returnBy, doHere, untilBy, forHere, goesOn, nextBy, gathered, asked, assign, assignReply, exec}
+use Rattle.nibl.specs.Record.{mark, withGosubs, place}
 use Rattle.nibl.specs.Calls.{envAt, needsProgram, listed, listFrom}
 use Rattle.nibl.specs.declared.ForEntry.{ForEntry}
 use Rattle.nibl.specs.declared.Top.{Top}
@@ -29,15 +30,9 @@ use Rattle.page.proofs.Walk.{or-right}
 use Rattle.page.proofs.Standing.{find-stands}
 use Rattle.record.specs.Fits.{isSaved}
 use Rattle.record.specs.Fors.{forVars}
-use Rattle.record.proofs.Fitted.{Fit, return-stands, until-stands, next-known, fit-var, fit-flags, fit-gosub, fit-return, fit-do, fit-until, fit-for, fit-next}
+use Rattle.record.specs.Fit.{Fit, Goes, toNext, toRecord, toPlace, toEnd}
+use Rattle.record.proofs.Fitted.{return-stands, until-stands, next-known, fit-var, fit-flags, fit-gosub, fit-return, fit-do, fit-until, fit-for, fit-next}
 use Rattle.record.proofs.Lettered.{Lettered, found-lettered}
-
--- how a statement ended: its record fits, and a run may stand where it goes
-pub data Goes (page : List ℕ) : Done → Type 0 where
-  toNext : {w : World} → Fit (placesOf page) (w .session) → Goes page (done on w)
-  toRecord : {w : World} → Fit (placesOf page) (w .session) → Goes page (done skip w)
-  toPlace : {w : World} {q : ℕ} → Stands page q → Fit (placesOf page) (w .session) → Goes page (done (go q) w)
-  toEnd : {w : World} {n : ℕ} → Fit (placesOf page) (w .session) → Goes page (done (stop n) w)
 
 module _ (page : List ℕ) where
   abbrev Fits : World → Type 0
@@ -85,7 +80,7 @@ module _ (page : List ℕ) where
       (λ j. toPlace (next-known page (w .session) h f e .1) (fit-var h v _)) (λ j. toNext (fit-next (fit-var h v _))))
 
   -- LIST
-  pub list-goes : (n : ℕ) (rs : List Stored) (w : World) → Fits w → Goes page (listFrom n rs w)
+  pub list-goes : (n : ℕ) (rs : List Stored) (w : World) → Fit (placesOf page) (w .session) → Goes page (listFrom n rs w)
   unfolding listFrom
   list-goes n [] w h = toNext h
   list-goes n (r ∷ rs) w h = by (leb n (r .line)) (list-goes n rs)
@@ -182,7 +177,7 @@ module _ (e : Env) where
     exec-goes (gosub a) w i p h = line-goes (eval e w a) w _ h (λ q s. gosub-goes w q i s h)
     exec-goes (until a) w i p h = given-goes (e .page) (eval e w a) w _ h (λ x. until-goes (e .page) w x _ refl h)
     exec-goes return w i p h = return-goes (e .page) w _ refl h
-    exec-goes loop w i p h = do-goes w (p refl .0) h
+    exec-goes doLoop w i p h = do-goes w (p refl .0) h
     exec-goes remark w i p h = toNext h
     exec-goes end w i p h = toEnd h
     exec-goes (print items b) w i p h = went-goes (e .page) (putItems e items w) (putEnd b) (items-go items w h) (end-goes b)
@@ -198,7 +193,7 @@ module _ (e : Env) where
     exec-goes (inputText a) w i p h = given-goes (e .page) (eval e w a) w _ h (λ q. asked-goes w _ h (λ u bs j. keep-goes (e .page) u _ j))
 
     -- an immediate statement
-    pub immediate-goes : (q : Stmt) (w : World) → e .here ≡ mark → needsProgram q ≡ false → Fits (e .page) w → Goes (e .page) (exec e q w)
+    pub immediate-goes : (q : Stmt) (w : World) → e .here ≡ mark → needsProgram q ≡ false → Fit (placesOf (e .page)) (w .session) → Goes (e .page) (exec e q w)
     immediate-goes q w m n h = exec-goes q w (rw m (or-right (isAmong ps mark) true refl)) (λ y. absurd (true≢false (sym y ∙ n))) h
 
 -- a member of the program, which a place ends

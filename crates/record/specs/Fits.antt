@@ -5,7 +5,8 @@ use mathlib.Core.List.{List}
 use lib.ListN.{take}
 use lib.Dec.{ltb, eqb}
 use Rattle.nibl.specs.Bytes.{all}
-use Rattle.nibl.specs.Page.{isAmong, mark}
+use Rattle.nibl.specs.Page.{isAmong}
+use Rattle.nibl.specs.Record.{mark}
 use Rattle.nibl.specs.declared.Place.{Place}
 use Rattle.nibl.specs.declared.ForEntry.{ForEntry}
 use Rattle.nibl.specs.declared.Session.{Session}

@@ -1,7 +1,7 @@
 -- What a statement may put on the FOR stack.
 use Prim.Native.Nat.{ℕ}
 use mathlib.Core.List.{List, [], _∷_}
-use Rattle.nibl.specs.Tree.{Stmt, letVar, letStat, letByte, letCopy, letText, goto, gosub, until, return, loop, remark, end, print, ifThen, for, next, input, inputText}
+use Rattle.nibl.specs.Tree.{Stmt, letVar, letStat, letByte, letCopy, letText, goto, gosub, until, return, doLoop, remark, end, print, ifThen, for, next, input, inputText}
 
 -- the variable that a FOR names
 abbrev pub forVars : Stmt → List ℕ
@@ -14,7 +14,7 @@ forVars (goto a) = []
 forVars (gosub a) = []
 forVars (until a) = []
 forVars return = []
-forVars loop = []
+forVars doLoop = []
 forVars remark = []
 forVars end = []
 forVars (print is b) = []

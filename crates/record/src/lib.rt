@@ -4,13 +4,25 @@ ghost use mathlib.Core.Path.{_≡_};
 ghost use lib.ListN.{take};
 ghost use Rattle.nibl.specs.Bytes.{all};
 ghost use Rattle.nibl.specs.Page.{placesOf, fitsPaused, fits};
+ghost use Rattle.nibl.specs.Record.{positionOf, pausedAt};
 ghost use Rattle.record.specs.Fits.{isSaved, isUnderWay, stacksFit};
 use nibl::ForEntry;
 use nibl::ForStack;
+use nibl::Onward;
 use nibl::Paused;
 use nibl::Place;
 use nibl::PlaceStack;
 use nibl::Session;
+
+// How deep the stacks of GOSUB and DO may be, and that of FOR.
+const DEEPEST: usize = 8;
+
+const MOST_FORS: usize = 4;
+
+// The last of the 26 variables, and the flags that use bits 0 to 2 only.
+const LAST_VARIABLE: u8 = 25;
+
+const ALL_FLAGS: u8 = 7;
 
 // Whether a saved place is one of the page's, or the immediate mark where that may stand.
 fn is_saved(page: &[u8], place: Place, marked: bool) -> bool
@@ -19,7 +31,10 @@ fn is_saved(page: &[u8], place: Place, marked: bool) -> bool
     if places::is_place(page, place) {
         return true;
     }
-    marked && place.0 == 65535
+    if marked {
+        return place.is_mark();
+    }
+    false
 }
 
 // Whether the live slots of a stack hold such places.
@@ -43,7 +58,7 @@ fn fits_places(page: &[u8], stack: PlaceStack, marked: bool) -> bool
 fn is_under_way(page: &[u8], entry: ForEntry) -> bool
     ensures { λ r. ⌜ r ≡ isUnderWay (placesOf (now (page .entry))) entry ⌝ }
 {
-    if 25 < entry.var {
+    if LAST_VARIABLE < entry.var {
         return false;
     }
     places::is_place(page, entry.place)
@@ -65,13 +80,23 @@ fn fits_fors(page: &[u8], stack: ForStack) -> bool
     true
 }
 
-fn fits_paused(page: &[u8], paused: Paused) -> bool
-    ensures { λ r. ⌜ r ≡ fitsPaused (placesOf (now (page .entry))) paused ⌝ }
+// Whether a run may go on there.
+fn goes_on(page: &[u8], onward: Onward) -> bool
+    ensures { λ r. ⌜ r ≡ fitsPaused (placesOf (now (page .entry))) (pausedAt (positionOf onward)) ⌝ }
 {
+    match onward {
+        Onward::Start => true,
+        Onward::After(p) => places::is_place(page, p),
+    }
+}
+
+fn fits_paused(page: &[u8], number: u16) -> bool
+    ensures { λ r. ⌜ r ≡ fitsPaused (placesOf (now (page .entry))) number ⌝ }
+{
+    let paused = Paused::of(number);
     match paused {
         Paused::Nowhere => true,
-        Paused::Start => true,
-        Paused::At(p) => places::is_place(page, p),
+        Paused::At(onward) => goes_on(page, onward),
     }
 }
 
@@ -95,21 +120,20 @@ fn fits_stacks(page: &[u8], session: Session) -> bool
 pub fn fits(page: &[u8], session: Session) -> bool
     ensures { λ r. ⌜ r ≡ fits (now (page .entry)) session ⌝ }
 {
-    if 8 < session.gosubs.depth {
+    if DEEPEST < session.gosubs.depth {
         return false;
     }
-    if 8 < session.dos.depth {
+    if DEEPEST < session.dos.depth {
         return false;
     }
-    if 4 < session.fors.depth {
+    if MOST_FORS < session.fors.depth {
         return false;
     }
     if !fits_stacks(page, session) {
         return false;
     }
-    if 7 < session.flags {
+    if ALL_FLAGS < session.flags {
         return false;
     }
-    let paused = session.paused;
-    fits_paused(page, paused)
+    fits_paused(page, session.paused)
 }

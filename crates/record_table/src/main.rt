@@ -4,7 +4,6 @@
 // record "+" where it fits the page and "-" where it does not.
 use nibl::ForEntry;
 use nibl::ForStack;
-use nibl::Paused;
 use nibl::Place;
 use nibl::PlaceStack;
 use nibl::Session;
@@ -27,17 +26,21 @@ fn number() -> u16 {
     high * 256 + low
 }
 
+fn place() -> Place {
+    Place::at(number() as usize)
+}
+
 // A stack: its depth, how many slots are given, and the places in these. The others hold 0.
 fn place_stack() -> PlaceStack {
     let depth = number() as usize;
     let slots = byte();
     let mut stack = PlaceStack {
         depth: 0,
-        places: [Place(0); 8],
+        places: [Place::at(0); 8],
     };
     let mut i: u8 = 0;
     while i < slots {
-        let pushed = stack.push(Place(number()));
+        let pushed = stack.push(place());
         stack = pushed.stack;
         i += 1;
     }
@@ -48,12 +51,12 @@ fn place_stack() -> PlaceStack {
 // A FOR under way: its variable and its place.
 fn for_entry(value: u16) -> ForEntry {
     let var = byte();
-    let place = Place(number());
+    let from = place();
     ForEntry {
         var: var,
         limit: value,
         step: value,
-        place: place,
+        place: from,
     }
 }
 
@@ -65,7 +68,7 @@ fn for_stack(value: u16) -> ForStack {
         var: 0,
         limit: value,
         step: value,
-        place: Place(0),
+        place: Place::at(0),
     };
     let mut stack = ForStack {
         depth: 0,
@@ -81,23 +84,12 @@ fn for_stack(value: u16) -> ForStack {
     stack
 }
 
-// A pause: its kind, and the place of the last kind.
-fn pause() -> Paused {
-    let kind = byte();
-    let place = Place(number());
-    match kind {
-        0 => Paused::Nowhere,
-        1 => Paused::Start,
-        _ => Paused::At(place),
-    }
-}
-
-// A record: the value that its variables, limits and steps all have, the flags, the pause, and the stacks of GOSUB, DO
-// and FOR.
+// A record: the value that its variables, limits and steps all have, the flags, the pause's number, and the stacks of
+// GOSUB, DO and FOR.
 fn session() -> Session {
     let value = number();
     let flags = byte();
-    let paused = pause();
+    let paused = number();
     let gosubs = place_stack();
     let dos = place_stack();
     let fors = for_stack(value);
@@ -113,7 +105,7 @@ fn session() -> Session {
 
 fn show_place(page: &[u8], p: usize) {
     if p < 65536 {
-        if places::is_place(page, Place(p as u16)) {
+        if places::is_place(page, Place::at(p)) {
             say(b" ");
             io::print_decimal(1, p as u64);
         }
@@ -149,7 +141,7 @@ fn show_fits(page: &[u8]) {
 
 fn row(page: &mut [u8]) {
     io::read_full(0, page);
-    if places::is_good(page, 72) {
+    if places::is_good(page, nibl::LIMIT) {
         say(b"good");
         show_places(page);
     } else {

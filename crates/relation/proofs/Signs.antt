@@ -11,16 +11,18 @@ use types.Run.{OneOf, miss}
 use lib.ListN.{length, drop}
 use Rattle.nibl.specs.Words.{Token, keywords, number}
 use Rattle.nibl.specs.Grammar.{Joints, jointOf, sumJoints}
-use Rattle.nibl.specs.Tree.{Op, Expr, var, const}
+use Rattle.nibl.specs.Tree.{Op, times, dividedBy, andBits, plus, minus, orBits, equal, less, greater, atMost, atLeast, unequal, Expr, var, const}
 use Rattle.nibl.specs.Read.{Step, stepIn, nothing, found, Reader, onStep, signOf, aSign, jointFound, aJoint, choose, factorCases, factorOf, fail, give, ifKey, may, read, sum, factor}
 use Rattle.nibl.proofs.Sound.{read-factor, read-sum}
 use Rattle.word.specs.declared.Cursor.{Cursor}
 use Rattle.word.specs.declared.Word.{Word}
 use Rattle.word.specs.declared.Word.the-variants.{Variable, Decimal, Hex, Text, Sign, End, Wrong}
 use Rattle.word.proofs.Word.{the-type}
-use Rattle.word.specs.Found.{stepOf, Stands}
+use Rattle.word.specs.Found.{stepOf, WordIs}
+use Rattle.codes.specs.Codes.{op, codeConstant, codeVariable, codeOperator}
+use Rattle.codes.specs.Operators.{opNumber, operatorCount}
 use Rattle.relation.specs.Code.{values}
-use Rattle.relation.specs.Makes.{stopped, refused, onto, Over, Stood, stood, Absent, absent, SignIs, nowhere, another, KeyIs, there, jointsOf, codeOf, JointIs, plainly, negated, LeadIs, cases, FormIs, whole, other, AtomIs, missing, goes, Leads, only}
+use Rattle.relation.specs.Makes.{stopped, refused, onto, Over, Stood, stood, Absent, absent, SignIs, nowhere, another, KeyIs, there, jointsOf, numberOf, JointIs, plainly, negated, LeadIs, cases, FormIs, whole, other, AtomIs, missing, goes, Leads, only}
 use Rattle.relation.specs.declared.Made.{Made}
 use Rattle.relation.specs.declared.Made.the-variants.{Next, NoReading}
 use Rattle.relation.specs.declared.Signed.the-variants as signed
@@ -38,7 +40,7 @@ pub stood-over : {A : Type 0} {F : Reader A} {a : A} {text : List ℕ} {r s : Ma
 stood-over (stood e l h) = over-here l h
 
 -- The word at a cursor
-module _ {text : List ℕ} {r : Made} {c : Cursor} {o : ℕ} (w : Word) (e : r ≡ Next c o) (h : Stands (stepIn keywords) text (c .at) w) where
+module _ {text : List ℕ} {r : Made} {c : Cursor} {o : ℕ} (w : Word) (e : r ≡ Next c o) (h : WordIs (stepIn keywords) text (c .at) w) where
   by-step : {A : Type 0} (k : Token → Reader A) → onStep (stepIn keywords (drop (c .at) text)) k ≡ onStep (stepOf text w) k
   by-step k = ap (λ (s : Step). onStep s k) (sym (h .same))
 
@@ -68,7 +70,7 @@ no-factor text (Sign n p) k = absurd (miss (3 ∷ 5 ∷ 6 ∷ []) 4 tt k)
 no-factor text End k = refl
 no-factor text Wrong k = refl
 
-module _ {text : List ℕ} {r : Made} {c : Cursor} {o : ℕ} (w : Word) (e : r ≡ Next c o) (h : Stands (stepIn keywords) text (c .at) w) where
+module _ {text : List ℕ} {r : Made} {c : Cursor} {o : ℕ} (w : Word) (e : r ≡ Next c o) (h : WordIs (stepIn keywords) text (c .at) w) where
   pub sign-none : OneOf (0 ∷ 1 ∷ 2 ∷ 3 ∷ 5 ∷ 6 ∷ []) (tagOf the-type w) → SignIs text r signed.Other
   sign-none k = rw e (absent (sign-step w e h ∙ no-sign text w k))
 
@@ -76,26 +78,26 @@ module _ {text : List ℕ} {r : Made} {c : Cursor} {o : ℕ} (w : Word) (e : r �
   atom-none k = rw e (missing (absent (factor-step w e h ∙ no-factor text w k)))
 
 module _ {text : List ℕ} {r : Made} {c p : Cursor} {o : ℕ} (e : r ≡ Next c o) where
-  pub sign-found : {k : ℕ} → Stands (stepIn keywords) text (c .at) (Sign k p) → SignIs text r (signed.By k (Next p o))
+  pub sign-found : {k : ℕ} → WordIs (stepIn keywords) text (c .at) (Sign k p) → SignIs text r (signed.By k (Next p o))
   sign-found h = rw e (stood (sign-step _ e h) (h .inside .0) (h .inside .1))
 
   atom-goes : {a : Atom} (R : Reader Expr) → read factor (drop (c .at) text) ≡ R (drop (p .at) text) → c .at < p .at → p .at ≤ length text
       → FormIs R (Next p o) a → AtomIs text r a
   atom-goes R f l h g = rw e (goes R (onto (λ x. f) (λ i. h)) (over-here l h) g)
 
-  pub atom-variable : {v u : ℕ} → Stands (stepIn keywords) text (c .at) (Variable v p) → u ≡ v → AtomIs text r (atom.Whole (u * 64 + 1) (Next p o))
+  pub atom-variable : {v u w : ℕ} → WordIs (stepIn keywords) text (c .at) (Variable v p) → u ≡ v → w ≡ op codeVariable u → AtomIs text r (atom.Whole w (Next p o))
   unfolding values
-  atom-variable h d = rw d (atom-goes (give (var _)) (factor-step _ e h) (h .inside .0) (h .inside .1) (whole (var _) refl refl))
+  atom-variable h d q = rw (q, d) (atom-goes (give (var _)) (factor-step _ e h) (h .inside .0) (h .inside .1) (whole (var _) refl refl))
 
-  pub atom-decimal : {v u : ℕ} → Stands (stepIn keywords) text (c .at) (Decimal v p) → u ≡ v → AtomIs text r (atom.Whole (u * 64) (Next p o))
+  pub atom-decimal : {v u w : ℕ} → WordIs (stepIn keywords) text (c .at) (Decimal v p) → u ≡ v → w ≡ op codeConstant u → AtomIs text r (atom.Whole w (Next p o))
   unfolding values
-  atom-decimal h d = rw d (atom-goes (give (const _)) (factor-step _ e h) (h .inside .0) (h .inside .1) (whole (const _) (ap (λ n. n ∷ []) (omega arith)) refl))
+  atom-decimal h d q = rw (q, d) (atom-goes (give (const _)) (factor-step _ e h) (h .inside .0) (h .inside .1) (whole (const _) refl refl))
 
-  pub atom-hex : {v u : ℕ} → Stands (stepIn keywords) text (c .at) (Hex v p) → u ≡ v → AtomIs text r (atom.Whole (u * 64) (Next p o))
+  pub atom-hex : {v u w : ℕ} → WordIs (stepIn keywords) text (c .at) (Hex v p) → u ≡ v → w ≡ op codeConstant u → AtomIs text r (atom.Whole w (Next p o))
   unfolding values
-  atom-hex h d = rw d (atom-goes (give (const _)) (factor-step _ e h) (h .inside .0) (h .inside .1) (whole (const _) (ap (λ n. n ∷ []) (omega arith)) refl))
+  atom-hex h d q = rw (q, d) (atom-goes (give (const _)) (factor-step _ e h) (h .inside .0) (h .inside .1) (whole (const _) refl refl))
 
-  pub atom-sign : {k : ℕ} {a : Atom} → Stands (stepIn keywords) text (c .at) (Sign k p) → FormIs (cases k) (Next p o) a → AtomIs text r a
+  pub atom-sign : {k : ℕ} {a : Atom} → WordIs (stepIn keywords) text (c .at) (Sign k p) → FormIs (cases k) (Next p o) a → AtomIs text r a
   atom-sign {k} h f = atom-goes (cases k) (factor-step _ e h) (h .inside .0) (h .inside .1) f
 
 pub halted : {A : Type 0} {F : Reader A} {text : List ℕ} {r : Made} → r ≡ NoReading → Absent F text r
@@ -113,29 +115,44 @@ pub key-other : {text : List ℕ} {r m : Made} {j : ℕ} (k : ℕ) → (j ≡ k 
 key-other k d (stood {c} e l h) = refused {c = c} (rw e (another (ne-eqb _ k d)))
 
 -- Operators
+number-low : (q : Op) → opNumber q < operatorCount
+number-low times = omega arith
+number-low dividedBy = omega arith
+number-low andBits = omega arith
+number-low plus = omega arith
+number-low minus = omega arith
+number-low orBits = omega arith
+number-low equal = omega arith
+number-low less = omega arith
+number-low greater = omega arith
+number-low atMost = omega arith
+number-low atLeast = omega arith
+number-low unequal = omega arith
+
 module _ (js : Joints) where
   pub joint-none : {text : List ℕ} {r : Made} → SignIs text r signed.Other → JointIs js text r joined.Alone
   unfolding aJoint
   joint-none stopped = stopped
   joint-none (absent e) = absent (then-nothing aSign _ _ e)
 
-  none-found : (q : Option Op) (t : List ℕ) → codeOf q ≡ 0 → jointFound q t ≡ nothing
+  none-found : (q : Option Op) (t : List ℕ) → numberOf q ≡ operatorCount → jointFound q t ≡ nothing
   none-found none t i = refl
-  none-found (some q) t i = absurd (omega arith)
+  none-found (some q) t i = absurd (omega (arith, number-low q))
 
-  pub joint-not : {text : List ℕ} {r m : Made} {k v : ℕ} → v ≡ codeOf (jointOf js k) → v ≡ 0 → SignIs text r (signed.By k m) → JointIs js text r joined.Alone
+  pub joint-not : {text : List ℕ} {r m : Made} {k v : ℕ} → v ≡ numberOf (jointOf js k) → v ≡ operatorCount → SignIs text r (signed.By k m) → JointIs js text r joined.Alone
   unfolding aJoint
   joint-not {k} f z (stood e l h) = absent (then-found aSign _ _ e ∙ none-found (jointOf js k) _ (sym f ∙ z))
 
-  operator-found : {text : List ℕ} {r m : Made} {k v : ℕ} (q : Option Op) → jointOf js k ≡ q → v ≡ codeOf q → (v ≡ 0 → ⊥) → SignIs text r (signed.By k m)
-      → JointIs js text r (joined.By v m)
+  operator-found : {text : List ℕ} {r m : Made} {k n v : ℕ} (q : Option Op) → jointOf js k ≡ q → n ≡ numberOf q → (n ≡ operatorCount → ⊥) → v ≡ op codeOperator n
+      → SignIs text r (signed.By k m) → JointIs js text r (joined.By v m)
   unfolding aJoint
-  operator-found none i f z h = absurd (z f)
-  operator-found {text} (some q) i f z (stood {d} e l h) =
-      record { operator = q; number = f; next = stood (then-found aSign _ _ e ∙ ap (λ x. jointFound x (drop (d .at) text)) i) l h }
+  operator-found none i f z w h = absurd (z f)
+  operator-found {text} (some q) i f z w (stood {d} e l h) =
+      record { operator = q; number = w ∙ ap (op codeOperator) f; next = stood (then-found aSign _ _ e ∙ ap (λ x. jointFound x (drop (d .at) text)) i) l h }
 
-  pub joint-found : {text : List ℕ} {r m : Made} {k v : ℕ} → v ≡ codeOf (jointOf js k) → (v ≡ 0 → ⊥) → SignIs text r (signed.By k m) → JointIs js text r (joined.By v m)
-  joint-found {k} f z h = operator-found (jointOf js k) refl f z h
+  pub joint-found : {text : List ℕ} {r m : Made} {k n v : ℕ} → n ≡ numberOf (jointOf js k) → (n ≡ operatorCount → ⊥) → v ≡ op codeOperator n → SignIs text r (signed.By k m)
+      → JointIs js text r (joined.By v m)
+  joint-found {k} f z w h = operator-found (jointOf js k) refl f z w h
 
 -- A number in a list of cases, or in none of them
 infixr 5 _but_
@@ -151,13 +168,13 @@ no-case : {k : ℕ} {cs : List (ℕ × Reader Expr)} → NoneOf k cs → choose 
 no-case noneLeft = refl
 no-case {k} (_but_ {n} d h) = rw (ne-eqb k n d) (no-case h)
 
--- The operation of a sign
+-- The operator that a sign is
 module _ (l : ℕ) {k : ℕ} {js : Joints} (e : jointsOf l ≡ js) where
-  pub code-of : {j : ℕ} → k ≡ j → codeOf (jointOf js j) ≡ codeOf (jointOf (jointsOf l) k)
-  code-of f = rw (e, f)
+  pub number-of : {j : ℕ} → k ≡ j → numberOf (jointOf js j) ≡ numberOf (jointOf (jointsOf l) k)
+  number-of f = rw (e, f)
 
-  pub no-code : NoneOf k js → 0 ≡ codeOf (jointOf (jointsOf l) k)
-  no-code h = rw (e, no-joint h)
+  pub no-number : NoneOf k js → operatorCount ≡ numberOf (jointOf (jointsOf l) k)
+  no-number h = rw (e, no-joint h)
 
 pub of-sums : (l : ℕ) → (l ≡ 0 → ⊥) → (l ≡ 1 → ⊥) → jointsOf l ≡ sumJoints
 of-sums l a b = rw (ne-eqb l 0 a, ne-eqb l 1 b)
@@ -194,11 +211,11 @@ module _ {text : List ℕ} {r : Made} where
   lead-none h = (sum-plain (with-none "-" _ _ h) (with-none "+" _ _ h), omega arith, λ k. omega arith)
 
   module _ {m : Made} {k : ℕ} where
-    pub lead-minus : k ≡ 45 → SignIs text r (signed.By k m) → LeadIs text r (Minus m)
+    pub lead-minus : k ≡ number "-" → SignIs text r (signed.By k m) → LeadIs text r (Minus m)
     lead-minus e h = (sum-minus (with-sign "-" _ _ e h), stood-over h)
 
-    pub lead-plus : (k ≡ 45 → ⊥) → k ≡ 43 → SignIs text r (signed.By k m) → LeadIs text r (Plain m)
+    pub lead-plus : (k ≡ number "-" → ⊥) → k ≡ number "+" → SignIs text r (signed.By k m) → LeadIs text r (Plain m)
     lead-plus d e h = let o = stood-over h in (sum-plain (with-other "-" _ _ d h) (with-sign "+" _ _ e h), omega arith, over-few o)
 
-    pub lead-other : (k ≡ 45 → ⊥) → (k ≡ 43 → ⊥) → SignIs text r (signed.By k m) → LeadIs text r (Plain r)
+    pub lead-other : (k ≡ number "-" → ⊥) → (k ≡ number "+" → ⊥) → SignIs text r (signed.By k m) → LeadIs text r (Plain r)
     lead-other d e h = (sum-plain (with-other "-" _ _ d h) (with-other "+" _ _ e h), omega arith, λ j. omega arith)

@@ -10,7 +10,7 @@ use lib.Seq.{sets}
 use Rattle.nibl.specs.Words.{number}
 use Rattle.nibl.specs.Read.{Reader, fail, give, key, _>>=_}
 use Rattle.word.specs.declared.Cursor.{Cursor}
-use Rattle.relation.specs.Makes.{ahead, need, filled, Wrote, Written, written, Gives, stopped, refused, given, Reads, Over, Leads, onto, only, bare, stood, KeyIs, there}
+use Rattle.relation.specs.Makes.{ahead, need, filled, WroteOps, Written, written, Gives, stopped, refused, given, Reads, Over, Leads, onto, only, bare, stood, KeyIs, there}
 use Rattle.relation.specs.declared.Made.{Made}
 use Rattle.relation.specs.declared.Made.the-variants.{Next, NoReading}
 use Rattle.relation.proofs.Readers.{then-found, then-nothing, if-there, if-other}
@@ -22,13 +22,13 @@ sets-append (a ∷ w) w' l i =
     let e : suc i + length w ≡ i + suc (length w) = omega arith in
     sets-append w w' (set l i a) (suc i) ∙ ap (λ k. sets (sets (set l i a) (suc i) w) k w') e
 
-wrote-none : {ops : List ℕ} {o : ℕ} → Wrote ops o [] ops o
+wrote-none : {ops : List ℕ} {o : ℕ} → WroteOps ops o [] ops o
 wrote-none = record { pos = omega arith; buf = refl }
 
-wrote-one : {ops : List ℕ} {o : ℕ} (v : ℕ) → Wrote ops o (v ∷ []) (set ops o v) (o + 1)
+wrote-one : {ops : List ℕ} {o : ℕ} (v : ℕ) → WroteOps ops o (v ∷ []) (set ops o v) (o + 1)
 wrote-one v = record { pos = omega arith; buf = refl }
 
-pub wrote-both : {ops ops1 ops2 w w' : List ℕ} {o n p : ℕ} → Wrote ops o w ops1 n → Wrote ops1 n w' ops2 p → Wrote ops o (w ++ w') ops2 p
+pub wrote-both : {ops ops1 ops2 w w' : List ℕ} {o n p : ℕ} → WroteOps ops o w ops1 n → WroteOps ops1 n w' ops2 p → WroteOps ops o (w ++ w') ops2 p
 wrote-both {ops} {w} {w'} {o} a b = record { pos = omega (arith, length-append w w'); buf = b .buf ∙ rw (a .buf, a .pos) (sym (sets-append w w' ops o)) }
 
 -- How the states lie
@@ -67,7 +67,7 @@ module _ {text : List ℕ} where
   pub key-few : {k : ℕ} {r s : Made} → KeyIs k text r s → (j : ℕ) → need j text s ≤ need j text r
   key-few {s} h j = omega (arith, key-spare h j, more-need j text s)
 
-pub written-none : {v : ℕ} {ops ops' : List ℕ} {r : Made} → r ≡ NoReading → Written v ops r ops' NoReading
+pub written-none : {v : ℕ} {ops : List ℕ} {r : Made} → r ≡ NoReading → Written v ops r ops NoReading
 written-none e = rw e stopped
 
 pub written-next : {v o : ℕ} {ops : List ℕ} {r : Made} {c : Cursor} → r ≡ Next c o → Written v ops r (set ops o v) (Next c (o + 1))

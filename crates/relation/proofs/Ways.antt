@@ -4,11 +4,14 @@ use mathlib.Core.Path.{_≡_, refl, ap, _∙_}
 use mathlib.Core.List.{List, [], _∷_, _++_}
 use native.Mathlib.Omega.{arith}
 use lib.ListN.{drop}
+use Rattle.nibl.specs.Words.{number}
 use Rattle.nibl.specs.Grammar.{Joints, sumJoints}
 use Rattle.nibl.specs.Tree.{Op, Expr, negate, modulo, two}
-use Rattle.nibl.specs.Read.{Reader, aJoint, orElse, onward, fail, give, key, _>>=_, Part, read, factor, term, sum, relation, factors, terms, related}
+use Rattle.nibl.specs.Read.{Reader, aJoint, orElse, moreOperands, fail, give, key, _>>=_, Part, read, factor, term, sum, relation, factors, terms, related}
 use Rattle.nibl.proofs.Sound.{read-term, read-relation, read-related}
-use Rattle.relation.specs.Code.{op, opNumber, values}
+use Rattle.relation.specs.Code.{values}
+use Rattle.codes.specs.Codes.{op, codeOperator, codeNegate, codeMod}
+use Rattle.codes.specs.Operators.{opNumber}
 use Rattle.relation.specs.Makes.{Written, Gives, stopped, refused, Reads, Makes, Leads, onto, only, bare, Over, Stood, stood, Absent, absent, KeyIs, JointIs, LeadIs, seconding, whole, prefix, bracket, pair, other, AtomIs, missing, goes}
 use Rattle.relation.specs.declared.Made.{Made}
 use Rattle.relation.specs.declared.Made.the-variants.{Next, NoReading}
@@ -20,15 +23,15 @@ use Rattle.relation.proofs.Signs.{stood-over}
 use Rattle.relation.proofs.States.{over-few, key-low, key-spare, key-few, written-ahead, written-need, chain, closing, led, same, idle, single, signed, opened}
 
 -- the operations of a reading
-two-code : {v : ℕ} (q : Op) → v ≡ op 8 (opNumber q) → (a b : Expr) → values (two q a b) ≡ values a ++ (values b ++ (v ∷ []))
+two-code : {v : ℕ} (q : Op) → v ≡ op codeOperator (opNumber q) → (a b : Expr) → values (two q a b) ≡ values a ++ (values b ++ (v ∷ []))
 unfolding values
 two-code q e a b = rw e
 
-negate-code : (a : Expr) → values (negate a) ≡ values a ++ (6 ∷ [])
+negate-code : (a : Expr) → values (negate a) ≡ values a ++ (op codeNegate 0 ∷ [])
 unfolding values
 negate-code a = refl
 
-modulo-code : (a b : Expr) → values (modulo a b) ≡ values a ++ (values b ++ (7 ∷ []))
+modulo-code : (a b : Expr) → values (modulo a b) ≡ values a ++ (values b ++ (op codeMod 0 ∷ []))
 unfolding values
 modulo-code a b = refl
 
@@ -42,7 +45,7 @@ module _ {text : List ℕ} where
   resting s = record { low = omega arith; few = λ k. omega arith; gives = idle s }
 
   -- What is joined to an operand
-  module _ (js : Joints) (p : Part) (R go : Expr → Reader Expr) (law : (a : Expr) (s : List ℕ) → R a s ≡ onward read js p go a s) where
+  module _ (js : Joints) (p : Part) (R go : Expr → Reader Expr) (law : (a : Expr) (s : List ℕ) → R a s ≡ moreOperands read js p go a s) where
     joint-leads : {q : Op} {r m : Made} → Stood (aJoint js) q text r m → Leads R (λ a. read p >>= (λ b. go (two q a b))) text r m
     joint-leads (stood {c} e l h) =
         onto (λ a. law a (drop (c .at) text) ∙ ap (λ f. orElse f (λ q. read p >>= (λ b. go (two q a b))) (give a) (drop (c .at) text)) e) (λ i. h)
@@ -84,7 +87,7 @@ module _ {text : List ℕ} where
     sum-plain l y z =
         record { low = omega arith; few = λ k. omega (arith, l .2 k, y .few k, z .few k); gives = led (l .0) (chain (y .gives) (z .gives)) }
 
-    pub sum-minus : {ops3 : List ℕ} {u : Made} → LeadIs text r (Minus m) → Makes (read term) values text ops m ops1 s → Written 6 ops1 s ops2 t
+    pub sum-minus : {ops3 : List ℕ} {u : Made} → LeadIs text r (Minus m) → Makes (read term) values text ops m ops1 s → Written (op codeNegate 0) ops1 s ops2 t
         → Reads (λ a. read (terms a)) values values text ops2 t ops3 u → Makes (read sum) values text ops r ops3 u
     sum-minus l y w z =
         record {
@@ -133,7 +136,7 @@ module _ {text : List ℕ} where
         gives = led l (same (λ x s. ap (λ S. S s) e) (closing (λ x a. f a) (λ x a. c a) (y .gives) w));
       }
 
-  pub factor-bracket : {ops ops1 : List ℕ} {r m s t : Made} → AtomIs text r (atom.Bracket m) → Makes (read relation) values text ops m ops1 s → KeyIs 41 text s t
+  pub factor-bracket : {ops ops1 : List ℕ} {r m s t : Made} → AtomIs text r (atom.Bracket m) → Makes (read relation) values text ops m ops1 s → KeyIs (number ")") text s t
       → Makes (read factor) values text ops r ops1 t
   factor-bracket (goes R l o (bracket e)) y k =
       record {
@@ -142,9 +145,9 @@ module _ {text : List ℕ} where
         gives = led l (same (λ x s. ap (λ S. S s) e) (chain (y .gives) (signed ")" k)));
       }
 
-  pub factor-pair : {ops ops1 ops2 ops3 : List ℕ} {r m a b d e f g : Made} → AtomIs text r (atom.Modulo m) → KeyIs 40 text m a
-      → Makes (read relation) values text ops a ops1 b → KeyIs 44 text b d → Makes (read relation) values text ops1 d ops2 e → KeyIs 41 text e f
-      → Written 7 ops2 f ops3 g → Makes (read factor) values text ops r ops3 g
+  pub factor-pair : {ops ops1 ops2 ops3 : List ℕ} {r m a b d e f g : Made} → AtomIs text r (atom.Modulo m) → KeyIs (number "(") text m a
+      → Makes (read relation) values text ops a ops1 b → KeyIs (number ",") text b d → Makes (read relation) values text ops1 d ops2 e → KeyIs (number ")") text e f
+      → Written (op codeMod 0) ops2 f ops3 g → Makes (read factor) values text ops r ops3 g
   factor-pair (goes R l o (pair q)) i y j z k w =
       record {
         low = omega (arith, key-low i, key-low j, key-low k, written-ahead w text);

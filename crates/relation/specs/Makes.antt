@@ -11,7 +11,9 @@ use Rattle.nibl.specs.Grammar.{Joints, factorJoints, termJoints, sumJoints}
 use Rattle.nibl.specs.Tree.{Op, Expr, negate, modulo}
 use Rattle.nibl.specs.Read.{Found, nothing, found, Reader, aSign, aJoint, choose, fail, give, key, _>>=_, factorCases, read, factor, term, sum, relation, terms}
 use Rattle.word.specs.declared.Cursor.{Cursor}
-use Rattle.relation.specs.Code.{op, opNumber, values}
+use Rattle.relation.specs.Code.{values}
+use Rattle.codes.specs.Codes.{op, codeOperator}
+use Rattle.codes.specs.Operators.{opNumber, operatorCount}
 use Rattle.relation.specs.declared.Made.{Made}
 use Rattle.relation.specs.declared.Made.the-variants.{Next, NoReading}
 use Rattle.relation.specs.declared.Signed.{Signed}
@@ -38,13 +40,13 @@ abbrev pub filled : Made → ℕ
 filled NoReading = 0
 filled (Next c o) = suc o
 
--- w was written from o on, and n is the place past it
-pub record Wrote (ops : List ℕ) (o : ℕ) (w ops' : List ℕ) (n : ℕ) : Type 0 where
+-- w was written from o on, and n is the index past it
+pub record WroteOps (ops : List ℕ) (o : ℕ) (w ops' : List ℕ) (n : ℕ) : Type 0 where
   pub pos : n ≡ o + length w
   pub buf : ops' ≡ sets ops o w
 
 pub data Written (v : ℕ) (ops : List ℕ) : Made → List ℕ → Made → Type 0 where
-  stopped : {ops' : List ℕ} → Written v ops NoReading ops' NoReading
+  stopped : Written v ops NoReading ops NoReading
   written : {c : Cursor} {o : ℕ} → Written v ops (Next c o) (set ops o v) (Next c (o + 1))
 
 module _ {X A : Type 0} where
@@ -54,7 +56,7 @@ module _ {X A : Type 0} where
     stopped : Gives R pre code text ops ops' NoReading NoReading
     refused : {c : Cursor} {o : ℕ} → ((x : X) → R x (drop (c .at) text) ≡ nothing) → Gives R pre code text ops ops' (Next c o) NoReading
     given : {c d : Cursor} {o n : ℕ} (grow : X → A) (tail : List ℕ) → ((x : X) → R x (drop (c .at) text) ≡ found (grow x) (drop (d .at) text))
-        → ((x : X) → code (grow x) ≡ pre x ++ tail) → (c .at ≤ length text → d .at ≤ length text) → Wrote ops o tail ops' n
+        → ((x : X) → code (grow x) ≡ pre x ++ tail) → (c .at ≤ length text → d .at ≤ length text) → WroteOps ops o tail ops' n
         → Gives R pre code text ops ops' (Next c o) (Next d n)
 
   pub record Reads (R : X → Reader A) (pre : X → List ℕ) (code : A → List ℕ) (text ops : List ℕ) (r : Made) (ops' : List ℕ) (s : Made) : Type 0 where
@@ -111,17 +113,24 @@ pub data KeyIs (k : ℕ) (text : List ℕ) : Made → Made → Type 0 where
   refused : {c : Cursor} {o : ℕ} → Otherwise k (aSign (drop (c .at) text)) → KeyIs k text (Next c o) NoReading
   there : {r s : Made} → Stood aSign k text r s → KeyIs k text r s
 
--- the operators of factors, of terms, of sums
-abbrev pub jointsOf : ℕ → Joints
-jointsOf n = choose ((0, factorJoints) ∷ (1, termJoints) ∷ []) sumJoints n
+-- what operators join: factors, terms, or else sums
+abbrev pub joinsFactors : ℕ
+joinsFactors = 0
 
-abbrev pub codeOf : Option Op → ℕ
-codeOf none = 0
-codeOf (some q) = op 8 (opNumber q)
+abbrev pub joinsTerms : ℕ
+joinsTerms = 1
+
+abbrev pub jointsOf : ℕ → Joints
+jointsOf n = choose ((joinsFactors, factorJoints) ∷ (joinsTerms, termJoints) ∷ []) sumJoints n
+
+-- an operator's number, or how many there are where there is none
+abbrev pub numberOf : Option Op → ℕ
+numberOf none = operatorCount
+numberOf (some q) = opNumber q
 
 pub record JoinedBy (js : Joints) (text : List ℕ) (r : Made) (v : ℕ) (m : Made) : Type 0 where
   pub operator : Op
-  pub number : v ≡ op 8 (opNumber operator)
+  pub number : v ≡ op codeOperator (opNumber operator)
   pub next : Stood (aJoint js) operator text r m
 
 abbrev pub JointIs : Joints → List ℕ → Made → Joined → Type 0

@@ -4,12 +4,13 @@
 // reading, the rest of them pass that on.
 use word::Cursor;
 use word::Word;
+use word::sign;
 ghost use Prim.Native.Nat.{_≤_};
 ghost use mathlib.Core.Path.{_≡_};
 ghost use lib.ListN.{length};
 ghost use Rattle.nibl.specs.Read.{read, factor, term, sum, relation, factors, terms};
 ghost use Rattle.relation.specs.Code.{values};
-ghost use Rattle.relation.specs.Makes.{need, filled, SignIs, KeyIs, codeOf, jointsOf, JointIs, LeadIs, FormIs, cases, AtomIs, Written, Reads, Makes};
+ghost use Rattle.relation.specs.Makes.{need, filled, SignIs, KeyIs, numberOf, jointsOf, JointIs, LeadIs, FormIs, cases, AtomIs, Written, Reads, Makes};
 ghost use Rattle.nibl.specs.Grammar.{jointOf};
 
 // The cursor past what was read and the number of operations so far, or no reading.
@@ -83,38 +84,45 @@ pub fn write(ops: &mut [u32], r: Made, v: u32) -> Made
     Made::Next(c, o + 1)
 }
 
-// The operation of a sign that joins factors (0), terms (1) or sums; 0 for another sign.
-fn operator(level: u8, k: u8) -> u32
-    ensures { λ v. ⌜ v ≡ codeOf (jointOf (jointsOf level) k) ⌝ }
+// What operators join.
+const FACTORS: u8 = 0;
+
+const TERMS: u8 = 1;
+
+const SUMS: u8 = 2;
+
+// The number of the operator that a sign is where factors, terms or sums are joined; OPERATORS for another sign.
+fn operator(level: u8, k: u8) -> u8
+    ensures { λ v. ⌜ v ≡ numberOf (jointOf (jointsOf level) k) ⌝ }
 {
-    if level == 0 {
+    if level == FACTORS {
         return match k {
-            42 => 8,
-            47 => 72,
-            150 => 136,
-            _ => 0,
+            sign::TIMES => codes::OPERATOR_TIMES,
+            sign::DIVIDE => codes::OPERATOR_DIVIDE,
+            sign::AND => codes::OPERATOR_AND,
+            _ => codes::OPERATORS,
         };
     }
-    if level == 1 {
+    if level == TERMS {
         return match k {
-            43 => 200,
-            45 => 264,
-            151 => 328,
-            _ => 0,
+            sign::PLUS => codes::OPERATOR_PLUS,
+            sign::MINUS => codes::OPERATOR_MINUS,
+            sign::OR => codes::OPERATOR_OR,
+            _ => codes::OPERATORS,
         };
     }
     match k {
-        61 => 392,
-        60 => 456,
-        62 => 520,
-        1 => 584,
-        2 => 648,
-        3 => 712,
-        _ => 0,
+        sign::EQUAL => codes::OPERATOR_EQUAL,
+        sign::LESS => codes::OPERATOR_LESS,
+        sign::GREATER => codes::OPERATOR_GREATER,
+        sign::AT_MOST => codes::OPERATOR_AT_MOST,
+        sign::AT_LEAST => codes::OPERATOR_AT_LEAST,
+        sign::UNEQUAL => codes::OPERATOR_UNEQUAL,
+        _ => codes::OPERATORS,
     }
 }
 
-// The operator that joins factors (0), terms (1) or sums, where one stands next.
+// The operator that joins factors, terms or sums, where one stands next.
 fn joint_at(text: &[u8], r: Made, level: u8) -> Joined
     ensures { λ j. ⌜ JointIs (jointsOf level) (now (text .entry)) r j ⌝ }
 {
@@ -122,11 +130,11 @@ fn joint_at(text: &[u8], r: Made, level: u8) -> Joined
     let Signed::By(k, m) = w else {
         return Joined::Alone;
     };
-    let v = operator(level, k);
-    if v == 0 {
+    let n = operator(level, k);
+    if n == codes::OPERATORS {
         return Joined::Alone;
     }
-    Joined::By(v, m)
+    Joined::By(codes::operation(codes::OPERATOR, wide(n)), m)
 }
 
 fn wide(b: u8) -> u32
@@ -146,12 +154,12 @@ fn form(k: u8, m: Made) -> Atom
     ensures { λ a. ⌜ FormIs (cases k) m a ⌝ }
 {
     match k {
-        147 => Atom::Whole(2, m),
-        148 => Atom::Whole(3, m),
-        40 => Atom::Bracket(m),
-        64 => Atom::Prefix(4, m),
-        152 => Atom::Prefix(5, m),
-        149 => Atom::Modulo(m),
+        sign::STAT => Atom::Whole(codes::STAT, m),
+        sign::TOP => Atom::Whole(codes::TOP, m),
+        sign::OPEN => Atom::Bracket(m),
+        sign::AT => Atom::Prefix(codes::BYTE, m),
+        sign::NOT => Atom::Prefix(codes::NOT, m),
+        sign::MOD => Atom::Modulo(m),
         _ => Atom::Other,
     }
 }
@@ -165,9 +173,18 @@ fn atom_at(text: &[u8], r: Made) -> Atom
     };
     let w = word::word_at(text, c);
     match w {
-        Word::Variable(v, p) => Atom::Whole(wide(v) * 64 + 1, Made::Next(p, o)),
-        Word::Decimal(n, p) => Atom::Whole(wide16(n) * 64, Made::Next(p, o)),
-        Word::Hex(n, p) => Atom::Whole(wide16(n) * 64, Made::Next(p, o)),
+        Word::Variable(v, p) => Atom::Whole(
+            codes::operation(codes::VARIABLE, wide(v)),
+            Made::Next(p, o),
+        ),
+        Word::Decimal(n, p) => Atom::Whole(
+            codes::operation(codes::CONSTANT, wide16(n)),
+            Made::Next(p, o),
+        ),
+        Word::Hex(n, p) => Atom::Whole(
+            codes::operation(codes::CONSTANT, wide16(n)),
+            Made::Next(p, o),
+        ),
         Word::Sign(k, p) => form(k, Made::Next(p, o)),
         _ => Atom::Other,
     }
@@ -187,15 +204,15 @@ pub fn read_factor(text: &[u8], r: Made, ops: &mut [u32]) -> Made
         }
         Atom::Bracket(m) => {
             let e = read_relation(text, m, ops);
-            past_sign(text, e, 41)
+            past_sign(text, e, sign::CLOSE)
         }
         Atom::Modulo(m) => {
-            let b = past_sign(text, m, 40);
+            let b = past_sign(text, m, sign::OPEN);
             let d = read_relation(text, b, ops);
-            let e = past_sign(text, d, 44);
+            let e = past_sign(text, d, sign::COMMA);
             let f = read_relation(text, e, ops);
-            let g = past_sign(text, f, 41);
-            write(ops, g, 7)
+            let g = past_sign(text, f, sign::CLOSE);
+            write(ops, g, codes::MOD)
         }
         Atom::Other => Made::NoReading,
     }
@@ -215,7 +232,7 @@ fn more_factors(text: &[u8], r: Made, ops: &mut [u32]) -> Made
     requires { ⌜ need 0 (now text) r ≤ length (now ops) ⌝ }
     ensures { λ s. ⌜ Reads (λ a. read (factors a)) values values (now (text .entry)) (now (ops .entry)) r (now (ops .exit)) s ⌝ }
 {
-    let j = joint_at(text, r, 0);
+    let j = joint_at(text, r, FACTORS);
     match j {
         Joined::By(v, m) => {
             let f = read_factor(text, m, ops);
@@ -234,10 +251,10 @@ fn lead_at(text: &[u8], r: Made) -> Lead
     let Signed::By(k, m) = w else {
         return Lead::Plain(r);
     };
-    if k == 45 {
+    if k == sign::MINUS {
         return Lead::Minus(m);
     }
-    if k == 43 {
+    if k == sign::PLUS {
         return Lead::Plain(m);
     }
     Lead::Plain(r)
@@ -252,7 +269,7 @@ fn read_sum(text: &[u8], r: Made, ops: &mut [u32]) -> Made
     match l {
         Lead::Minus(m) => {
             let t = read_term(text, m, ops);
-            let n = write(ops, t, 6);
+            let n = write(ops, t, codes::NEGATE);
             more_terms(text, n, ops)
         }
         Lead::Plain(m) => {
@@ -267,7 +284,7 @@ fn more_terms(text: &[u8], r: Made, ops: &mut [u32]) -> Made
     requires { ⌜ need 0 (now text) r ≤ length (now ops) ⌝ }
     ensures { λ s. ⌜ Reads (λ a. read (terms a)) values values (now (text .entry)) (now (ops .entry)) r (now (ops .exit)) s ⌝ }
 {
-    let j = joint_at(text, r, 1);
+    let j = joint_at(text, r, TERMS);
     match j {
         Joined::By(v, m) => {
             let t = read_term(text, m, ops);
@@ -284,7 +301,7 @@ pub fn read_relation(text: &[u8], r: Made, ops: &mut [u32]) -> Made
     ensures { λ s. ⌜ Makes (read relation) values (now (text .entry)) (now (ops .entry)) r (now (ops .exit)) s ⌝ }
 {
     let f = read_sum(text, r, ops);
-    let j = joint_at(text, f, 2);
+    let j = joint_at(text, f, SUMS);
     match j {
         Joined::By(v, m) => {
             let g = read_sum(text, m, ops);

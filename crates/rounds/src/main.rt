@@ -4,11 +4,10 @@
 ghost use Prim.Native.Nat.{_-_, _≤_, _<_};
 ghost use lib.ListN.{length};
 ghost use mathlib.Core.Path.{_≡_};
-use effect::Parts;
 use nibl::ForEntry;
 use nibl::ForStack;
 use nibl::LineNumber;
-use nibl::Paused;
+use nibl::Onward;
 use nibl::Place;
 use nibl::PlaceStack;
 use nibl::Session;
@@ -107,7 +106,7 @@ fn size_at(page: &[u8], at: usize) -> usize
     if left < 5 {
         return 0;
     }
-    if page[at] == 255 {
+    if page[at] == nibl::END_MARK {
         return 0;
     }
     let size = wide(page[at + 2]);
@@ -162,8 +161,7 @@ fn edits(page: &mut [u8]) -> u16
 fn found(f: FoundLine) -> usize {
     match f {
         FoundLine::Nothing => 0,
-        FoundLine::First => 1,
-        FoundLine::After(p) => p.0 as usize + 2,
+        FoundLine::At(o) => o.position() + 1,
     }
 }
 
@@ -180,13 +178,18 @@ fn finds(page: &[u8]) -> u16 {
 }
 
 fn check(page: &[u8]) -> u16 {
-    if places::is_good(page, 72) { 1 } else { 0 }
+    if places::is_good(page, nibl::LIMIT) {
+        1
+    } else {
+        0
+    }
 }
 
 fn no_places() -> PlaceStack {
+    let none = Place::at(0);
     PlaceStack {
         depth: 0,
-        places: [Place(0); 8],
+        places: [none; 8],
     }
 }
 
@@ -195,7 +198,7 @@ fn no_fors() -> ForStack {
         var: 0,
         limit: 0,
         step: 0,
-        place: Place(0),
+        place: Place::at(0),
     };
     ForStack {
         depth: 0,
@@ -210,7 +213,7 @@ fn fresh() -> Session {
         gosubs: no_places(),
         dos: no_places(),
         fors: no_fors(),
-        paused: Paused::Start,
+        paused: 0,
     }
 }
 
@@ -219,7 +222,7 @@ fn steps(page: &[u8], session: Session) -> u16 {
     if 4096 < page.len() {
         return 0;
     }
-    if !places::is_good(page, 72) {
+    if !places::is_good(page, nibl::LIMIT) {
         return 0;
     }
     if !record::fits(page, session) {
@@ -227,20 +230,13 @@ fn steps(page: &[u8], session: Session) -> u16 {
     }
     let mut memory = [0u8; 1];
     let mut output = [0u8; 1];
+    let mut ops = [0u32; nibl::ROOM];
+    let mut values = [0u16; nibl::ROOM];
+    let mut reply = [0u8; nibl::LIMIT];
+    let mut replies = [0u32; nibl::LIMIT];
     let mut vars = session.vars;
-    let gosubs = session.gosubs;
-    let dos = session.dos;
-    let fors = session.fors;
-    let parts = Parts {
-        flags: session.flags,
-        gosubs: gosubs,
-        dos: dos,
-        fors: fors,
-        inpos: 0,
-        outpos: 0,
-    };
-    let ran = run::run(
-        0,
+    let ran = run::run_steps(
+        Onward::Start,
         32767,
         page,
         b"",
@@ -248,7 +244,12 @@ fn steps(page: &[u8], session: Session) -> u16 {
         &mut vars,
         &mut memory,
         &mut output,
-        parts,
+        &mut reply,
+        &mut replies,
+        &mut values,
+        &mut ops,
+        session.parts(0, 0),
+        b"",
     );
     std::num::wrapping_add_u16(ran.steps, vars[0])
 }
@@ -271,7 +272,7 @@ fn round(work: u16, bytes: &mut [u8], ops: &mut [u32]) -> u16
 fn rounds(work: u16, n: u16, bytes: &mut [u8]) -> u16
     requires { ⌜ 0 < length (now bytes) ⌝ }
 {
-    let mut ops = [0u32; 256];
+    let mut ops = [0u32; nibl::ROOM];
     let mut sum: u16 = 0;
     let mut i: u16 = 0;
     while i < n {

@@ -21,14 +21,14 @@ use Rattle.reader.proofs.MemberRead.{the-type}
 use Rattle.line.proofs.Codes.{written-front}
 use Rattle.line.proofs.Lists.{First, first, no-first, left-fits}
 use Rattle.line.proofs.Short.{member-short}
-use Rattle.machine.specs.Machine.{runOps}
-use Rattle.machine.proofs.Compiles.{compiled}
-use Rattle.machine.proofs.Readings.{member-fine}
-use Rattle.run.specs.After.{afterTo, afterDone, stepOf}
-use Rattle.run.specs.Steps.{Within}
+use Rattle.operation.specs.Operations.{runOps}
+use Rattle.operation.proofs.Compiles.{compiled}
+use Rattle.operation.proofs.Readings.{member-fine}
+use Rattle.run.specs.StepEnds.{stepEnd, doneEnd, stepOf}
+use Rattle.run.specs.Running.{TextRoom}
 
 -- of the text that begins at a, as the readers were lent it
-module _ (page ops text : List ℕ) (a : ℕ) (same : text ≡ lineFrom page a) (within : Within page a ops) (small : length page ≤ 65535) where
+module _ (page ops text : List ℕ) (a : ℕ) (same : text ≡ lineFrom page a) (within : TextRoom page a ops) (small : length page ≤ 65535) where
   room : hasRoom text ops ≡ true
   room =
       let n = ap length same in
@@ -38,7 +38,7 @@ module _ (page ops text : List ℕ) (a : ℕ) (same : text ≡ lineFrom page a) 
 
   module _ (r : MemberRead) (answered : r ≡ (if hasRoom text ops then memberOf (member text) else memberRead.NoRoom)) where
     -- without a member there is 5
-    pub no-member : (e : Env) (w : World) → OneOf (1 ∷ 2 ∷ []) (tagOf the-type r) → afterTo (stop 5) a w ≡ stepOf e a w (member (lineFrom page a))
+    pub no-member : (e : Env) (w : World) → OneOf (1 ∷ 2 ∷ []) (tagOf the-type r) → stepEnd (stop 5) a w ≡ stepOf e a w (member (lineFrom page a))
     unfolding stepOf
     no-member e w k = rw (← same, no-first text ops r room answered k) refl
 
@@ -67,7 +67,7 @@ module _ (page ops text : List ℕ) (a : ℕ) (same : text ≡ lineFrom page a) 
     pub member-done : (e : Env) (w : World) (d : Done) (after : List ℕ) → e .page ≡ page
         → after ≡ (if hasRoom text ops then memberOps ops (member text) else ops)
         → d ≡ runOps (envAt e (a + length text - left)) (take n after) w []
-        → afterDone d (a + length text - left) (a + length text) ≡ stepOf e a w (member (lineFrom page a))
+        → doneEnd d (a + length text - left) (a + length text) ≡ stepOf e a w (member (lineFrom page a))
     unfolding stepOf
     member-done e w d after p h g =
         let l = ap length same in

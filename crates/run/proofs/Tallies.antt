@@ -9,9 +9,8 @@ use Rattle.nibl.specs.Tree.{Member}
 use Rattle.nibl.specs.Read.{Found, nothing, found, member}
 use Rattle.nibl.specs.Page.{lineOf}
 use Rattle.nibl.specs.Meaning.{World, Env, on, skip, go, stop, Done, done, exec}
-use Rattle.nibl.specs.Calls.{Ran, ran, stepped, outcome, stopAt, pausing, ended, textFrom, lineFrom, envAt, onward, step, runFrom}
-use Rattle.nibl.specs.declared.StopLine.{StopLine}
-use Rattle.run.specs.After.{After, afterDone, stepOf, follow, tally}
+use Rattle.nibl.specs.Calls.{Ran, ran, stepped, outcome, stopAt, pausing, runOutcome, textFrom, lineFrom, envAt, afterStep, step, runFrom}
+use Rattle.run.specs.StepEnds.{StepEnd, doneEnd, stepOf, follow, tally}
 
 -- past the last line, and where the budget is spent
 pub runs-out : (k : ℕ) (e : Env) (q : ℕ) (w : World) → textFrom (e .page) q ≡ none → runFrom k e q w ≡ ran 0 q w
@@ -24,13 +23,13 @@ unfolding runFrom
 runs-dry e q a w h = rw (h, runFrom)
 
 -- a step, and the run after it
-onward-follows : (d : Done) (p cr : ℕ) (k : ℕ → World → Ran) → onward d p cr k ≡ follow (afterDone d p cr) k
-onward-follows (done on w) p cr k = refl
-onward-follows (done skip w) p cr k = refl
-onward-follows (done (go q) w) p cr k = refl
-onward-follows (done (stop n) w) p cr k = refl
+after-follows : (d : Done) (p cr : ℕ) (k : ℕ → World → Ran) → afterStep d p cr k ≡ follow (doneEnd d p cr) k
+after-follows (done on w) p cr k = refl
+after-follows (done skip w) p cr k = refl
+after-follows (done (go q) w) p cr k = refl
+after-follows (done (stop n) w) p cr k = refl
 
-pub after-at : (d : Done) (p cr : ℕ) → afterDone d p cr .at ≡ p
+pub after-at : (d : Done) (p cr : ℕ) → doneEnd d p cr .at ≡ p
 after-at (done n w) p cr = refl
 
 pub step-follows : (e : Env) (a : ℕ) (w : World) (m : Member) (s : List ℕ) (k : ℕ → World → Ran)
@@ -40,8 +39,8 @@ step-follows e a w m s k =
     let n = length (lineFrom (e .page) a) in
     let p = a + (n - m .left) in
     let d = exec (envAt e p) (m .statement) w in
-    ap (stepped (lineOf (e .page) p)) (onward-follows d p (a + n) k)
-    ∙ ap (λ (x : ℕ). stepped (lineOf (e .page) x) (follow (afterDone d p (a + n)) k)) (sym (after-at d p (a + n)))
+    ap (stepped (lineOf (e .page) p)) (after-follows d p (a + n) k)
+    ∙ ap (λ (x : ℕ). stepped (lineOf (e .page) x) (follow (doneEnd d p (a + n)) k)) (sym (after-at d p (a + n)))
 
 pub some-step : (k : ℕ) (e : Env) (q a : ℕ) (w : World) → textFrom (e .page) q ≡ some a → runFrom (suc k) e q w ≡ step e a w (member (lineFrom (e .page) a)) (runFrom k e)
 unfolding runFrom
@@ -52,7 +51,7 @@ pub runs-step : (k : ℕ) (e : Env) (q a : ℕ) (w : World) (m : Member) (s : Li
 runs-step k e q a w m s h f = some-step k e q a w h ∙ ap (λ (g : Found Member). step e a w g (runFrom k e)) f ∙ step-follows e a w m s (runFrom k e)
 
 -- none so far
-pub tally-none : (r : Ran) (page : List ℕ) → ended r page ≡ tally 0 r page
+pub tally-none : (r : Ran) (page : List ℕ) → runOutcome r page ≡ tally 0 r page
 tally-none r page = ap (λ (n : ℕ). outcome (r .stop) (stopAt (r .stop) (r .lines)) n (pausing (r .stop) (r .at) (r .world)) page) (omega arith)
 
 -- one line more before those of a run is not that of its stop
@@ -76,12 +75,12 @@ quiet-run k e q w h = by k (textFrom (e .page) q) refl where
 
 pub tally-step : (s l : ℕ) (r : Ran) (page : List ℕ) → Quiet r → tally s (stepped l r) page ≡ tally (suc s) r page
 tally-step s l r page h =
-    ap (λ (x : StopLine). outcome (r .stop) x (s + suc (length (r .lines))) (pausing (r .stop) (r .at) (r .world)) page) (h l)
+    ap (λ (x : ℕ). outcome (r .stop) x (s + suc (length (r .lines))) (pausing (r .stop) (r .at) (r .world)) page) (h l)
     ∙ ap (λ (n : ℕ). outcome (r .stop) (stopAt (r .stop) (r .lines)) n (pausing (r .stop) (r .at) (r .world)) page) (omega arith)
 
 -- A run of one step and more, by where its first step leads
 module _ (e : Env) (q a : ℕ) (w : World) (m : Member) (s : List ℕ) (h : textFrom (e .page) q ≡ some a) (f : member (lineFrom (e .page) a) ≡ found m s) where
-  abbrev t : After
+  abbrev t : StepEnd
   t = stepOf e a w (found m s)
 
   pub tally-goes : (k n x : ℕ) → t .next ≡ go x → Quiet (runFrom k e x (t .world)) → tally n (runFrom (suc k) e q w) (e .page) ≡ tally (suc n) (runFrom k e x (t .world)) (e .page)

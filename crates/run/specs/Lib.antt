@@ -1,2 +1,2 @@
-pub mod After
-pub mod Steps
+pub mod StepEnds
+pub mod Running

@@ -1,4 +1,4 @@
-// Runs the programs of standard input by the proved `run`, and writes how each run ended, to be held against what the
+// Runs the programs of standard input by the proved `run_steps`, and writes how each run ended, to be held against what the
 // model's call makes of the same bytes. The input has the number of cases, and then of each the page, the memory and the
 // input, each after its length; the output's length; where to read and to write; the sense byte; the budget; and the
 // session record.
@@ -9,15 +9,14 @@
 ghost use Prim.Native.Nat.{_≤_};
 ghost use lib.ListN.{length};
 ghost use mathlib.Core.Path.{_≡_};
-ghost use Rattle.run_table.specs.Position.{positionOf};
-use effect::Parts;
 use nibl::ForEntry;
 use nibl::ForStack;
+use nibl::Onward;
+use nibl::Parts;
 use nibl::Paused;
 use nibl::Place;
 use nibl::PlaceStack;
 use nibl::Session;
-use nibl::StopLine;
 use run::Ran;
 
 // A session between two runs, and where the next one reads and writes.
@@ -45,16 +44,21 @@ fn number() -> u16 {
     high * 256 + low
 }
 
+fn place() -> Place {
+    Place::at(number() as usize)
+}
+
 // A stack: its depth, and its eight places.
 fn place_stack() -> PlaceStack {
     let depth = number() as usize;
+    let none = Place::at(0);
     let mut stack = PlaceStack {
         depth: 0,
-        places: [Place(0); 8],
+        places: [none; 8],
     };
     let mut i: u8 = 0;
     while i < 8 {
-        let pushed = stack.push(Place(number()));
+        let pushed = stack.push(place());
         stack = pushed.stack;
         i += 1;
     }
@@ -66,7 +70,7 @@ fn for_entry() -> ForEntry {
     let var = byte();
     let limit = number();
     let step = number();
-    let place = Place(number());
+    let place = place();
     ForEntry {
         var: var,
         limit: limit,
@@ -82,7 +86,7 @@ fn for_stack() -> ForStack {
         var: 0,
         limit: 0,
         step: 0,
-        place: Place(0),
+        place: Place::at(0),
     };
     let mut stack = ForStack {
         depth: 0,
@@ -98,14 +102,24 @@ fn for_stack() -> ForStack {
     stack
 }
 
+// The pause after a place. The two highest places, which are on no page, have no such number: another one stands for them
+// that is on none.
+fn pause_after(place: u16) -> u16 {
+    if 65533 < place {
+        return 65535;
+    }
+    let o = Onward::After(Place::at(place as usize));
+    o.pause()
+}
+
 // A pause: its kind, and the place of the last kind.
-fn pause() -> Paused {
+fn pause() -> u16 {
     let kind = byte();
-    let place = Place(number());
+    let place = number();
     match kind {
-        0 => Paused::Nowhere,
-        1 => Paused::Start,
-        _ => Paused::At(place),
+        0 => 0,
+        1 => 1,
+        _ => pause_after(place),
     }
 }
 
@@ -136,18 +150,25 @@ fn show(n: u64) {
     io::print_decimal(1, n);
 }
 
-fn show_line(line: StopLine) {
-    match line {
-        StopLine::NoLine => say(b" -"),
-        StopLine::At(n) => show(n.0 as u64),
+fn show_line(line: u16) {
+    if line == nibl::NO_LINE {
+        say(b" -");
+    } else {
+        show(line as u64);
     }
 }
 
-fn show_pause(paused: Paused) {
-    match paused {
+fn show_onward(o: Onward) {
+    match o {
+        Onward::Start => say(b" start"),
+        Onward::After(p) => show(p.position() as u64),
+    }
+}
+
+fn show_pause(paused: u16) {
+    match Paused::of(paused) {
         Paused::Nowhere => say(b" -"),
-        Paused::Start => say(b" start"),
-        Paused::At(p) => show(p.0 as u64),
+        Paused::At(o) => show_onward(o),
     }
 }
 
@@ -157,7 +178,7 @@ fn show_places(stack: PlaceStack) {
     let mut i: usize = 0;
     while i < 8 {
         let p = stack.places[i];
-        show(p.0 as u64);
+        show(p.position() as u64);
         i += 1;
     }
 }
@@ -167,7 +188,7 @@ fn show_entry(e: ForEntry) {
     show(e.limit as u64);
     show(e.step as u64);
     let p = e.place;
-    show(p.0 as u64);
+    show(p.position() as u64);
 }
 
 fn show_fors(stack: ForStack) {
@@ -224,13 +245,11 @@ fn show_parts(parts: Parts) {
 }
 
 fn row(ran: Ran, vars: &[u16], memory: &[u8], output: &[u8]) {
-    let line = ran.line;
-    let paused = ran.paused;
     let parts = ran.parts;
     io::print_decimal(1, ran.stop as u64);
-    show_line(line);
+    show_line(ran.line);
     show(ran.steps as u64);
-    show_pause(paused);
+    show_pause(ran.paused);
     show_parts(parts);
     show_vars(vars);
     say(b" /");
@@ -242,53 +261,18 @@ fn row(ran: Ran, vars: &[u16], memory: &[u8], output: &[u8]) {
 // A session that is not run has no pause after it.
 fn refused(session: Session) -> Stand {
     say(b"refused\n");
-    let vars = session.vars;
-    let gosubs = session.gosubs;
-    let dos = session.dos;
-    let fors = session.fors;
-    let next = Session {
-        vars: vars,
-        flags: session.flags,
-        gosubs: gosubs,
-        dos: dos,
-        fors: fors,
-        paused: Paused::Nowhere,
-    };
     Stand {
-        session: next,
+        session: session.unpaused(),
         inpos: 0,
         outpos: 0,
-    }
-}
-
-// The position where a run goes on.
-fn position(paused: Paused) -> u32
-    ensures { λ r. ⌜ r ≡ positionOf paused ⌝ }
-{
-    match paused {
-        Paused::Nowhere => 0,
-        Paused::Start => 0,
-        Paused::At(p) => p.0 as u32 + 1,
     }
 }
 
 // What a run leaves for the next.
 fn stand_of(vars: [u16; 26], ran: Ran) -> Stand {
     let p = ran.parts;
-    let paused = ran.paused;
-    let gosubs = p.gosubs;
-    let dos = p.dos;
-    let fors = p.fors;
-    let session = Session {
-        vars: vars,
-        flags: p.flags,
-        gosubs: gosubs,
-        dos: dos,
-        fors: fors,
-        paused: paused,
-    };
     Stand {
-        session: session,
+        session: p.session(vars, ran.paused),
         inpos: p.inpos,
         outpos: p.outpos,
     }
@@ -309,27 +293,21 @@ fn round(
     if 4096 < page.len() {
         return refused(session);
     }
-    if !places::is_good(page, 72) {
+    if !places::is_good(page, nibl::LIMIT) {
         return refused(session);
     }
     if !record::fits(page, session) {
         return refused(session);
     }
-    let paused = session.paused;
-    let from = position(paused);
-    let mut vars = session.vars;
-    let gosubs = session.gosubs;
-    let dos = session.dos;
-    let fors = session.fors;
-    let parts = Parts {
-        flags: session.flags,
-        gosubs: gosubs,
-        dos: dos,
-        fors: fors,
-        inpos: inpos,
-        outpos: outpos,
+    let Paused::At(from) = Paused::of(session.paused) else {
+        return refused(session);
     };
-    let ran = run::run(
+    let mut ops = [0u32; nibl::ROOM];
+    let mut values = [0u16; nibl::ROOM];
+    let mut reply = [0u8; nibl::LIMIT];
+    let mut replies = [0u32; nibl::LIMIT];
+    let mut vars = session.vars;
+    let ran = run::run_steps(
         from,
         budget as usize,
         page,
@@ -338,18 +316,15 @@ fn round(
         &mut vars,
         memory,
         output,
-        parts,
+        &mut reply,
+        &mut replies,
+        &mut values,
+        &mut ops,
+        session.parts(inpos, outpos),
+        b"",
     );
     row(ran, &vars, memory, output);
     stand_of(vars, ran)
-}
-
-fn is_paused(session: Session) -> bool {
-    let paused = session.paused;
-    match paused {
-        Paused::Nowhere => false,
-        _ => true,
-    }
 }
 
 // A case's rounds.
@@ -361,7 +336,7 @@ fn rounds(page: &[u8], input: &[u8], memory: &mut [u8], output: &mut [u8]) {
     let mut next = session();
     let mut i: u8 = 0;
     while i < 4 {
-        if !is_paused(next) {
+        if next.paused == 0 {
             break;
         }
         let stand = round(

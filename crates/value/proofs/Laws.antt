@@ -10,9 +10,10 @@ use lib.ListN.{List·getD-eq-default}
 use lib.Dec.{ltb, eqb}
 use borrow.Author.Tests.{ltb-true, ltb-false, ne-eqb}
 use Rattle.nibl.specs.Bytes.{if_then_else_}
-use Rattle.nibl.specs.Tree.{Op, times, over, both, plus, minus, either, equal, less, greater, atMost, atLeast, unequal}
+use Rattle.nibl.specs.Tree.{Op, times, dividedBy, andBits, plus, minus, orBits, equal, less, greater, atMost, atLeast, unequal}
 use Rattle.nibl.specs.Values.{is, no, bit, less16, mod16, apply, magnitude, isNegative, differ, quotient16, sub16, unlessZero}
-use Rattle.value.specs.Operators.{valueOf, operators, opOf}
+use Rattle.value.specs.Operators.{valueOf}
+use Rattle.codes.specs.Operators.{operators, opOf}
 use Rattle.value.specs.declared.Value.{Value}
 use Rattle.value.specs.declared.Value.the-variants.{Is, No}
 
@@ -48,7 +49,7 @@ differ-beq false false = refl
 
 -- a quotient by the signs that were found, t says whether they are the same
 pub quotient-value : (a b : ℕ) {s d q : ℕ} {m n : Bool} → s ≡ magnitude a → d ≡ magnitude b → m ≡ isNegative a → n ≡ isNegative b → (b ≡ 0 → ⊥) →
-    (t : Bool) → Bool·beq m n ≡ t → q ≡ (if t then s / d else sub16 0 (s / d)) → is q ≡ apply over a b
+    (t : Bool) → Bool·beq m n ≡ t → q ≡ (if t then s / d else sub16 0 (s / d)) → is q ≡ apply dividedBy a b
 unfolding apply
 quotient-value a b {s} {d} {q} {m} {n} hs hd hm hn h t e k =
     rw (k, ← hs, ← hd, ← hm, ← hn, differ-beq m n, e, ne-eqb b 0 h) (go t)
@@ -93,11 +94,11 @@ mod16-below a b v h e = unless-below b _ (omega (arith, mod-le (magnitude a) (ma
 pub apply-below : (o : Op) (a b v : ℕ) → a < 65536 → b < 65536 → apply o a b ≡ is v → v < 65536
 unfolding apply
 apply-below times a b v ha hb e = below (omega arith) e
-apply-below over a b v ha hb e = unless-below b _ (quotient-below a b ha) e
-apply-below both a b v ha hb e = below (lt-of-le-of-lt (and-le-l a b) ha) e
+apply-below dividedBy a b v ha hb e = unless-below b _ (quotient-below a b ha) e
+apply-below andBits a b v ha hb e = below (lt-of-le-of-lt (and-le-l a b) ha) e
 apply-below plus a b v ha hb e = below (omega arith) e
 apply-below minus a b v ha hb e = below (omega arith) e
-apply-below either a b v ha hb e = below (or-lt 16 a b ha hb) e
+apply-below orBits a b v ha hb e = below (or-lt 16 a b ha hb) e
 apply-below equal a b v ha hb e = below (bit-below (eqb a b)) e
 apply-below less a b v ha hb e = below (bit-below (less16 a b)) e
 apply-below greater a b v ha hb e = below (bit-below (less16 b a)) e

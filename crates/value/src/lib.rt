@@ -4,9 +4,23 @@ ghost use Prim.Native.Nat.{_≤_};
 ghost use mathlib.Core.Path.{_≡_};
 ghost use lib.ListN.{length};
 ghost use Rattle.nibl.specs.Values.{add16, sub16, mul16, not16, less16, bit, magnitude, isNegative, mod16, apply, is, digits, printed};
-ghost use Rattle.nibl.specs.Tree.{over};
-ghost use Rattle.value.specs.Operators.{valueOf, opOf};
+ghost use Rattle.nibl.specs.Tree.{dividedBy, equal};
+ghost use Rattle.value.specs.Operators.{valueOf};
+ghost use Rattle.codes.specs.Operators.{opNumber, opOf};
 ghost use Rattle.value.specs.Writes.{Writes, DigitsAt, signByte};
+
+// The stop number of a division or MOD by 0.
+const BY_ZERO: u8 = 13;
+
+// The first pattern that is negative.
+const NEGATIVE: u16 = 32768;
+
+// The bytes of a number: "0", "-" and a space.
+const ZERO: u16 = 48;
+
+const MINUS: u8 = 45;
+
+const SPACE: u8 = 32;
 
 // A value, or the stop number of the refusal.
 pub enum Value {
@@ -57,30 +71,30 @@ pub fn invert(a: u16) -> u16
 pub fn less(a: u16, b: u16) -> bool
     ensures { λ r. ⌜ r ≡ less16 a b ⌝ }
 {
-    add(a, 32768) < add(b, 32768)
+    add(a, NEGATIVE) < add(b, NEGATIVE)
 }
 
 pub fn is_negative(a: u16) -> bool
     ensures { λ r. ⌜ r ≡ isNegative a ⌝ }
 {
-    !(a < 32768)
+    !(a < NEGATIVE)
 }
 
 // The absolute value: that of -32768 is 32768, which is no value of 16 signed bits and is used unsigned.
 pub fn size(a: u16) -> u16
     ensures { λ r. ⌜ r ≡ magnitude a ⌝ }
 {
-    if a < 32768 {
+    if a < NEGATIVE {
         return a;
     }
     negate(a)
 }
 
 pub fn quotient(a: u16, b: u16) -> Value
-    ensures { λ r. ⌜ valueOf r ≡ apply over a b ⌝ }
+    ensures { λ r. ⌜ valueOf r ≡ apply dividedBy a b ⌝ }
 {
     if b == 0 {
-        return Value::No(13);
+        return Value::No(BY_ZERO);
     }
     let q = size(a) / size(b);
     if is_negative(a) == is_negative(b) {
@@ -94,7 +108,7 @@ pub fn modulo(a: u16, b: u16) -> Value
     ensures { λ r. ⌜ valueOf r ≡ mod16 a b ⌝ }
 {
     if b == 0 {
-        return Value::No(13);
+        return Value::No(BY_ZERO);
     }
     let m = size(a);
     let d = size(b);
@@ -103,15 +117,15 @@ pub fn modulo(a: u16, b: u16) -> Value
 
 // Whether the relation of this number holds.
 fn holds(op: u8, a: u16, b: u16) -> bool
-    requires { ⌜ 6 ≤ op ⌝ }
+    requires { ⌜ opNumber equal ≤ op ⌝ }
     ensures { λ r. ⌜ is (bit r) ≡ apply (opOf op) a b ⌝ }
 {
     match op {
-        6 => a == b,
-        7 => less(a, b),
-        8 => less(b, a),
-        9 => !less(b, a),
-        10 => !less(a, b),
+        codes::OPERATOR_EQUAL => a == b,
+        codes::OPERATOR_LESS => less(a, b),
+        codes::OPERATOR_GREATER => less(b, a),
+        codes::OPERATOR_AT_MOST => !less(b, a),
+        codes::OPERATOR_AT_LEAST => !less(a, b),
         _ => a != b,
     }
 }
@@ -121,12 +135,12 @@ pub fn apply(op: u8, a: u16, b: u16) -> Value
     ensures { λ r. ⌜ valueOf r ≡ apply (opOf op) a b ⌝ }
 {
     match op {
-        0 => Value::Is(mul(a, b)),
-        1 => quotient(a, b),
-        2 => Value::Is(a & b),
-        3 => Value::Is(add(a, b)),
-        4 => Value::Is(sub(a, b)),
-        5 => Value::Is(a | b),
+        codes::OPERATOR_TIMES => Value::Is(mul(a, b)),
+        codes::OPERATOR_DIVIDE => quotient(a, b),
+        codes::OPERATOR_AND => Value::Is(a & b),
+        codes::OPERATOR_PLUS => Value::Is(add(a, b)),
+        codes::OPERATOR_MINUS => Value::Is(sub(a, b)),
+        codes::OPERATOR_OR => Value::Is(a | b),
         _ => Value::Is(if holds(op, a, b) { 1 } else { 0 }),
     }
 }
@@ -158,11 +172,11 @@ fn put_digits(bytes: &mut [u8; 8], n: u16) -> usize
     let mut room: usize = 5;
     let mut left = n;
     while 9 < left {
-        bytes[room + 1] = (48 + left % 10) as u8;
+        bytes[room + 1] = (ZERO + left % 10) as u8;
         left = left / 10;
         room -= 1;
     }
-    bytes[room + 1] = (48 + left) as u8;
+    bytes[room + 1] = (ZERO + left) as u8;
     room + 1
 }
 
@@ -170,7 +184,7 @@ fn put_digits(bytes: &mut [u8; 8], n: u16) -> usize
 pub fn write_digits(output: &mut [u8], at: usize, n: u16) -> Wrote
     ensures { λ r. ⌜ Writes (now (output .entry)) at (digits n) r (now (output .exit)) ⌝ }
 {
-    let mut bytes = [32u8; 8];
+    let mut bytes = [SPACE; 8];
     let first = put_digits(&mut bytes, n);
     write_item(output, at, &bytes[first..7])
 }
@@ -180,16 +194,16 @@ fn sign_byte(v: u16) -> u8
     ensures { λ r. ⌜ r ≡ signByte v ⌝ }
 {
     if is_negative(v) {
-        return 45;
+        return MINUS;
     }
-    32
+    SPACE
 }
 
 // A value as PRINT writes it: its sign, its digits and a space.
 pub fn write_number(output: &mut [u8], at: usize, v: u16) -> Wrote
     ensures { λ r. ⌜ Writes (now (output .entry)) at (printed v) r (now (output .exit)) ⌝ }
 {
-    let mut bytes = [32u8; 8];
+    let mut bytes = [SPACE; 8];
     let sign = put_digits(&mut bytes, size(v)) - 1;
     bytes[sign] = sign_byte(v);
     write_item(output, at, &bytes[sign..])

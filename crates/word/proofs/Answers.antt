@@ -5,31 +5,32 @@ use mathlib.Core.Bool.{Bool, true, false, _&&_}
 use mathlib.Core.List.{List, [], _∷_}
 use mathlib.Core.Option.{Option, none, some}
 use native.Mathlib.Omega.{arith}
-use borrow.Author.Tests.{eq-eqb, ne-eqb}
+use borrow.Author.Tests.{eq-eqb, ne-eqb, eqb-true, eqb-false}
 use lib.Dec.{eqb}
 use lib.ListN.{length, drop, getD, drop-of-length-le}
 use lib.Seq.{slice}
-use Rattle.nibl.specs.Bytes.{if_then_else_, isSpace, isCapital, isDigit, isQuotable, starts, front, past}
-use Rattle.nibl.specs.Words.{variable, sign, placeIn, pairs, numberOr, isSymbol}
-use Rattle.nibl.specs.Read.{Step, ended, got, signOr, lettersStep, pairOr, wordStep, stepIn}
+use Rattle.nibl.specs.Bytes.{if_then_else_, classOf, classDigit, classCapital, classQuote, isSpace, isCapital, isDigit, isQuotable, starts, front, past}
+use Rattle.nibl.specs.Words.{variable, sign, indexIn, pairs, numberOr, isSymbol}
+use Rattle.nibl.specs.Read.{Step, atEnd, got, signOr, lettersStep, pairOr, wordStep, stepIn}
+use Rattle.letter.proofs.Classes.{capital, digit, quote}
 use Rattle.word.specs.declared.Word.{Word}
 use Rattle.word.specs.declared.Word.the-variants.{Variable, Decimal, Hex, Text, Sign, End, Wrong}
-use Rattle.word.specs.Found.{Inside, Stands, tableOf, keysOf, keyOf, seat, lettersAt, decimalAt, hexAt, quotedAt, symbolAt}
+use Rattle.word.specs.Found.{Behind, WordIs, tableOf, keysOf, keyOf, keyIndex, lettersAt, decimalAt, hexAt, quotedAt, symbolAt}
 use Rattle.word.proofs.Runs.{at-byte, between, past-go, past-stop, parted, runEnd, run-at, run-cons, rest-at, end-within, end-past}
-use Rattle.word.proofs.Keys.{table-short, signBy, place-key, place-long}
+use Rattle.word.proofs.Keys.{table-short, signBy, index-key, index-long}
 
 -- A run of capitals
 one-letter : (table : List (List ℕ)) (b : ℕ) (w s : List ℕ) → length (b ∷ w) ≡ 1 → lettersStep table (b ∷ w) s ≡ got (variable (b - 65)) s
 one-letter table b [] s h = refl
 one-letter table b (d ∷ w) s h = absurd (omega arith)
 
-more-letters : (table : List (List ℕ)) (w s : List ℕ) → 1 < length w → lettersStep table w s ≡ signOr (placeIn table w) s
+more-letters : (table : List (List ℕ)) (w s : List ℕ) → 1 < length w → lettersStep table w s ≡ signOr (indexIn table w) s
 more-letters table [] s h = absurd (omega arith)
 more-letters table (b ∷ []) s h = absurd (omega arith)
 more-letters table (b ∷ d ∷ w) s h = refl
 
 module _ (b : Bool) (text : List ℕ) (from to : ℕ) (h : from < length text) (c : isCapital (getD text from 0) ≡ true) (e : to ≡ runEnd isCapital text from) where
-  pub letters-one : to - from ≡ 1 → Stands (lettersAt (tableOf b)) text from (Variable (getD text from 0 - 65) (record { at = to }))
+  pub letters-one : to - from ≡ 1 → WordIs (lettersAt (tableOf b)) text from (Variable (getD text from 0 - 65) (record { at = to }))
   letters-one k =
       let run = run-cons isCapital text from h c in
       let range = between 65 90 (getD text from 0) c in
@@ -39,25 +40,25 @@ module _ (b : Bool) (text : List ℕ) (from to : ℕ) (h : from < length text) (
         inside = (omega arith, omega arith, omega arith);
       }
 
-  pub letters-long : 6 < to - from → Stands (lettersAt (tableOf b)) text from Wrong
+  pub letters-long : 6 < to - from → WordIs (lettersAt (tableOf b)) text from Wrong
   letters-long k =
       let w = front isCapital (drop from text) in
-      record { same = sym (more-letters (tableOf b) w _ (omega arith) ∙ place-long 128 (tableOf b) w _ (table-short b) (omega arith)); inside = tt }
+      record { same = sym (more-letters (tableOf b) w _ (omega arith) ∙ index-long 128 (tableOf b) w _ (table-short b) (omega arith)); inside = tt }
 
   -- more than one, by the number of their key
-  module _ (m : to - from ≡ 1 → ⊥) {q k : ℕ} (f : q ≡ keyOf (slice from to text)) (g : k ≡ seat 128 (keysOf b) q) where
+  module _ (m : to - from ≡ 1 → ⊥) {q k : ℕ} (f : q ≡ keyOf (slice from to text)) (g : k ≡ keyIndex 128 (keysOf b) q) where
     named : lettersAt (tableOf b) (drop from text) ≡ signBy k (drop to text)
     named =
         let w = front isCapital (drop from text) in
         let many = end-past isCapital text from h c in
-        let number : seat 128 (keysOf b) (keyOf w) ≡ k = rw (run-at isCapital text from to e, ← f) (sym g) in
-        more-letters (tableOf b) w _ (omega arith) ∙ place-key w _ (parted isCapital (drop from text) .each) 128 (tableOf b) (omega arith) (table-short b)
+        let number : keyIndex 128 (keysOf b) (keyOf w) ≡ k = rw (run-at isCapital text from to e, ← f) (sym g) in
+        more-letters (tableOf b) w _ (omega arith) ∙ index-key w _ (parted isCapital (drop from text) .each) 128 (tableOf b) (omega arith) (table-short b)
         ∙ rw (number, rest-at isCapital text from to e) refl
 
-    pub letters-none : k ≡ 0 → Stands (lettersAt (tableOf b)) text from Wrong
+    pub letters-none : k ≡ 0 → WordIs (lettersAt (tableOf b)) text from Wrong
     letters-none z = record { same = sym (named ∙ rw (eq-eqb k 0 z) refl); inside = tt }
 
-    pub letters-sign : (k ≡ 0 → ⊥) → Stands (lettersAt (tableOf b)) text from (Sign k (record { at = to }))
+    pub letters-sign : (k ≡ 0 → ⊥) → WordIs (lettersAt (tableOf b)) text from (Sign k (record { at = to }))
     letters-sign z =
         let many = end-past isCapital text from h c in
         let high = end-within isCapital text from (omega arith) in
@@ -65,15 +66,15 @@ module _ (b : Bool) (text : List ℕ) (from to : ℕ) (h : from < length text) (
 
 -- A string
 module _ (text : List ℕ) (from to : ℕ) (e : to ≡ runEnd isQuotable text from) where
-  pub quoted-end : length text ≤ to → Stands quotedAt text from Wrong
+  pub quoted-end : length text ≤ to → WordIs quotedAt text from Wrong
   quoted-end h = record { same = rw (rest-at isQuotable text from to e, drop-of-length-le text h) refl; inside = tt }
 
-  pub quoted-other : to < length text → (getD text to 0 ≡ 34 → ⊥) → Stands quotedAt text from Wrong
-  quoted-other h f = record { same = rw (rest-at isQuotable text from to e, at-byte text to h, ne-eqb (getD text to 0) 34 f) refl; inside = tt }
+  pub quoted-other : to < length text → eqb (classOf (getD text to 0)) classQuote ≡ false → WordIs quotedAt text from Wrong
+  quoted-other h f = record { same = rw (rest-at isQuotable text from to e, at-byte text to h, sym (quote (getD text to 0)) ∙ f) refl; inside = tt }
 
-  pub quoted-closed : to < length text → getD text to 0 ≡ 34 → Stands quotedAt text from (Text from to (record { at = to + 1 }))
+  pub quoted-closed : to < length text → eqb (classOf (getD text to 0)) classQuote ≡ true → WordIs quotedAt text from (Text from to (record { at = to + 1 }))
   quoted-closed h f =
-      record { same = rw (rest-at isQuotable text from to e, at-byte text to h, eq-eqb (getD text to 0) 34 f, run-at isQuotable text from to e) refl; inside = (omega arith, omega arith, omega arith, refl) }
+      record { same = rw (rest-at isQuotable text from to e, at-byte text to h, sym (quote (getD text to 0)) ∙ f, run-at isQuotable text from to e) refl; inside = (omega arith, omega arith, omega arith, refl) }
 
 -- A pair or a symbol
 paired : (o : Option ℕ) (a b k : ℕ) (s : List ℕ) → k ≡ numberOr 0 o → (k ≡ 0 → ⊥) → pairOr o a b s ≡ got (sign k) s
@@ -88,12 +89,12 @@ alone false false true a b k s e z = absurd (omega arith)
 alone false false false a b k s e z = refl
 
 module _ (text : List ℕ) (from : ℕ) (h : from < length text) where
-  pub symbol-none : isSymbol (getD text from 0) ≡ false → Stands symbolAt text from Wrong
+  pub symbol-none : isSymbol (getD text from 0) ≡ false → WordIs symbolAt text from Wrong
   symbol-none e = record { same = rw (at-byte text from h, e) refl; inside = tt }
 
   module _ (e : isSymbol (getD text from 0) ≡ true) where
     pub symbol-pair : (k : ℕ) → from + 1 < length text → k ≡ numberOr 0 (pairs (getD text from 0) (getD text (from + 1) 0)) → (k ≡ 0 → ⊥)
-        → Stands symbolAt text from (Sign k (record { at = from + 1 + 1 }))
+        → WordIs symbolAt text from (Sign k (record { at = from + 1 + 1 }))
     symbol-pair k l f z =
         record {
           same = rw (at-byte text from h, at-byte text (from + 1) l, e) (sym (paired (pairs (getD text from 0) (getD text (from + 1) 0)) _ _ k _ f z));
@@ -101,7 +102,7 @@ module _ (text : List ℕ) (from : ℕ) (h : from < length text) where
         }
 
     pub symbol-one : (k : ℕ) → from + 1 < length text → k ≡ numberOr 0 (pairs (getD text from 0) (getD text (from + 1) 0)) → k ≡ 0
-        → Stands symbolAt text from (Sign (getD text from 0) (record { at = from + 1 }))
+        → WordIs symbolAt text from (Sign (getD text from 0) (record { at = from + 1 }))
     symbol-one k l f z =
         let a = getD text from 0 in
         let b = getD text (from + 1) 0 in
@@ -110,7 +111,7 @@ module _ (text : List ℕ) (from : ℕ) (h : from < length text) where
           inside = (omega arith, omega arith);
         }
 
-    pub symbol-last : length text ≤ from + 1 → Stands symbolAt text from (Sign (getD text from 0) (record { at = from + 1 }))
+    pub symbol-last : length text ≤ from + 1 → WordIs symbolAt text from (Sign (getD text from 0) (record { at = from + 1 }))
     symbol-last l = record { same = rw (at-byte text from h, drop-of-length-le text l, e) refl; inside = (omega arith, omega arith) }
 
 -- Any word, past spaces
@@ -131,7 +132,7 @@ step-past : (table : List (List ℕ)) (s : List ℕ) → stepIn table s ≡ step
 step-past table [] = refl
 step-past table (b ∷ s) = past-blank table b s (step-past table s) (isSpace b) refl
 
-step-end : (table : List (List ℕ)) → stepIn table [] ≡ ended
+step-end : (table : List (List ℕ)) → stepIn table [] ≡ atEnd
 unfolding stepIn
 step-end table = refl
 
@@ -160,7 +161,7 @@ module _ (table : List (List ℕ)) (b : ℕ) (s : List ℕ) where
       word-symbol e f = rw (c, wordStep) (rw (d, ne-eqb b 35 e, ne-eqb b 34 f) refl)
 
 -- the cursor past a word lies behind an earlier position too
-earlier : (n from i : ℕ) → from ≤ i → (r : Word) → Inside i n r → Inside from n r
+earlier : (n from i : ℕ) → from ≤ i → (r : Word) → Behind i n r → Behind from n r
 earlier n from i h (Variable v c) w = omega arith
 earlier n from i h (Decimal v c) w = omega arith
 earlier n from i h (Hex v c) w = omega arith
@@ -173,7 +174,7 @@ module _ (table : List (List ℕ)) (text : List ℕ) (from i : ℕ) (e : i ≡ r
   at-word : stepIn table (drop from text) ≡ stepIn table (drop i text)
   at-word = step-past table (drop from text) ∙ ap (stepIn table) (rest-at isSpace text from i e)
 
-  pub found-end : length text ≤ i → Stands (stepIn table) text from End
+  pub found-end : length text ≤ i → WordIs (stepIn table) text from End
   found-end h = record { same = sym (at-word ∙ ap (stepIn table) (drop-of-length-le text h) ∙ step-end table); inside = tt }
 
   module _ (h : i < length text) where
@@ -183,25 +184,44 @@ module _ (table : List (List ℕ)) (text : List ℕ) (from i : ℕ) (e : i ≡ r
         at-word ∙ ap (stepIn table) (at-byte text i h) ∙ step-word table (getD text i 0) (drop (i + 1) text) stops
 
     -- a word that was read at i or behind it, as the step that the first byte calls for
-    found : (step : List ℕ → Step) (j : ℕ) (r : Word) → wordStep table (getD text i 0) (drop (i + 1) text) ≡ step (drop j text) → i ≤ j → Stands step text j r → Stands (stepIn table) text from r
+    found : (step : List ℕ → Step) (j : ℕ) (r : Word) → wordStep table (getD text i 0) (drop (i + 1) text) ≡ step (drop j text) → i ≤ j → WordIs step text j r → WordIs (stepIn table) text from r
     found step j r f l w = record { same = w .same ∙ sym (first ∙ f); inside = earlier (length text) from j (omega arith) r (w .inside) }
 
-    whole : (step : List ℕ → Step) (r : Word) → wordStep table (getD text i 0) (drop (i + 1) text) ≡ step (getD text i 0 ∷ drop (i + 1) text) → Stands step text i r → Stands (stepIn table) text from r
+    whole : (step : List ℕ → Step) (r : Word) → wordStep table (getD text i 0) (drop (i + 1) text) ≡ step (getD text i 0 ∷ drop (i + 1) text) → WordIs step text i r → WordIs (stepIn table) text from r
     whole step r f = found step i r (f ∙ ap step (sym (at-byte text i h))) (omega arith)
 
-    pub found-letters : (r : Word) → isCapital (getD text i 0) ≡ true → Stands (lettersAt table) text i r → Stands (stepIn table) text from r
-    found-letters r c = whole (lettersAt table) r (word-letters table (getD text i 0) (drop (i + 1) text) c)
+    -- by the class k of the first byte
+    module _ (k : ℕ) (f : k ≡ classOf (getD text i 0)) where
+      pub is-capital : k ≡ classCapital → isCapital (getD text i 0) ≡ true
+      is-capital q = sym (capital (getD text i 0)) ∙ ap (λ (n : ℕ). eqb n classCapital) (sym f ∙ q)
 
-    module _ (c : isCapital (getD text i 0) ≡ false) where
-      pub found-decimal : (r : Word) → isDigit (getD text i 0) ≡ true → Stands decimalAt text i r → Stands (stepIn table) text from r
-      found-decimal r d = whole decimalAt r (word-decimal table (getD text i 0) (drop (i + 1) text) c d)
+      pub is-digit : k ≡ classDigit → isDigit (getD text i 0) ≡ true
+      is-digit q = sym (digit (getD text i 0)) ∙ ap (λ (n : ℕ). eqb n classDigit) (sym f ∙ q)
 
-      module _ (d : isDigit (getD text i 0) ≡ false) where
-        pub found-hex : (r : Word) → getD text i 0 ≡ 35 → Stands hexAt text (i + 1) r → Stands (stepIn table) text from r
-        found-hex r f = found hexAt (i + 1) r (word-hex table (getD text i 0) (drop (i + 1) text) c d f) (omega arith)
+      no-capital : (k ≡ classCapital → ⊥) → isCapital (getD text i 0) ≡ false
+      no-capital q = sym (capital (getD text i 0)) ∙ ne-eqb (classOf (getD text i 0)) classCapital (λ g. q (f ∙ g))
 
-        pub found-quoted : (r : Word) → getD text i 0 ≡ 34 → Stands quotedAt text (i + 1) r → Stands (stepIn table) text from r
-        found-quoted r f = found quotedAt (i + 1) r (word-quoted table (getD text i 0) (drop (i + 1) text) c d f) (omega arith)
+      no-digit : (k ≡ classDigit → ⊥) → isDigit (getD text i 0) ≡ false
+      no-digit q = sym (digit (getD text i 0)) ∙ ne-eqb (classOf (getD text i 0)) classDigit (λ g. q (f ∙ g))
 
-        pub found-symbol : (r : Word) → (getD text i 0 ≡ 35 → ⊥) → (getD text i 0 ≡ 34 → ⊥) → Stands symbolAt text i r → Stands (stepIn table) text from r
-        found-symbol r f g = whole symbolAt r (word-symbol table (getD text i 0) (drop (i + 1) text) c d f g)
+      pub found-letters : (r : Word) → k ≡ classCapital → WordIs (lettersAt table) text i r → WordIs (stepIn table) text from r
+      found-letters r q = whole (lettersAt table) r (word-letters table (getD text i 0) (drop (i + 1) text) (is-capital q))
+
+      pub found-decimal : (r : Word) → k ≡ classDigit → WordIs decimalAt text i r → WordIs (stepIn table) text from r
+      found-decimal r q = whole decimalAt r (word-decimal table (getD text i 0) (drop (i + 1) text) (no-capital (λ e. omega arith)) (is-digit q))
+
+      pub found-quoted : (r : Word) → k ≡ classQuote → WordIs quotedAt text (i + 1) r → WordIs (stepIn table) text from r
+      found-quoted r q =
+          let b = getD text i 0 in
+          let mark : b ≡ 34 = eqb-true b 34 (sym (quote b) ∙ ap (λ (n : ℕ). eqb n classQuote) (sym f ∙ q)) in
+          found quotedAt (i + 1) r (word-quoted table b (drop (i + 1) text) (no-capital (λ e. omega arith)) (no-digit (λ e. omega arith)) mark) (omega arith)
+
+      module _ (c : k ≡ classCapital → ⊥) (d : k ≡ classDigit → ⊥) where
+        pub found-hex : (r : Word) → getD text i 0 ≡ 35 → WordIs hexAt text (i + 1) r → WordIs (stepIn table) text from r
+        found-hex r h = found hexAt (i + 1) r (word-hex table (getD text i 0) (drop (i + 1) text) (no-capital c) (no-digit d) h) (omega arith)
+
+        pub found-symbol : (r : Word) → (k ≡ classQuote → ⊥) → (getD text i 0 ≡ 35 → ⊥) → WordIs symbolAt text i r → WordIs (stepIn table) text from r
+        found-symbol r q h =
+            let b = getD text i 0 in
+            let mark : eqb b 34 ≡ false = sym (quote b) ∙ ne-eqb (classOf b) classQuote (λ g. q (f ∙ g)) in
+            whole symbolAt r (word-symbol table b (drop (i + 1) text) (no-capital c) (no-digit d) h (eqb-false b 34 mark))

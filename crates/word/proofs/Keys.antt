@@ -11,8 +11,8 @@ use lib.ListN.{length, drop, getD, drop-of-length-le}
 use lib.Seq.{slice, slice-empty, slice-cons}
 use Rattle.nibl.specs.Bytes.{if_then_else_, same, isCapital, all}
 use Rattle.nibl.specs.Read.{Step, wrong, got, signOr}
-use Rattle.nibl.specs.Words.{sign, placeFrom}
-use Rattle.word.specs.Found.{keyOf, seat, tableOf}
+use Rattle.nibl.specs.Words.{sign, indexFrom}
+use Rattle.word.specs.Found.{keyOf, keyIndex, tableOf}
 use Rattle.word.proofs.Runs.{and-left, and-right, between, at-byte}
 
 pub key-none : (t : ℕ) (text : List ℕ) → 0 ≡ keyOf (slice t t text)
@@ -35,15 +35,15 @@ pub key-grows : (i to k b : ℕ) → 0 < i → i ≤ to → b < 256 → k < 256 
 key-grows i to k b z h l f = let e : to - (i - 1) ≡ suc (to - i) = omega arith in rw e (omega arith)
 
 -- Along a list of keys
-pub seat-hit : (keys : List ℕ) (n i k : ℕ) → i < length keys → getD keys i 0 ≡ k → seat n (drop i keys) k ≡ n
+pub seat-hit : (keys : List ℕ) (n i k : ℕ) → i < length keys → getD keys i 0 ≡ k → keyIndex n (drop i keys) k ≡ n
 seat-hit keys n i k h e = rw (at-byte keys i h, eq-eqb (getD keys i 0) k e) refl
 
-pub seat-miss : (keys : List ℕ) (n i k : ℕ) → i < length keys → (getD keys i 0 ≡ k → ⊥) → seat (n + i) (drop i keys) k ≡ seat (n + (i + 1)) (drop (i + 1) keys) k
+pub seat-miss : (keys : List ℕ) (n i k : ℕ) → i < length keys → (getD keys i 0 ≡ k → ⊥) → keyIndex (n + i) (drop i keys) k ≡ keyIndex (n + (i + 1)) (drop (i + 1) keys) k
 seat-miss keys n i k h e =
     let s : n + (i + 1) ≡ suc (n + i) = omega arith in
     rw (at-byte keys i h, s, ne-eqb (getD keys i 0) k e) refl
 
-pub seat-none : (keys : List ℕ) (n i k : ℕ) → length keys ≤ i → seat n (drop i keys) k ≡ 0
+pub seat-none : (keys : List ℕ) (n i k : ℕ) → length keys ≤ i → keyIndex n (drop i keys) k ≡ 0
 seat-none keys n i k h = rw (drop-of-length-le keys h) refl
 
 and-false : (b : Bool) → b && false ≡ false
@@ -81,20 +81,20 @@ table-short false = refl
 abbrev pub signBy : ℕ → List ℕ → Step
 signBy k s = if eqb k 0 then wrong else got (sign k) s
 
--- the place of a spelling is that of its key
+-- the index of a spelling is that of its key
 module _ (w s : List ℕ) (h : all isCapital w ≡ true) where
-  place-step : (n : ℕ) (v : List ℕ) (vs : List (List ℕ)) → 0 < n → eqb (keyOf v) (keyOf w) ≡ same v w
-      → signOr (placeFrom (suc n) vs w) s ≡ signBy (seat (suc n) (map keyOf vs) (keyOf w)) s → (t : Bool) → same v w ≡ t
-      → signOr (placeFrom n (v ∷ vs) w) s ≡ signBy (seat n (map keyOf (v ∷ vs)) (keyOf w)) s
-  place-step n v vs z e ih true f = rw (e, f) (rw (ne-eqb n 0 (λ q. omega arith)) refl)
-  place-step n v vs z e ih false f = rw (e, f) ih
+  index-step : (n : ℕ) (v : List ℕ) (vs : List (List ℕ)) → 0 < n → eqb (keyOf v) (keyOf w) ≡ same v w
+      → signOr (indexFrom (suc n) vs w) s ≡ signBy (keyIndex (suc n) (map keyOf vs) (keyOf w)) s → (t : Bool) → same v w ≡ t
+      → signOr (indexFrom n (v ∷ vs) w) s ≡ signBy (keyIndex n (map keyOf (v ∷ vs)) (keyOf w)) s
+  index-step n v vs z e ih true f = rw (e, f) (rw (ne-eqb n 0 (λ q. omega arith)) refl)
+  index-step n v vs z e ih false f = rw (e, f) ih
 
-  pub place-key : (n : ℕ) (ws : List (List ℕ)) → 0 < n → short ws ≡ true → signOr (placeFrom n ws w) s ≡ signBy (seat n (map keyOf ws) (keyOf w)) s
-  place-key n [] z k = refl
-  place-key n (v ∷ vs) z k =
+  pub index-key : (n : ℕ) (ws : List (List ℕ)) → 0 < n → short ws ≡ true → signOr (indexFrom n ws w) s ≡ signBy (keyIndex n (map keyOf ws) (keyOf w)) s
+  index-key n [] z k = refl
+  index-key n (v ∷ vs) z k =
       let here = and-left (all isCapital v && leb (length v) 6) (short vs) k in
-      place-step n v vs z (key-eq v w (and-left (all isCapital v) (leb (length v) 6) here) h)
-      (place-key (suc n) vs (omega arith) (and-right (all isCapital v && leb (length v) 6) (short vs) k)) (same v w) refl
+      index-step n v vs z (key-eq v w (and-left (all isCapital v) (leb (length v) 6) here) h)
+      (index-key (suc n) vs (omega arith) (and-right (all isCapital v && leb (length v) 6) (short vs) k)) (same v w) refl
 
 same-long : (v w : List ℕ) → length v < length w → same v w ≡ false
 same-long v [] h = absurd (omega arith)
@@ -102,9 +102,9 @@ same-long [] (y ∷ w) h = refl
 same-long (x ∷ v) (y ∷ w) h = rw (same-long v w (omega arith)) (and-false (eqb x y))
 
 -- a longer spelling has none
-pub place-long : (n : ℕ) (ws : List (List ℕ)) (w s : List ℕ) → short ws ≡ true → 6 < length w → signOr (placeFrom n ws w) s ≡ wrong
-place-long n [] w s k h = refl
-place-long n (v ∷ vs) w s k h =
+pub index-long : (n : ℕ) (ws : List (List ℕ)) (w s : List ℕ) → short ws ≡ true → 6 < length w → signOr (indexFrom n ws w) s ≡ wrong
+index-long n [] w s k h = refl
+index-long n (v ∷ vs) w s k h =
     let here = and-left (all isCapital v && leb (length v) 6) (short vs) k in
     let l = leb-true (length v) 6 (and-right (all isCapital v) (leb (length v) 6) here) in
-    rw (same-long v w (omega arith)) (place-long (suc n) vs w s (and-right (all isCapital v && leb (length v) 6) (short vs) k) h)
+    rw (same-long v w (omega arith)) (index-long (suc n) vs w s (and-right (all isCapital v && leb (length v) 6) (short vs) k) h)

@@ -11,7 +11,7 @@ use Rattle.nibl.specs.Bytes.{isDigit, isHexDigit, starts, front, past, decimalV
 use Rattle.nibl.specs.Words.{hex}
 use Rattle.nibl.specs.Read.{got, hexStep}
 use Rattle.word.specs.declared.Word.the-variants.{Decimal, Hex, Wrong}
-use Rattle.word.specs.Found.{hexDigit, decimalAt, hexAt, Stands}
+use Rattle.word.specs.Found.{hexDigit, decimalAt, hexAt, WordIs}
 use Rattle.word.proofs.Runs.{between, runEnd, run-cons, front-stop, end-go, end-stop, end-past, rest-stop}
 
 -- v is the value of the digits from `from` up to i
@@ -32,14 +32,14 @@ module _ {text : List ℕ} {from v i : ℕ} (c : Counted text from v i) where
       }
 
   pub counted-stop : from < length text → isDigit (getD text from 0) ≡ true → i ≤ length text → v ≤ 32767 → starts isDigit (drop i text) ≡ false
-      → Stands decimalAt text from (Decimal v (record { at = i }))
+      → WordIs decimalAt text from (Decimal v (record { at = i }))
   counted-stop h d l k f =
       let value : decimalValue 0 (front isDigit (drop from text)) ≡ v = sym (c .value) ∙ ap (decimalValue v) (front-stop isDigit (drop i text) f) in
       let past = end-past isDigit text from h d in
       let end = end-stop isDigit text i f in
       record { same = rw (value, rest-stop isDigit text from i (c .end) f, le-leb v 32767 k) refl; inside = (omega (arith, c .end), l, k) }
 
-  pub counted-large : 32767 < v → Stands decimalAt text from Wrong
+  pub counted-large : 32767 < v → WordIs decimalAt text from Wrong
   counted-large h =
       let large : 32767 < decimalValue 0 (front isDigit (drop from text)) = omega (arith, decimal-grows v (front isDigit (drop i text)), c .value) in
       record { same = rw (lt-leb (decimalValue 0 (front isDigit (drop from text))) 32767 large) refl; inside = tt }
@@ -84,7 +84,7 @@ module _ {text : List ℕ} {from v i : ℕ} (c : Hexed text from v i) where
       }
 
   pub hexed-stop : from < i → i ≤ length text → v < 65536 → starts isHexDigit (drop i text) ≡ false
-      → Stands hexAt text from (Hex v (record { at = i }))
+      → WordIs hexAt text from (Hex v (record { at = i }))
   hexed-stop h l k f =
       let value : hexValue 0 (front isHexDigit (drop from text)) % 65536 ≡ v % 65536 = sym (c .value) ∙ ap (λ (ds : List ℕ). hexValue v ds % 65536) (front-stop isHexDigit (drop i text) f) in
       let low : hexValue 0 (front isHexDigit (drop from text)) % 65536 ≡ v = omega arith in
@@ -95,5 +95,5 @@ module _ {text : List ℕ} {from v i : ℕ} (c : Hexed text from v i) where
       }
 
 pub hexed-none : (text : List ℕ) (from : ℕ) → starts isHexDigit (drop from text) ≡ false
-    → Stands hexAt text from Wrong
+    → WordIs hexAt text from Wrong
 hexed-none text from f = record { same = rw (front-stop isHexDigit (drop from text) f) refl; inside = tt }

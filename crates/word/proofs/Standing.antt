@@ -7,11 +7,11 @@ use native.Mathlib.Omega.{arith}
 use lib.ListN.{length, drop, length-drop}
 use lib.Seq.{slice, length-slice}
 use Rattle.nibl.specs.Words.{Token, variable, decimal, hex, string, sign}
-use Rattle.nibl.specs.Read.{Step, ended, wrong, got}
+use Rattle.nibl.specs.Read.{Step, atEnd, wrong, got}
 use Rattle.word.specs.declared.Cursor.{Cursor}
 use Rattle.word.specs.declared.Word.{Word}
 use Rattle.word.specs.declared.Word.the-variants.{Variable, Decimal, Hex, Text, Sign, End, Wrong}
-use Rattle.word.specs.Found.{stepOf, Inside, Stands}
+use Rattle.word.specs.Found.{stepOf, Behind, WordIs}
 
 -- at a position stands the word w, and the next cursor moves on and stays within the text
 pub record Read (step : List ℕ → Step) (text : List ℕ) (at : ℕ) (w : Token) (next : Cursor) : Type 0 where
@@ -24,8 +24,8 @@ pub falls : {step : List ℕ → Step} {text : List ℕ} {at : ℕ} {w : Token} 
 falls {text = text} {at = at} {next = next} r = let h = r .on in let k = r .within in omega arith
 
 -- The laws take the promise and what a match showed of the answer
-module _ {step : List ℕ → Step} {text : List ℕ} {at : ℕ} {r : Word} (w : Stands step text at r) where
-  told : (q : Word) → r ≡ q → Stands step text at q
+module _ {step : List ℕ → Step} {text : List ℕ} {at : ℕ} {r : Word} (w : WordIs step text at r) where
+  told : (q : Word) → r ≡ q → WordIs step text at q
   told q e = rw e at w
 
   pub variable-read : {v : ℕ} {c : Cursor} → r ≡ Variable v c → Read step text at (variable v) c × (v < 26)
@@ -44,7 +44,7 @@ module _ {step : List ℕ → Step} {text : List ℕ} {at : ℕ} {r : Word} (w :
   pub sign-read : {k : ℕ} {c : Cursor} → r ≡ Sign k c → Read step text at (sign k) c
   sign-read {k} {c} e = let t = told (Sign k c) e in record { word = sym (t .same); on = t .inside .0; within = t .inside .1 }
 
-  pub end-read : r ≡ End → step (drop at text) ≡ ended
+  pub end-read : r ≡ End → step (drop at text) ≡ atEnd
   end-read e = sym (told End e .same)
 
   pub wrong-read : r ≡ Wrong → step (drop at text) ≡ wrong
@@ -59,14 +59,14 @@ tokenWord n (string bs) left = Text (n - left - 1 - length bs) (n - left - 1) (r
 tokenWord n (sign k) left = Sign k (record { at = n - left })
 
 abbrev pub wordOf : ℕ → Step → Word
-wordOf n ended = End
+wordOf n atEnd = End
 wordOf n wrong = Wrong
 wordOf n (got w s) = tokenWord n w (length s)
 
 back : (text : List ℕ) (p : ℕ) → p ≤ length text → p ≡ length text - length (drop p text)
 back text p h = omega (arith, length-drop p text)
 
-stands-for : (text : List ℕ) (at : ℕ) (r : Word) → Inside at (length text) r → r ≡ wordOf (length text) (stepOf text r)
+stands-for : (text : List ℕ) (at : ℕ) (r : Word) → Behind at (length text) r → r ≡ wordOf (length text) (stepOf text r)
 stands-for text at (Variable v c) i = ap (λ (p : ℕ). Variable v (record { at = p })) (back text (c .at) (i .1))
 stands-for text at (Decimal v c) i = ap (λ (p : ℕ). Decimal v (record { at = p })) (back text (c .at) (i .1))
 stands-for text at (Hex v c) i = ap (λ (p : ℕ). Hex v (record { at = p })) (back text (c .at) (i .1))
@@ -81,9 +81,9 @@ stands-for text at End i = refl
 stands-for text at Wrong i = refl
 
 -- the promise as an equation
-pub exact : (step : List ℕ → Step) (text : List ℕ) (at : ℕ) (r : Word) → Stands step text at r → r ≡ wordOf (length text) (step (drop at text))
+pub exact : (step : List ℕ → Step) (text : List ℕ) (at : ℕ) (r : Word) → WordIs step text at r → r ≡ wordOf (length text) (step (drop at text))
 exact step text at r w = stands-for text at r (w .inside) ∙ ap (wordOf (length text)) (w .same)
 
 -- two answers that meet it are equal
-pub one : (step : List ℕ → Step) (text : List ℕ) (at : ℕ) (q r : Word) → Stands step text at q → Stands step text at r → q ≡ r
+pub one : (step : List ℕ → Step) (text : List ℕ) (at : ℕ) (q r : Word) → WordIs step text at q → WordIs step text at r → q ≡ r
 one step text at q r v w = exact step text at q v ∙ sym (exact step text at r w)

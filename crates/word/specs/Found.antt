@@ -6,9 +6,9 @@ use mathlib.Core.List.{List, [], _∷_, map}
 use lib.Dec.{eqb}
 use lib.ListN.{length, drop}
 use lib.Seq.{slice}
-use Rattle.nibl.specs.Bytes.{if_then_else_, isSpace, isDigit, isCapital, isHexDigit, isQuotable, front, past, decimalValue}
+use Rattle.nibl.specs.Bytes.{if_then_else_, classSpace, classCapital, isSpace, isDigit, isCapital, isHexDigit, isQuotable, front, past, decimalValue}
 use Rattle.nibl.specs.Words.{variable, decimal, hex, string, sign, keywords, commands, isSymbol}
-use Rattle.nibl.specs.Read.{Step, ended, wrong, got, lettersStep, digitsStep, hexStep, quotedStep, symbolStep}
+use Rattle.nibl.specs.Read.{Step, atEnd, wrong, got, lettersStep, digitsStep, hexStep, quotedStep, symbolStep}
 use Rattle.word.specs.declared.Word.{Word}
 use Rattle.word.specs.declared.Word.the-variants.{Variable, Decimal, Hex, Text, Sign, End, Wrong}
 
@@ -19,37 +19,49 @@ stepOf text (Decimal n c) = got (decimal n) (drop (c .at) text)
 stepOf text (Hex n c) = got (hex n) (drop (c .at) text)
 stepOf text (Text from to c) = got (string (slice from to text)) (drop (c .at) text)
 stepOf text (Sign k c) = got (sign k) (drop (c .at) text)
-stepOf text End = ended
+stepOf text End = atEnd
 stepOf text Wrong = wrong
 
+-- the largest decimal constant
+abbrev pub largest : ℕ
+largest = 32767
+
 -- the cursor past a word lies behind `at` and within a text of n bytes
-abbrev pub Inside : ℕ → ℕ → Word → Type 0
-Inside at n (Variable v c) = (at < c .at) × (c .at ≤ n) × (v < 26)
-Inside at n (Decimal v c) = (at < c .at) × (c .at ≤ n) × (v ≤ 32767)
-Inside at n (Hex v c) = (at < c .at) × (c .at ≤ n)
-Inside at n (Text from to c) = (at < c .at) × (c .at ≤ n) × (from ≤ to) × (to + 1 ≡ c .at)
-Inside at n (Sign k c) = (at < c .at) × (c .at ≤ n)
-Inside at n End = Unit {0}
-Inside at n Wrong = Unit {0}
+abbrev pub Behind : ℕ → ℕ → Word → Type 0
+Behind at n (Variable v c) = (at < c .at) × (c .at ≤ n) × (v < 26)
+Behind at n (Decimal v c) = (at < c .at) × (c .at ≤ n) × (v ≤ largest)
+Behind at n (Hex v c) = (at < c .at) × (c .at ≤ n)
+Behind at n (Text from to c) = (at < c .at) × (c .at ≤ n) × (from ≤ to) × (to + 1 ≡ c .at)
+Behind at n (Sign k c) = (at < c .at) × (c .at ≤ n)
+Behind at n End = Unit {0}
+Behind at n Wrong = Unit {0}
 
 -- the word r, read at a position of a text, is what the definition's `step` finds there
-pub record Stands (step : List ℕ → Step) (text : List ℕ) (at : ℕ) (r : Word) : Type 0 where
+pub record WordIs (step : List ℕ → Step) (text : List ℕ) (at : ℕ) (r : Word) : Type 0 where
   pub same : stepOf text r ≡ step (drop at text)
-  pub inside : Inside at (length text) r
+  pub inside : Behind at (length text) r
 
--- what the runs consist of, by number
+-- what the runs consist of, by a class: spaces, capitals, or else what quotes may enclose
 abbrev pub passing : ℕ → ℕ → Bool
-passing kind b = if eqb kind 0 then isSpace b else if eqb kind 1 then isCapital b else isQuotable b
+passing kind b = if eqb kind classSpace then isSpace b else if eqb kind classCapital then isCapital b else isQuotable b
+
+-- the most letters that a keyword has
+abbrev pub longestKeyword : ℕ
+longestKeyword = 6
 
 -- a spelling as one number, the first letter lowest
 abbrev pub keyOf : List ℕ → ℕ
 keyOf [] = 0
 keyOf (c ∷ s) = c + 256 * keyOf s
 
--- n and the place of a key in a list of them, 0 where it is not there
-abbrev pub seat : ℕ → List ℕ → ℕ → ℕ
-seat n [] k = 0
-seat n (x ∷ xs) k = if eqb x k then n else seat (suc n) xs k
+-- the number of the first keyword, and of the first command
+abbrev pub firstKeyword : ℕ
+firstKeyword = 128
+
+-- n and the index of a key in a list of them, 0 where it is not there
+abbrev pub keyIndex : ℕ → List ℕ → ℕ → ℕ
+keyIndex n [] k = 0
+keyIndex n (x ∷ xs) k = if eqb x k then n else keyIndex (suc n) xs k
 
 -- the words that stand at the front of an immediate line, or those of any text
 abbrev pub tableOf : Bool → List (List ℕ)

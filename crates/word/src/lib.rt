@@ -1,4 +1,5 @@
 // The word that stands at a cursor of a text: always the longest that fits.
+use letter::class;
 ghost use Prim.Native.Nat.{_+_, _-_, _*_, _%_, _≤_, _<_};
 ghost use mathlib.Core.Path.{_≡_};
 ghost use mathlib.Core.Bool.{true};
@@ -7,8 +8,10 @@ ghost use lib.Seq.{slice};
 ghost use Rattle.nibl.specs.Bytes.{isDigit, isCapital, isHexDigit, isQuotable, front};
 ghost use Rattle.nibl.specs.Words.{keywords, commands, isSymbol, pairs, numberOr};
 ghost use Rattle.nibl.specs.Read.{stepIn};
-ghost use Rattle.word.specs.Found.{passing, keyOf, seat, tableOf, keysOf, hexDigit};
-ghost use Rattle.word.specs.Found.{Stands, lettersAt, decimalAt, hexAt, quotedAt, symbolAt};
+ghost use Rattle.word.specs.Found.{passing, keyOf, longestKeyword, firstKeyword, keyIndex, tableOf, keysOf, hexDigit};
+ghost use Rattle.word.specs.Found.{WordIs, lettersAt, decimalAt, hexAt, quotedAt, symbolAt};
+
+pub mod sign;
 
 // Where a reader stands in a text.
 pub struct Cursor {
@@ -23,13 +26,22 @@ pub enum Word {
     Hex(u16, Cursor),
     // what the quotes enclose, from the first bound up to the second
     Text(usize, usize, Cursor),
-    // a keyword (128 and its place in the list), a pair (1 to 3) or a symbol (its byte)
+    // a keyword, a pair or a symbol, by its number in `sign`
     Sign(u8, Cursor),
     // nothing but spaces
     End,
     // no word stands here
     Wrong,
 }
+
+// The largest decimal constant.
+const LARGEST: u32 = 32767;
+
+// The most letters that a keyword has.
+const LONGEST: usize = 6;
+
+// What a hex constant begins with.
+const HASH: u8 = 35;
 
 // The keywords in document 01's order, LET first and NOT last. A spelling is one number, its first letter in the
 // lowest byte: it is compared at one blow, and read from right to left it shows in the hexadecimal digits.
@@ -69,74 +81,36 @@ const COMMANDS: [u64; 4] = [
     0x4e5552, // RUN
 ];
 
-fn is_digit(b: u8) -> bool
-    ensures { λ r. ⌜ r ≡ isDigit b ⌝ }
-{
-    48 <= b && b <= 57
-}
-
-fn is_capital(b: u8) -> bool
-    ensures { λ r. ⌜ r ≡ isCapital b ⌝ }
-{
-    65 <= b && b <= 90
-}
-
-fn is_hex_digit(b: u8) -> bool
-    ensures { λ r. ⌜ r ≡ isHexDigit b ⌝ }
-{
-    is_digit(b) || (65 <= b && b <= 70)
-}
-
-fn is_quotable(b: u8) -> bool
-    ensures { λ r. ⌜ r ≡ isQuotable b ⌝ }
-{
-    if b < 32 {
-        return false;
-    }
-    if 126 < b {
-        return false;
-    }
-    if b == 95 {
-        return false;
-    }
-    b != 34
-}
-
 fn is_symbol(b: u8) -> bool
     ensures { λ r. ⌜ r ≡ isSymbol b ⌝ }
 {
-    if b < 40 {
-        return b == 36;
+    if b < sign::OPEN {
+        return b == sign::DOLLAR;
     }
-    if b < 46 {
+    if b <= sign::MINUS {
         return true;
     }
-    if b < 58 {
-        return b == 47;
+    if b < sign::COLON {
+        return b == sign::DIVIDE;
     }
-    if b < 63 {
+    if b <= sign::GREATER {
         return true;
     }
-    b == 64
+    b == sign::AT
 }
 
-// Runs are of spaces, of capitals, or of what quotes may enclose.
-const SPACE: u8 = 0;
-
-const CAPITAL: u8 = 1;
-
-const QUOTABLE: u8 = 2;
-
+// Whether a byte goes on with a run of a kind: of spaces, of capitals, or else (by the class of a quote) of what
+// quotes may enclose.
 fn passes(kind: u8, b: u8) -> bool
     ensures { λ r. ⌜ r ≡ passing kind b ⌝ }
 {
-    if kind == SPACE {
-        return b == 32;
+    if kind == class::SPACE {
+        return letter::is_space(b);
     }
-    if kind == CAPITAL {
-        return is_capital(b);
+    if kind == class::CAPITAL {
+        return letter::is_capital(b);
     }
-    is_quotable(b)
+    letter::is_quotable(b)
 }
 
 // Where the longest run from `from` on ends.
@@ -161,7 +135,7 @@ fn wide(b: u8) -> u64
 
 // A spelling of at most 6 letters as one number, the way the lists have it.
 fn key(text: &[u8], from: usize, to: usize) -> u64
-    requires { ⌜ (from ≤ to) × (to ≤ length (now text)) × (to ≤ from + 6) ⌝ }
+    requires { ⌜ (from ≤ to) × (to ≤ length (now text)) × (to ≤ from + longestKeyword) ⌝ }
     ensures { λ r. ⌜ r ≡ keyOf (slice from to (now (text .entry))) ⌝ }
 {
     let mut k: u64 = 0;
@@ -173,15 +147,15 @@ fn key(text: &[u8], from: usize, to: usize) -> u64
     k
 }
 
-// 128 and the place of a key in a list of them; 0 where it is not there.
-fn place(keys: &[u64], k: u64) -> u8
+// The number of the key in a list of them: KEYWORD and its index; 0 where it is not there.
+fn index_of(keys: &[u64], k: u64) -> u8
     requires { ⌜ length (now keys) ≤ 127 ⌝ }
-    ensures { λ r. ⌜ r ≡ seat 128 (now (keys .entry)) k ⌝ }
+    ensures { λ r. ⌜ r ≡ keyIndex firstKeyword (now (keys .entry)) k ⌝ }
 {
     let mut i = 0;
     while i < keys.len() {
         if keys[i] == k {
-            return 128 + i as u8;
+            return sign::KEYWORD + i as u8;
         }
         i += 1;
     }
@@ -190,26 +164,26 @@ fn place(keys: &[u64], k: u64) -> u8
 
 // The number of a keyword, or of a command at the front of an immediate line; 0 for any other key.
 fn number_of(k: u64, commands: bool) -> u8
-    ensures { λ r. ⌜ r ≡ seat 128 (keysOf commands) k ⌝ }
+    ensures { λ r. ⌜ r ≡ keyIndex firstKeyword (keysOf commands) k ⌝ }
 {
     if commands {
-        place(&COMMANDS, k)
+        index_of(&COMMANDS, k)
     } else {
-        place(&KEYWORDS, k)
+        index_of(&KEYWORDS, k)
     }
 }
 
 // The run of capitals that starts at `from`: one letter is a variable, more are a keyword or nothing.
 fn letters(text: &[u8], from: usize, commands: bool) -> Word
     requires { ⌜ (from < length (now text)) × (isCapital (getD (now text) from 0) ≡ true) ⌝ }
-    ensures { λ r. ⌜ Stands (lettersAt (tableOf commands)) (now (text .entry)) from r ⌝ }
+    ensures { λ r. ⌜ WordIs (lettersAt (tableOf commands)) (now (text .entry)) from r ⌝ }
 {
-    let to = run_end(text, from, CAPITAL);
+    let to = run_end(text, from, class::CAPITAL);
     let n = to - from;
     if n == 1 {
-        return Word::Variable(text[from] - 65, Cursor { at: to });
+        return Word::Variable(text[from] - letter::A, Cursor { at: to });
     }
-    if 6 < n {
+    if LONGEST < n {
         return Word::Wrong;
     }
     let k = number_of(key(text, from, to), commands);
@@ -223,23 +197,23 @@ fn digit(b: u8) -> u32
     requires { ⌜ isDigit b ≡ true ⌝ }
     ensures { λ r. ⌜ (r ≡ b - 48) × (r ≤ 9) ⌝ }
 {
-    (b - 48) as u32
+    (b - letter::ZERO) as u32
 }
 
 // The constant whose first digit stands at `from`. Once it is too large, more digits keep it so.
 fn decimal(text: &[u8], from: usize) -> Word
     requires { ⌜ (from < length (now text)) × (isDigit (getD (now text) from 0) ≡ true) ⌝ }
-    ensures { λ r. ⌜ Stands decimalAt (now (text .entry)) from r ⌝ }
+    ensures { λ r. ⌜ WordIs decimalAt (now (text .entry)) from r ⌝ }
 {
     let mut v: u32 = 0;
     let mut i = from;
     while i < text.len() {
         let b = text[i];
-        if !is_digit(b) {
+        if !letter::is_digit(b) {
             break;
         }
         v = v * 10 + digit(b);
-        if 32767 < v {
+        if LARGEST < v {
             return Word::Wrong;
         }
         i += 1;
@@ -251,10 +225,10 @@ fn hex_digit(b: u8) -> u16
     requires { ⌜ isHexDigit b ≡ true ⌝ }
     ensures { λ r. ⌜ (r ≡ hexDigit b) × (r ≤ 15) ⌝ }
 {
-    if is_digit(b) {
-        return (b - 48) as u16;
+    if letter::is_digit(b) {
+        return (b - letter::ZERO) as u16;
     }
-    (b - 55) as u16
+    (b - letter::A + 10) as u16
 }
 
 // One hex digit more, in 16 bits: the top digit falls out.
@@ -268,13 +242,13 @@ fn shifted(v: u16, b: u8) -> u16
 // The constant whose digits start at `from`, past the "#": its low 16 bits.
 fn hex(text: &[u8], from: usize) -> Word
     requires { ⌜ from ≤ length (now text) ⌝ }
-    ensures { λ r. ⌜ Stands hexAt (now (text .entry)) from r ⌝ }
+    ensures { λ r. ⌜ WordIs hexAt (now (text .entry)) from r ⌝ }
 {
     let mut v: u16 = 0;
     let mut i = from;
     while i < text.len() {
         let b = text[i];
-        if !is_hex_digit(b) {
+        if !letter::is_hex_digit(b) {
             break;
         }
         v = shifted(v, b);
@@ -288,13 +262,13 @@ fn hex(text: &[u8], from: usize) -> Word
 
 // The string whose first byte stands at `from`, past the opening quote.
 fn quoted(text: &[u8], from: usize) -> Word
-    ensures { λ r. ⌜ Stands quotedAt (now (text .entry)) from r ⌝ }
+    ensures { λ r. ⌜ WordIs quotedAt (now (text .entry)) from r ⌝ }
 {
-    let to = run_end(text, from, QUOTABLE);
+    let to = run_end(text, from, class::QUOTE);
     if text.len() <= to {
         return Word::Wrong;
     }
-    if text[to] != 34 {
+    if !letter::is_quote(text[to]) {
         return Word::Wrong;
     }
     Word::Text(from, to, Cursor { at: to + 1 })
@@ -304,18 +278,18 @@ fn quoted(text: &[u8], from: usize) -> Word
 fn pair(a: u8, b: u8) -> u8
     ensures { λ r. ⌜ r ≡ numberOr 0 (pairs a b) ⌝ }
 {
-    if a == 60 {
-        if b == 61 {
-            return 1;
+    if a == sign::LESS {
+        if b == sign::EQUAL {
+            return sign::AT_MOST;
         }
-        if b == 62 {
-            return 3;
+        if b == sign::GREATER {
+            return sign::UNEQUAL;
         }
         return 0;
     }
-    if a == 62 {
-        if b == 61 {
-            return 2;
+    if a == sign::GREATER {
+        if b == sign::EQUAL {
+            return sign::AT_LEAST;
         }
     }
     0
@@ -324,7 +298,7 @@ fn pair(a: u8, b: u8) -> u8
 // A pair or a symbol.
 fn symbol(text: &[u8], from: usize) -> Word
     requires { ⌜ from < length (now text) ⌝ }
-    ensures { λ r. ⌜ Stands symbolAt (now (text .entry)) from r ⌝ }
+    ensures { λ r. ⌜ WordIs symbolAt (now (text .entry)) from r ⌝ }
 {
     let a = text[from];
     let n = from + 1;
@@ -343,31 +317,29 @@ fn symbol(text: &[u8], from: usize) -> Word
 
 // The word at a cursor, past any spaces, by the keywords or by the commands.
 fn word_in(text: &[u8], from: usize, commands: bool) -> Word
-    ensures { λ r. ⌜ Stands (stepIn (tableOf commands)) (now (text .entry)) from r ⌝ }
+    ensures { λ r. ⌜ WordIs (stepIn (tableOf commands)) (now (text .entry)) from r ⌝ }
 {
-    let i = run_end(text, from, SPACE);
+    let i = run_end(text, from, class::SPACE);
     if text.len() <= i {
         return Word::End;
     }
     let b = text[i];
-    if is_capital(b) {
-        return letters(text, i, commands);
+    match letter::class_by_range(b) {
+        class::CAPITAL => letters(text, i, commands),
+        class::DIGIT => decimal(text, i),
+        class::QUOTE => quoted(text, i + 1),
+        _ => {
+            if b == HASH {
+                return hex(text, i + 1);
+            }
+            symbol(text, i)
+        }
     }
-    if is_digit(b) {
-        return decimal(text, i);
-    }
-    if b == 35 {
-        return hex(text, i + 1);
-    }
-    if b == 34 {
-        return quoted(text, i + 1);
-    }
-    symbol(text, i)
 }
 
 // The word that stands at a cursor of any text.
 pub fn word_at(text: &[u8], c: Cursor) -> Word
-    ensures { λ r. ⌜ Stands (stepIn keywords) (now (text .entry)) (c .at) r ⌝ }
+    ensures { λ r. ⌜ WordIs (stepIn keywords) (now (text .entry)) (c .at) r ⌝ }
 {
     let from = c.at;
     word_in(text, from, false)
@@ -375,7 +347,7 @@ pub fn word_at(text: &[u8], c: Cursor) -> Word
 
 // The word that stands at a cursor, where commands are the keywords: at the front of an immediate line.
 pub fn command_at(text: &[u8], c: Cursor) -> Word
-    ensures { λ r. ⌜ Stands (stepIn commands) (now (text .entry)) (c .at) r ⌝ }
+    ensures { λ r. ⌜ WordIs (stepIn commands) (now (text .entry)) (c .at) r ⌝ }
 {
     let from = c.at;
     word_in(text, from, true)

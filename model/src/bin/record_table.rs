@@ -4,10 +4,10 @@
 //!     record_table cases      some hundred pages with their records
 //!
 //! The input has the number of pages, and then of each its length, its bytes, the number of its records (a byte), and
-//! these. A record has one value for all its variables, limits and steps; its flags (a byte); its pause, as a kind (a
-//! byte: 0 for none, 1 for the program's start, 2 for a place) and a place; and the stacks of GOSUB, DO and FOR. A
-//! stack has its depth, the number of slots that are given (a byte), and in each a place, with a FOR's variable (a
-//! byte) before it. The other slots hold 0. A number is two bytes, high first, and past the input's end all bytes are 0.
+//! these. A record has one value for all its variables, limits and steps; its flags (a byte); its pause, as one number
+//! (0 for none, 1 for the program's start, else 2 more than a place); and the stacks of GOSUB, DO and FOR. A stack has
+//! its depth, the number of slots that are given (a byte), and in each a place, with a FOR's variable (a byte) before
+//! it. The other slots hold 0. A number is two bytes, high first, and past the input's end all bytes are 0.
 //!
 //! A page's row says whether it is good, with a good page's places, and then, after "/", of each record "+" where it
 //! fits the page and "-" where it does not. Of a bad page the model knows no places, so a record that stands with one
@@ -80,12 +80,10 @@ impl Input {
     }
 
     fn pause(&mut self) -> Option<Pause> {
-        let kind = self.byte();
-        let place = self.place();
-        match kind {
+        match self.number() {
             0 => None,
             1 => Some(Pause::Start),
-            _ => Some(Pause::After(place)),
+            number => Some(Pause::After(Place(number - 2))),
         }
     }
 
@@ -161,16 +159,17 @@ fn push_place(out: &mut Vec<u8>, place: &Place) {
     out.extend(place.0.to_be_bytes());
 }
 
-/// The first variable stands for all that no fit depends on.
+/// The first variable stands for all that no fit depends on. A pause's number has room for places up to 65,533, of
+/// which the last ones are on no page: the last stands for those above it.
 fn push_record(out: &mut Vec<u8>, record: &Record) {
-    let (kind, place) = match record.paused {
-        None => (0, Place(0)),
-        Some(Pause::Start) => (1, Place(0)),
-        Some(Pause::After(place)) => (2, place),
+    let paused = match record.paused {
+        None => 0,
+        Some(Pause::Start) => 1,
+        Some(Pause::After(place)) => place.0.saturating_add(2),
     };
     out.extend(record.variables[0].to_be_bytes());
-    out.extend([record.flags, kind]);
-    push_place(out, &place);
+    out.push(record.flags);
+    out.extend(paused.to_be_bytes());
     for stack in [&record.gosubs, &record.dos] {
         push_stack(out, stack.depth, &stack.places, push_place);
     }

@@ -4,11 +4,11 @@ use Rattle.letter.proofs.Classes.{capital}
 use Rattle.letter.proofs.is_capital.Statement.{statement}
 use Rattle.letter.proofs.is_capital.Tie as tie
 
-class-of-requires : tie.Need-class-of-requires
-class-of-requires c κs = search needs
+class-by-range-requires : tie.Need-class-by-range-requires
+class-by-range-requires c κs = search needs
 
 returns : tie.Need-returns
-returns c = rw (c .class-of .ensures .0) (capital (c .before .args .b))
+returns c = rw (c .class-by-range .ensures .0) (capital (c .before .args .b))
 
 pub is-capital-spec : {M : Type 1} → statement M
-is-capital-spec = tie.close (tie.spec class-of-requires returns)
+is-capital-spec = tie.close (tie.spec class-by-range-requires returns)

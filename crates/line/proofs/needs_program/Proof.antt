@@ -16,10 +16,10 @@ abbrev μ-loop : tie.MeasureT-loop
 μ-loop ops n i₀ i = n - i
 
 returns : tie.Need-returns Inv-loop μ-loop
-returns c = need-here (c .before .before .before .before .before .before .args .ops .now) (c .before .before .before .before .before .before .args .n) (c .before .before .before .before .loop .i) (omega arith) (c .before .before .before .before .before .before .pre) (sym (c .before .between .ensures) ∙ c .if1 .taken)
+returns c = need-here (c .before .before .before .before .before .before .args .ops .now) (c .before .before .before .before .before .before .args .n) (c .before .before .before .before .loop .i) (omega arith) (c .before .before .before .before .before .before .pre) (sym (c .before .program-only .ensures) ∙ c .if1 .taken)
 
 loop-again : tie.Need-loop-again Inv-loop μ-loop
-loop-again c = (omega arith, need-none (c .before .before .before .before .before .before .args .ops .now) (c .before .before .before .before .loop .i) (omega arith) (c .before .before .before .before .loop .inv .1) (sym (c .before .between .ensures) ∙ c .if1 .left))
+loop-again c = (omega arith, need-none (c .before .before .before .before .before .before .args .ops .now) (c .before .before .before .before .loop .i) (omega arith) (c .before .before .before .before .loop .inv .1) (sym (c .before .program-only .ensures) ∙ c .if1 .left))
 
 returns-2 : tie.Need-returns-2 Inv-loop μ-loop
 returns-2 c = let e : c .before .before .before .args .n ≡ c .before .loop .i = omega arith in sym (ap (λ (k : ℕ). someNeed (take k (c .before .before .before .args .ops .now))) e ∙ c .before .loop .inv .1)

@@ -4,6 +4,7 @@ use mathlib.Core.Option.{some}
 use mathlib.Core.Path.{_≡_, sym, ap, _∙_}
 use native.Mathlib.Omega.{arith}
 use borrow.Author.Tests.{lt-ltb, le-ltb}
+use Rattle.nibl.specs.declared.Place.{Place}
 use borrow.Author.Needs.{needs}
 use Rattle.page.proofs.found_at.Statement.{statement}
 use Rattle.page.proofs.found_at.Tie as tie
@@ -11,20 +12,14 @@ use Rattle.page.proofs.found_at.Tie as tie
 returns : tie.Need-returns
 returns c = rw (c .if1 .taken)
 
-sub-t3 : tie.Need-sub-t3
-sub-t3 c = search needs
-
-cast-t4 : tie.Need-cast-t4
-cast-t4 c = search needs
-
 returns-2 : tie.Need-returns-2
 returns-2 c =
-    let at = c .before .before .args .at in
+    let at = c .before .before .before .args .at in
     let e : suc (at - 1) ≡ at = omega arith in
-    ap some e ∙ sym (rw (lt-ltb at 65536 (c .if2 .taken)))
+    ap (λ (p : Place). some (suc (p .0))) (c .at .ensures) ∙ ap some e ∙ sym (rw (lt-ltb at 65536 (c .before .if2 .taken)))
 
 returns-3 : tie.Need-returns-3
 returns-3 c = sym (rw (le-ltb (c .before .before .args .at) 65536 (c .if2 .left)))
 
 pub found-at-spec : {M : Type 1} → statement M
-found-at-spec = tie.close (tie.spec returns sub-t3 cast-t4 returns-2 returns-3)
+found-at-spec = tie.close (tie.spec returns (λ c. search needs) (λ c κs. search needs) returns-2 returns-3)

@@ -4,8 +4,7 @@ use mathlib.Core.Bool.{not}
 use mathlib.Core.Path.{sym, ap, _∙_}
 use native.Mathlib.Omega.{arith}
 use lib.Dec.{leb}
-use lib.Seq.{getD-drop}
-use lib.ListN.{getD, drop, length-drop}
+use lib.ListN.{drop, length-drop}
 use borrow.Author.Needs.{needs}
 use Rattle.page.proofs.Walk.{stops-short, stops-at}
 use Rattle.page.proofs.stands.Statement.{statement}
@@ -32,17 +31,14 @@ is-mark-requires c κs = search needs
 returns-3 : tie.Need-returns-3
 returns-3 c = rw (sym (c .before .is-mark .ensures) ∙ c .if3 .taken)
 
-add-result : tie.Need-add-result
-add-result c = search needs
-
-shared-slice-read-result : tie.Need-shared-slice-read-result
-shared-slice-read-result c = search needs
+length-at-requires : tie.Need-length-at-requires
+length-at-requires c κs = search needs
 
 returns-4 : tie.Need-returns-4
 returns-4 c =
     let a = c .before .before .before .before .before .before .args in
     let e = sym (c .before .before .is-mark .ensures) ∙ c .before .if3 .left in
-    sym (stops-at (drop (a .at) (a .page .now)) e ∙ ap (λ (b : ℕ). leb 5 b) (getD-drop (a .at) (a .page .now) 2 0))
+    ap (λ (b : ℕ). leb 5 b) (c .length-at .ensures) ∙ sym (stops-at (drop (a .at) (a .page .now)) e)
 
 pub stands-spec : {M : Type 1} → statement M
 stands-spec =
@@ -53,6 +49,5 @@ stands-spec =
     returns-2
     is-mark-requires
     returns-3
-    add-result
-    shared-slice-read-result
+    length-at-requires
     returns-4)

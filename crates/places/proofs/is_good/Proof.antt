@@ -7,7 +7,7 @@ use lib.Seq.{drop-drop}
 use borrow.Author.Needs.{needs}
 use borrow.Author.Tests.{not-true, not-false}
 use Rattle.nibl.specs.Page.{isGood, lineAt}
-use Rattle.places.proofs.Checks.{goodFrom, good-end, good-none, Next, good-next}
+use Rattle.places.proofs.Checks.{goodFrom, good-end, good-none, NextRecord, good-next}
 use Rattle.places.proofs.is_good.Statement.{statement}
 use Rattle.places.proofs.is_good.Tie as tie
 
@@ -18,7 +18,7 @@ abbrev μ-loop : tie.MeasureT-loop
 μ-loop page lim ops₀ at₀ low₀ ops at low = length page - at
 
 -- a record that may stand here was found
-turn : (c : tie.Else2 Inv-loop μ-loop) → let a = c .before .before .before .before .before .before .before .before .args in let l = c .before .before .before .before .before .before .loop in Next (a .lim) (l .low) (drop (l .at) (a .page .now)) (c .before .before .record-size .result)
+turn : (c : tie.Else2 Inv-loop μ-loop) → let a = c .before .before .before .before .before .before .before .before .args in let l = c .before .before .before .before .before .before .loop in NextRecord (a .lim) (l .low) (drop (l .at) (a .page .now)) (c .before .before .record-size .result)
 turn c =
     let a = c .before .before .before .before .before .before .before .before .args in
     let l = c .before .before .before .before .before .before .loop in

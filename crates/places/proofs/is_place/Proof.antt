@@ -22,8 +22,8 @@ abbrev μ-loop : tie.MeasureT-loop
 turn : (c : tie.In-loop Inv-loop μ-loop) → Met (c .before .before .before .before .before .args .page .now) (c .before .loop .at) (c .before .loop .size)
 turn c = let l = c .before .loop in met _ (l .at) (l .size) (l .inv .1 .1 .0) (c .loop-test .taken)
 
-cast-p : tie.Need-cast-p Inv-loop μ-loop
-cast-p c = search needs
+position-requires : tie.Need-position-requires Inv-loop μ-loop
+position-requires c = search needs
 
 size-at-requires : tie.Need-size-at-requires Inv-loop μ-loop
 size-at-requires c κs = search needs
@@ -44,13 +44,15 @@ ends-in-requires c κs = (c .before .loop-test .taken, c .before .before .loop .
 returns : tie.Need-returns Inv-loop μ-loop
 returns c =
     let a = c .before .before .before .before .before .before .before .args in
+    let p = c .before .before .before .before .before .position in
     let l = c .before .before .before .loop in
     let m = turn (c .before .before) in
     let q = drop (l .at) (a .page .now) in
     c .ends-in .ensures
-    ∙ sym (ap (λ (rs : List Stored). isAmong (placesIn (l .at) rs) (a .place .0)) (m .records)
-    ∙ places-here (l .at) (recordAt q) (recordsOf (drop (l .at + l .size) (a .page .now))) (a .place .0) (l .inv .0) (rw (m .long) (c .before .if1 .taken)))
+    ∙ sym (ap (λ (rs : List Stored). isAmong (placesIn (l .at) rs) (p .result)) (m .records)
+    ∙ places-here (l .at) (recordAt q) (recordsOf (drop (l .at + l .size) (a .page .now))) (p .result) (l .inv .0) (rw (m .long) (c .before .if1 .taken)))
     ∙ l .inv .1 .1 .1
+    ∙ ap (isAmong (placesOf (a .page .now))) (p .ensures)
 
 add-at : tie.Need-add-at Inv-loop μ-loop
 add-at c = let m = turn (c .before) in omega arith
@@ -64,18 +66,19 @@ loop-less c = let m = turn (c .before .before) in omega arith
 loop-again : tie.Need-loop-again Inv-loop μ-loop
 loop-again c =
     let a = c .before .before .before .before .before .before .before .args in
+    let p = c .before .before .before .before .before .position in
     let l = c .before .before .before .loop in
     let m = turn (c .before .before) in
     let q = drop (l .at) (a .page .now) in
-    let h : l .size ≤ a .place .0 - l .at = c .before .if1 .left in
-    let past-it = places-past (l .at) (recordAt q) (recordsOf (drop (l .at + l .size) (a .page .now))) (a .place .0) (l .inv .0) (rw (m .long) h) in (
+    let h : l .size ≤ p .result - l .at = c .before .if1 .left in
+    let past-it = places-past (l .at) (recordAt q) (recordsOf (drop (l .at + l .size) (a .page .now))) (p .result) (l .inv .0) (rw (m .long) h) in (
       omega arith,
       (
         m .next,
         (
           c .size-at2 .ensures,
-          ap (λ (n : ℕ). isAmong (placesIn (l .at + n) (recordsOf (drop (l .at + l .size) (a .page .now)))) (a .place .0)) (sym (m .long))
-              ∙ sym past-it ∙ sym (ap (λ (rs : List Stored). isAmong (placesIn (l .at) rs) (a .place .0)) (m .records)) ∙ l .inv .1 .1 .1,
+          ap (λ (n : ℕ). isAmong (placesIn (l .at + n) (recordsOf (drop (l .at + l .size) (a .page .now)))) (p .result)) (sym (m .long))
+              ∙ sym past-it ∙ sym (ap (λ (rs : List Stored). isAmong (placesIn (l .at) rs) (p .result)) (m .records)) ∙ l .inv .1 .1 .1,
         ),
       ),
     )
@@ -84,7 +87,8 @@ returns-2 : tie.Need-returns-2 Inv-loop μ-loop
 returns-2 c =
     let l = c .before .loop in
     let a = c .before .before .before .before .before .args in
-    ap (λ (rs : List Stored). isAmong (placesIn (l .at) rs) (a .place .0)) (sym (past (a .page .now) (l .at) (l .size) (l .inv .1 .1 .0) (c .loop-test .left))) ∙ l .inv .1 .1 .1
+    let p = c .before .before .before .position in
+    ap (λ (rs : List Stored). isAmong (placesIn (l .at) rs) (p .result)) (sym (past (a .page .now) (l .at) (l .size) (l .inv .1 .1 .0) (c .loop-test .left))) ∙ l .inv .1 .1 .1 ∙ ap (isAmong (placesOf (a .page .now))) (p .ensures)
 
 pub is-place-spec : {M : Type 1} → statement M
 is-place-spec =
@@ -92,7 +96,7 @@ is-place-spec =
     (tie.spec
     Inv-loop
     μ-loop
-    cast-p
+    position-requires
     size-at-requires
     loop-holds
     sub-if1

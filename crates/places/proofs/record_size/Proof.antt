@@ -9,13 +9,13 @@ use borrow.Author.Needs.{needs}
 use Rattle.nibl.specs.Page.{lineAt, lengthAt, textAt, isStorable}
 use Rattle.nibl.specs.Bytes.{if_then_else_}
 use Rattle.places.specs.Whole.{recordSize}
-use Rattle.places.proofs.Checks.{byte-length, Found, whole-found, text-is, record-open, record-below, record-above, record-text}
+use Rattle.places.proofs.Checks.{byte-length, WholeRecord, whole-found, text-is, record-open, record-below, record-above, record-text}
 use Rattle.places.proofs.record_size.Statement.{statement}
 use Rattle.places.proofs.record_size.Tie as tie
 
 -- a whole record stands here, of so many bytes
 record There (p : List ℕ) (at size : ℕ) : Type 0 where
-  found : Found (drop at p)
+  found : WholeRecord (drop at p)
   is : size ≡ lengthAt (drop at p)
   least : 5 ≤ size
   most : size ≤ 255

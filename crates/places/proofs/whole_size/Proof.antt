@@ -2,7 +2,7 @@
 use Prim.Native.Nat.{_+_}
 use mathlib.Core.Path.{sym, _∙_}
 use native.Mathlib.Omega.{arith}
-use lib.ListN.{length, drop, length-drop}
+use lib.ListN.{drop, length-drop}
 use borrow.Author.Needs.{needs}
 use Rattle.places.proofs.Checks.{byte-length, byte-last, whole-short, whole-small, whole-cut, whole-open, whole-yes}
 use Rattle.places.proofs.whole_size.Statement.{statement}

@@ -1,6 +1,7 @@
 -- `reader::copied` meets its contract. Assumes nothing.
 use mathlib.Core.Path.{subst}
 use native.Mathlib.Omega.{arith}
+use Rattle.codes.specs.Codes.{codeStringByte}
 use Rattle.reader.specs.Forms.{KindIs}
 use Rattle.reader.proofs.Spending.{room-key}
 use Rattle.reader.proofs.Heads.{unstring}
@@ -41,7 +42,7 @@ with-text-requires c κs =
 write-requires : tie.Need-write-requires
 write-requires c κs =
     let h = (subst (KindIs _ _) (c .before .before .before .before .before .before .before .w .given .1) (c .before .before .before .before .before .before .before .before .before .kind-at .ensures)) in
-    slice-more 20 (c .before .before .before .before .before .before .before .before .before .before .before .before .pre) h (c .before .before .before .with-text .ensures) (c .before .before .before .with-text .kept .1 .1 .1 .1 .0)
+    slice-more codeStringByte (c .before .before .before .before .before .before .before .before .before .before .before .before .pre) h (c .before .before .before .with-text .ensures) (c .before .before .before .with-text .kept .1 .1 .1 .1 .0)
 
 past-sign-requires : tie.Need-past-sign-requires
 past-sign-requires c κs = search needs

@@ -50,27 +50,24 @@ step-requires c κs =
 wide-requires : tie.Need-wide-requires
 wide-requires c κs = search needs
 
-mul-write : tie.Need-mul-write
-mul-write c = search needs
-
-add-write : tie.Need-add-write
-add-write c = search needs
+operation-requires : tie.Need-operation-requires
+operation-requires c κs = search needs
 
 write-requires : tie.Need-write-requires
 write-requires c κs =
-    let h = heads-variable (subst (KindIs _ _) (c .before .before .before .before .before .before .before .before .before .before .before .before .before .before .before .before .before .w .given .1) (c .before .before .before .before .before .before .before .before .before .before .before .before .before .before .before .before .before .before .before .kind-at .ensures)) in
-    let a = room-key (room-over (c .before .before .before .before .before .before .before .before .before .before .before .before .before .before .before .before .before .before .before .before .before .before .pre) (stood-over h)) (c .before .before .before .before .before .before .before .before .before .before .before .before .before .before .before .past-sign .ensures) in
-    let b = room-key (room-reads a (c .before .before .before .before .before .before .before .before .before .before .before .before .before .read-relation .ensures) (c .before .before .before .before .before .before .before .before .before .before .before .before .before .read-relation .kept .1 .1 .0)) (c .before .before .before .before .before .before .before .before .before .before .past-sign2 .ensures) in
-    let d = room-reads b (c .before .before .before .before .before .before .before .before .read-relation2 .ensures) (c .before .before .before .before .before .before .before .before .read-relation2 .kept .1 .1 .0) in
-    room-write (room-spent {j = 2} (omega arith) d (c .before .before .before .before .step .ensures) (c .before .before .before .before .step .kept .1 .1 .0))
+    let h = heads-variable (subst (KindIs _ _) (c .before .before .before .before .before .before .before .before .before .before .before .before .before .before .before .before .before .before .w .given .1) (c .before .before .before .before .before .before .before .before .before .before .before .before .before .before .before .before .before .before .before .before .kind-at .ensures)) in
+    let a = room-key (room-over (c .before .before .before .before .before .before .before .before .before .before .before .before .before .before .before .before .before .before .before .before .before .before .before .pre) (stood-over h)) (c .before .before .before .before .before .before .before .before .before .before .before .before .before .before .before .before .past-sign .ensures) in
+    let b = room-key (room-reads a (c .before .before .before .before .before .before .before .before .before .before .before .before .before .before .read-relation .ensures) (c .before .before .before .before .before .before .before .before .before .before .before .before .before .before .read-relation .kept .1 .1 .0)) (c .before .before .before .before .before .before .before .before .before .before .before .past-sign2 .ensures) in
+    let d = room-reads b (c .before .before .before .before .before .before .before .before .before .read-relation2 .ensures) (c .before .before .before .before .before .before .before .before .before .read-relation2 .kept .1 .1 .0) in
+    room-write (room-spent {j = 2} (omega arith) d (c .before .before .before .before .before .step .ensures) (c .before .before .before .before .before .step .kept .1 .1 .0))
 
 same-length : tie.Need-same-length
 same-length c = search needs
 
 returns-2 : tie.Need-returns-2
 returns-2 c =
-    let h = heads-variable (subst (KindIs _ _) (c .before .before .before .before .before .before .before .before .before .before .before .before .before .before .before .before .before .before .before .before .w .given .1) (c .before .before .before .before .before .before .before .before .before .before .before .before .before .before .before .before .before .before .before .before .before .before .kind-at .ensures)) in
-    for-is (omega (arith, c .before .before .before .wide .ensures)) h (c .before .before .before .before .before .before .before .before .before .before .before .before .before .before .before .before .before .before .past-sign .ensures) (c .before .before .before .before .before .before .before .before .before .before .before .before .before .before .before .before .read-relation .ensures) (c .before .before .before .before .before .before .before .before .before .before .before .before .before .past-sign2 .ensures) (c .before .before .before .before .before .before .before .before .before .before .before .read-relation2 .ensures) (c .before .before .before .before .before .before .before .step .ensures) (c .before .before .write .ensures)
+    let h = heads-variable (subst (KindIs _ _) (c .before .before .before .before .before .before .before .before .before .before .before .before .before .before .before .before .before .before .before .before .before .w .given .1) (c .before .before .before .before .before .before .before .before .before .before .before .before .before .before .before .before .before .before .before .before .before .before .before .kind-at .ensures)) in
+    for-is (omega (arith, c .before .before .before .operation .ensures, c .before .before .before .before .wide .ensures)) h (c .before .before .before .before .before .before .before .before .before .before .before .before .before .before .before .before .before .before .before .past-sign .ensures) (c .before .before .before .before .before .before .before .before .before .before .before .before .before .before .before .before .before .read-relation .ensures) (c .before .before .before .before .before .before .before .before .before .before .before .before .before .before .past-sign2 .ensures) (c .before .before .before .before .before .before .before .before .before .before .before .before .read-relation2 .ensures) (c .before .before .before .before .before .before .before .before .step .ensures) (c .before .before .write .ensures)
 
 pub for-to-spec : {M : Type 1} → statement M
 for-to-spec =
@@ -85,8 +82,7 @@ for-to-spec =
     read-relation-requires-2
     step-requires
     wide-requires
-    mul-write
-    add-write
+    operation-requires
     write-requires
     same-length
     returns-2)

@@ -16,11 +16,8 @@ enum-known-w c = search needs
 wide-requires : tie.Need-wide-requires
 wide-requires c κs = search needs
 
-mul-t10 : tie.Need-mul-t10
-mul-t10 c = search needs
-
-add-t11 : tie.Need-add-t11
-add-t11 c = search needs
+operation-requires : tie.Need-operation-requires
+operation-requires c κs = search needs
 
 enum-known-w-2 : tie.Need-enum-known-w-2
 enum-known-w-2 c = search needs
@@ -35,7 +32,7 @@ returns-2 c =
 
 returns-3 : tie.Need-returns-3
 returns-3 c =
-    front-assigns (omega (arith, c .wide .ensures)) (subst (KindIs _ _) (c .before .before .w .given .1) (c .before .before .before .before .kind-at .ensures))
+    front-assigns (omega (arith, c .operation .ensures, c .before .wide .ensures)) (subst (KindIs _ _) (c .before .before .before .w .given .1) (c .before .before .before .before .before .kind-at .ensures))
 
 returns-4 : tie.Need-returns-4
 returns-4 c =
@@ -52,8 +49,7 @@ front-at-spec =
     kind-at-requires
     enum-known-w
     wide-requires
-    mul-t10
-    add-t11
+    operation-requires
     enum-known-w-2
     returns
     returns-2

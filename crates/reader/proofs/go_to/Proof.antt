@@ -1,5 +1,6 @@
 -- `reader::go_to` meets its contract. Assumes nothing.
 use mathlib.Core.Path.{subst}
+use Rattle.nibl.specs.Words.{number}
 use Rattle.relation.specs.Makes.{SignIs}
 use Rattle.relation.proofs.Signs.{stood-over}
 use Rattle.reader.proofs.Spending.{room-over}
@@ -21,7 +22,7 @@ enum-told c = search needs
 returns : tie.Need-returns
 returns c =
     let h = (subst (SignIs _ _) (c .enum-told .given .1) (c .before .before .sign-at .ensures)) in
-    go-none (absent-unless 130 h) (absent-unless 131 h)
+    go-none (absent-unless (number "TO") h) (absent-unless (number "SUB") h)
 
 with-relation-requires : tie.Need-with-relation-requires
 with-relation-requires c κs =
@@ -49,7 +50,7 @@ returns-4 : tie.Need-returns-4
 returns-4 c =
     let h = (subst (SignIs _ _) (c .before .before .w .given .1) (c .before .before .before .before .sign-at .ensures)) in
     let d = c .match2 .rest in
-    go-none (stood-unless 130 (d .0 .1) h) (stood-unless 131 (d .1) h)
+    go-none (stood-unless (number "TO") (d .0 .1) h) (stood-unless (number "SUB") (d .1) h)
 
 pub go-to-spec : {M : Type 1} → statement M
 go-to-spec =

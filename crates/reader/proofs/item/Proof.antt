@@ -1,6 +1,7 @@
 -- `reader::item` meets its contract. Assumes nothing.
 use mathlib.Core.Path.{subst}
 use native.Mathlib.Omega.{arith}
+use Rattle.nibl.specs.Words.{number}
 use Rattle.reader.specs.Forms.{KindIs}
 use Rattle.reader.proofs.Spending.{room-low, room-over}
 use Rattle.reader.proofs.Heads.{heads-over, heads-sign, stood-unless, plain, sign-unstring}
@@ -67,14 +68,14 @@ same-length-3 c = search needs
 returns-3 : tie.Need-returns-3
 returns-3 c =
     let h = (subst (KindIs _ _) (c .before .before .before .before .before .before .w2 .given .1) (c .before .before .before .before .before .before .before .before .kind-at .ensures)) in
-    item-value (sign-unstring h) (stood-unless 36 (c .before .before .before .before .if1 .left) (heads-sign h)) (c .before .before .with-relation .ensures)
+    item-value (sign-unstring h) (stood-unless (number "$") (c .before .before .before .before .if1 .left) (heads-sign h)) (c .before .before .with-relation .ensures)
 
 same-length-4 : tie.Need-same-length-4
 same-length-4 c = search needs
 
 returns-4 : tie.Need-returns-4
 returns-4 c =
-    let h = plain 36 (c .before .before .before .before .before .kind-at .result) (c .before .before .before .before .before .kind-at .ensures) (c .before .before .before .before .match .keys3) in
+    let h = plain (number "$") (c .before .before .before .before .before .kind-at .result) (c .before .before .before .before .before .kind-at .ensures) (c .before .before .before .before .match .keys3) in
     item-value (h .0) (h .1) (c .before .before .with-relation2 .ensures)
 
 pub item-spec : {M : Type 1} → statement M

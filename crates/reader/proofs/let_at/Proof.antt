@@ -18,15 +18,12 @@ enum-known-w c = search needs
 wide-requires : tie.Need-wide-requires
 wide-requires c κs = search needs
 
-mul-assigned : tie.Need-mul-assigned
-mul-assigned c = search needs
-
-add-assigned : tie.Need-add-assigned
-add-assigned c = search needs
+operation-requires : tie.Need-operation-requires
+operation-requires c κs = search needs
 
 assigned-requires : tie.Need-assigned-requires
 assigned-requires c κs =
-    room-low (omega arith) (room-over (c .before .before .before .before .before .before .before .before .pre) (heads-over (subst (KindIs _ _) (c .before .before .before .w .given .1) (c .before .before .before .before .before .kind-at .ensures))))
+    room-low (omega arith) (room-over (c .before .before .before .before .before .before .before .before .before .pre) (heads-over (subst (KindIs _ _) (c .before .before .before .before .w .given .1) (c .before .before .before .before .before .before .kind-at .ensures))))
 
 enum-known-w-2 : tie.Need-enum-known-w-2
 enum-known-w-2 c = search needs
@@ -40,7 +37,7 @@ same-length c = search needs
 
 returns : tie.Need-returns
 returns c =
-    let-variable _ (omega (arith, c .before .before .before .wide .ensures)) (subst (KindIs _ _) (c .before .before .before .before .before .before .w .given .1) (c .before .before .before .before .before .before .before .before .kind-at .ensures)) (c .before .before .assigned .ensures)
+    let-variable _ (omega (arith, c .before .before .before .operation .ensures, c .before .before .before .before .wide .ensures)) (subst (KindIs _ _) (c .before .before .before .before .before .before .before .w .given .1) (c .before .before .before .before .before .before .before .before .before .kind-at .ensures)) (c .before .before .assigned .ensures)
 
 same-length-2 : tie.Need-same-length-2
 same-length-2 c = search needs
@@ -60,8 +57,7 @@ let-at-spec =
     kind-at-requires
     enum-known-w
     wide-requires
-    mul-assigned
-    add-assigned
+    operation-requires
     assigned-requires
     enum-known-w-2
     let-form-requires

@@ -28,14 +28,11 @@ shared-slice-read-wide c = omega arith
 wide-requires : tie.Need-wide-requires Inv-loop μ-loop
 wide-requires c κs = search needs
 
+operation-requires : tie.Need-operation-requires Inv-loop μ-loop
+operation-requires c κs = (c .before .before .before .before .before .before .pre .3, omega (arith, c .wide .ensures, c .before .shared-slice-known2 .given (c .before .before .before .loop .i)))
+
 mul-ops : tie.Need-mul-ops Inv-loop μ-loop
-mul-ops c = omega (arith, c .wide .ensures, c .before .shared-slice-known2 .given (c .before .before .before .loop .i))
-
-add-ops : tie.Need-add-ops Inv-loop μ-loop
-add-ops c = omega (arith, c .wide .ensures, c .before .shared-slice-known2 .given (c .before .before .before .loop .i))
-
-mul-ops-2 : tie.Need-mul-ops-2 Inv-loop μ-loop
-mul-ops-2 c = search needs
+mul-ops c = search needs
 
 slice-write-ops : tie.Need-slice-write-ops Inv-loop μ-loop
 slice-write-ops c = omega arith
@@ -51,14 +48,14 @@ loop-less c = omega arith
 
 loop-again : tie.Need-loop-again Inv-loop μ-loop
 loop-again c =
-    let a = c .before .before .before .before .before .before .args in
-    let l = c .before .before .before .loop in
+    let a = c .before .before .before .before .before .before .before .args in
+    let l = c .before .before .before .before .loop in
     let cons = slice-cons (l .i) (a .to) (a .text .now) 0 (omega arith) (omega arith) in (
       omega arith,
       omega arith,
       length-set (l .ops) (l .n) _ ∙ l .inv .2,
       omega arith,
-      rw (add-one (l .n), add-one (l .i), c .wide .ensures) (sym (ap (λ s. sets (l .ops) (l .n) (texts (a .code) s)) cons) ∙ l .inv .4),
+      rw (add-one (l .n), add-one (l .i), c .operation .ensures, c .before .wide .ensures) (sym (ap (λ s. sets (l .ops) (l .n) (texts (a .code) s)) cons) ∙ l .inv .4),
     )
 
 same-length : tie.Need-same-length Inv-loop μ-loop
@@ -73,4 +70,4 @@ returns c =
     sym (ap (λ s. sets (l .ops) (l .n) (texts (a .code) s)) none) ∙ l .inv .4
 
 pub put-text-spec : {M : Type 1} → statement M
-put-text-spec = tie.close (tie.spec Inv-loop μ-loop loop-holds shared-slice-read-wide wide-requires mul-ops add-ops mul-ops-2 slice-write-ops add-n add-i loop-less loop-again same-length returns)
+put-text-spec = tie.close (tie.spec Inv-loop μ-loop loop-holds shared-slice-read-wide wide-requires operation-requires mul-ops slice-write-ops add-n add-i loop-less loop-again same-length returns)

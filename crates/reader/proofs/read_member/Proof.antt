@@ -22,8 +22,8 @@ read-statement-requires c κs =
     let e = sym (c .before .before .has-room .ensures) ∙ not-false _ (c .before .if1 .left) in
     start-room _ _ e
 
-ended-requires : tie.Need-ended-requires
-ended-requires c κs = search needs
+member-end-requires : tie.Need-member-end-requires
+member-end-requires c κs = search needs
 
 enum-known-m : tie.Need-enum-known-m
 enum-known-m c = search needs
@@ -37,7 +37,7 @@ same-length-2 c = search needs
 returns-2 : tie.Need-returns-2
 returns-2 c =
     let e = sym (c .before .before .before .before .before .before .before .before .before .before .before .has-room .ensures) ∙ not-false _ (c .before .before .before .before .before .before .before .before .before .before .if1 .left) in
-    let m = member-none e (c .before .before .before .before .before .ended .result) (c .before .before .before .before .match .keys2) (c .before .before .before .before .before .before .before .before .read-statement .ensures) (c .before .before .before .before .before .ended .ensures) (c .before .before .clear .ensures) (c .before .before .before .before .before .before .before .before .read-statement .kept .1 .1 .0) in
+    let m = member-none e (c .before .before .before .before .before .member-end .result) (c .before .before .before .before .match .keys2) (c .before .before .before .before .before .before .before .before .read-statement .ensures) (c .before .before .before .before .before .member-end .ensures) (c .before .before .clear .ensures) (c .before .before .before .before .before .before .before .before .read-statement .kept .1 .1 .0) in
     (m .answer, m .left)
 
 same-length-3 : tie.Need-same-length-3
@@ -46,7 +46,7 @@ same-length-3 c = search needs
 returns-3 : tie.Need-returns-3
 returns-3 c =
     let e = sym (c .before .before .before .before .before .before .before .before .before .has-room .ensures) ∙ not-false _ (c .before .before .before .before .before .before .before .before .if1 .left) in
-    let m = member-found e (c .before .m .given .1) (c .before .before .before .before .before .before .read-statement .ensures) (c .before .before .before .ended .ensures) in
+    let m = member-found e (c .before .m .given .1) (c .before .before .before .before .before .before .read-statement .ensures) (c .before .before .before .member-end .ensures) in
     (m .answer, m .left)
 
 pub read-member-spec : {M : Type 1} → statement M
@@ -57,7 +57,7 @@ read-member-spec =
     same-length
     returns
     read-statement-requires
-    ended-requires
+    member-end-requires
     enum-known-m
     clear-requires
     same-length-2

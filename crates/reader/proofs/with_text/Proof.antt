@@ -4,7 +4,7 @@ use mathlib.Core.Path.{subst, _∙_}
 use native.Mathlib.Omega.{arith}
 use lib.ListN.{length, length-set, length-map}
 use lib.Seq.{slice, length-slice}
-use Rattle.relation.specs.Code.{op}
+use Rattle.codes.specs.Codes.{op}
 use Rattle.reader.specs.Forms.{filledBy}
 use Rattle.reader.proofs.Ways.{put-none, put-next}
 use borrow.Author.Needs.{needs}

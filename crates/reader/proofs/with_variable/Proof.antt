@@ -22,22 +22,19 @@ returns c =
 wide-requires : tie.Need-wide-requires
 wide-requires c κs = search needs
 
-mul-write : tie.Need-mul-write
-mul-write c = search needs
-
-add-write : tie.Need-add-write
-add-write c = search needs
+operation-requires : tie.Need-operation-requires
+operation-requires c κs = (c .before .before .before .before .before .before .before .before .pre .1, search needs)
 
 write-requires : tie.Need-write-requires
 write-requires c κs =
-    room-write (room-over (c .before .before .before .before .before .before .before .before .pre .0) (heads-over (subst (KindIs _ _) (c .before .before .before .w .given .1) (c .before .before .before .before .before .kind-at .ensures))))
+    room-write (room-over (c .before .before .before .before .before .before .before .before .before .pre .0) (heads-over (subst (KindIs _ _) (c .before .before .before .before .w .given .1) (c .before .before .before .before .before .before .kind-at .ensures))))
 
 same-length : tie.Need-same-length
 same-length c = search needs
 
 returns-2 : tie.Need-returns-2
 returns-2 c =
-    variable-is _ (omega (arith, c .before .before .before .wide .ensures)) (heads-variable (subst (KindIs _ _) (c .before .before .before .before .before .before .w .given .1) (c .before .before .before .before .before .before .before .before .kind-at .ensures))) (c .before .before .write .ensures)
+    variable-is _ (omega (arith, c .before .before .before .operation .ensures, c .before .before .before .before .wide .ensures)) (heads-variable (subst (KindIs _ _) (c .before .before .before .before .before .before .before .w .given .1) (c .before .before .before .before .before .before .before .before .before .kind-at .ensures))) (c .before .before .write .ensures)
 
 pub with-variable-spec : {M : Type 1} → statement M
 with-variable-spec =
@@ -47,8 +44,7 @@ with-variable-spec =
     enum-known-w
     returns
     wide-requires
-    mul-write
-    add-write
+    operation-requires
     write-requires
     same-length
     returns-2)

@@ -1,39 +1,30 @@
--- `fits_paused` meets its contract: by what is paused. Assumes nothing.
+-- `fits_paused` meets its contract: the number is that of the pause which was made of it. Assumes nothing.
 use mathlib.Core.Path.{sym, ap, _∙_}
 use borrow.Author.Needs.{needs}
 use Rattle.nibl.specs.Page.{placesOf, fitsPaused}
+use Rattle.nibl.specs.Record.{pauseNumber}
 use Rattle.record.proofs.fits_paused.Statement.{statement}
 use Rattle.record.proofs.fits_paused.Tie as tie
+
+of-requires : tie.Need-of-requires
+of-requires c = search needs
 
 enum-told : tie.Need-enum-told
 enum-told c = search needs
 
-enum-told-2 : tie.Need-enum-told-2
-enum-told-2 c = search needs
-
 enum-known-paused : tie.Need-enum-known-paused
 enum-known-paused c = search needs
 
-is-place-requires : tie.Need-is-place-requires
-is-place-requires c κs = search needs
+goes-on-requires : tie.Need-goes-on-requires
+goes-on-requires c κs = search needs
 
 returns : tie.Need-returns
-returns c = search needs
+returns c = let a = c .before .before .before .before .args in ap (fitsPaused (placesOf (a .page .now))) (ap pauseNumber (sym (c .enum-told .given .1)) ∙ c .before .before .of .ensures)
 
 returns-2 : tie.Need-returns-2
-returns-2 c = search needs
-
-returns-3 : tie.Need-returns-3
-returns-3 c = c .is-place .ensures ∙ ap (fitsPaused (placesOf (c .before .before .before .before .before .args .page .now))) (sym (c .before .before .paused .given .1))
+returns-2 c =
+    let a = c .before .before .before .before .before .before .args in
+    c .goes-on .ensures ∙ ap (fitsPaused (placesOf (a .page .now))) (ap pauseNumber (sym (c .before .before .paused .given .1)) ∙ c .before .before .before .before .of .ensures)
 
 pub fits-paused-spec : {M : Type 1} → statement M
-fits-paused-spec =
-    tie.close
-    (tie.spec
-    enum-told
-    enum-told-2
-    enum-known-paused
-    is-place-requires
-    returns
-    returns-2
-    returns-3)
+fits-paused-spec = tie.close (tie.spec of-requires enum-told enum-known-paused goes-on-requires returns returns-2)

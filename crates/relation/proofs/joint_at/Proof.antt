@@ -1,4 +1,5 @@
-use mathlib.Core.Path.{subst}
+use mathlib.Core.Path.{subst, ap, _∙_}
+use Rattle.codes.specs.Codes.{op, codeOperator}
 use Rattle.relation.specs.Makes.{SignIs, jointsOf}
 use Rattle.relation.proofs.Signs.{joint-none, joint-not, joint-found}
 use borrow.Author.Needs.{needs}
@@ -15,7 +16,7 @@ returns-2 c =
 
 returns-3 : tie.Need-returns-3
 returns-3 c =
-    joint-found (jointsOf (c .before .before .before .before .before .before .before .args .level)) (c .before .operator .ensures) (c .if1 .left) (subst (SignIs _ _) (c .before .before .before .w .given .1) (c .before .before .before .before .before .sign-at .ensures))
+    joint-found (jointsOf (c .before .before .before .before .before .before .before .before .before .args .level)) (c .before .before .before .operator .ensures) (c .before .before .if1 .left) (c .operation .ensures ∙ ap (op codeOperator) (c .before .wide .ensures)) (subst (SignIs _ _) (c .before .before .before .before .before .w .given .1) (c .before .before .before .before .before .before .before .sign-at .ensures))
 
 pub joint-at-spec : {M : Type 1} → statement M
 joint-at-spec =
@@ -27,4 +28,6 @@ joint-at-spec =
     returns
     (λ c κs. search needs)
     returns-2
+    (λ c κs. search needs)
+    (λ c κs. search needs)
     returns-3)

@@ -1,18 +1,17 @@
 -- `step` meets its contract: what the member's operations do is the step. Assumes nothing.
 use Prim.Native.Nat.{ℕ, _+_, _-_, _≤_, _<_}
 use mathlib.Core.List.{List}
-use mathlib.Core.Path.{_≡_, refl, sym, ap, _∙_}
+use mathlib.Core.Path.{_≡_, refl, sym, ap}
 use native.Mathlib.Omega.{arith}
 use lib.ListN.{length}
 use lib.Seq.{length-take-le}
-use Rattle.nibl.specs.Stack.{noPlace}
-use Rattle.nibl.specs.Meaning.{World, Env, Next}
+use Rattle.nibl.specs.Record.{mark, place}
+use Rattle.nibl.specs.Meaning.{World, Env}
 use Rattle.nibl.specs.Calls.{lineFrom}
-use Rattle.effect.specs.Worlds.{worldOf, envOf, didIn}
-use Rattle.engine.specs.Lending.{Fair}
+use Rattle.effect.specs.Worlds.{worldWith, envWith, didIn}
+use Rattle.statement.specs.Lending.{Fair}
 use Rattle.line.proofs.Lists.{First}
-use Rattle.run.specs.After.{afterTo}
-use Rattle.run.specs.Steps.{Within}
+use Rattle.run.specs.Running.{TextRoom}
 use Rattle.run.proofs.Members.{no-member, one-member, member-ends, member-room, member-done}
 use borrow.Author.Needs.{needs}
 use Rattle.run.proofs.step.Statement.{statement}
@@ -21,7 +20,7 @@ use Rattle.run.proofs.step.Tie as tie
 -- where the member was asked for: the page, the text, the operations
 module _ (s : tie.After-read-member) where
   abbrev start : tie.Start
-  start = s .before .before .before .before .before .before .before .before .before .before .before .before
+  start = s .before .before .before .before .before .before .before .before .before .before .before .before .before
 
   abbrev page : List ℕ
   page = start .args .page .now
@@ -39,18 +38,18 @@ module _ (s : tie.After-read-member) where
   at = start .args .a
 
   abbrev env : Env
-  env = envOf (length (start .args .line .now)) page (start .args .input .now) (start .args .sense) noPlace
+  env = envWith (length (start .args .reply .now)) page (start .args .input .now) (start .args .sense) (place mark)
 
   abbrev world : World
-  world = worldOf (start .args .vars .now) (start .args .parts) (start .args .memory .now) (start .args .output .now)
+  world = worldWith (start .args .vars .now) (start .args .parts) (start .args .memory .now) (start .args .output .now)
 
   its-text : text ≡ lineFrom page at
   its-text = s .before .before .running .ensures
 
-  fair : Fair page ops (start .args .st .now) (start .args .line .now) (start .args .rops .now)
+  fair : Fair page ops (start .args .values .now) (start .args .reply .now) (start .args .replies .now)
   fair = start .pre .0
 
-  within : Within page at ops
+  within : TextRoom page at ops
   within = start .pre .1
 
 -- and where there is one
@@ -84,10 +83,14 @@ module _ (c : tie.After-known-told) where
       let p = fair asked .places in
       omega arith
 
+at-requires : tie.Need-at-requires
+at-requires c κs = let s = c .before .before .before in let i = within s .inside in let p = fair s .places in omega arith
+
 returns : tie.Need-returns
 returns c =
-    let s = c .before .before .before in
-    no-member (page s) (ops s) (text s) (at s) (its-text s) (within s) (fair s .places) (s .read-member .result) (s .read-member .ensures .0) (env s) (world s) (c .match .keys2)
+    let s = c .before .before .before .before in
+    rw (c .at .ensures)
+    (no-member (page s) (ops s) (text s) (at s) (its-text s) (within s) (fair s .places) (s .read-member .result) (s .read-member .ensures .0) (env s) (world s) (c .before .match .keys2))
 
 add-at : tie.Need-add-at
 add-at c = omega (arith, inside c)
@@ -95,18 +98,18 @@ add-at c = omega (arith, inside c)
 sub-at : tie.Need-sub-at
 sub-at c = omega (arith, ends c)
 
+at-requires-2 : tie.Need-at-requires-2
+at-requires-2 c κs = omega (arith, inside c)
+
 slice-reshare-prefix-run-ops : tie.Need-slice-reshare-prefix-run-ops
-slice-reshare-prefix-run-ops c = omega (arith, fits c)
+slice-reshare-prefix-run-ops c = omega (arith, fits (c .before))
 
 slice-aggregate-run-ops : tie.Need-slice-aggregate-run-ops
-slice-aggregate-run-ops c = sym (length-take-le (count (c .before)) (after (c .before .before .before .before .before .before)) (fits (c .before)))
-
-cast-t29 : tie.Need-cast-t29
-cast-t29 c = omega (arith, inside (c .before))
+slice-aggregate-run-ops c = let k = c .before .before in sym (length-take-le (count k) (after (asked k)) (fits k))
 
 run-ops-requires : tie.Need-run-ops-requires
 run-ops-requires c κs =
-    let k = c .before .before .before .before .before .before .before in
+    let k = c .before .before .before .before .before .before .before .before in
     let f = fair (asked k) in
     let s = f .stack in
     let r = asked k .read-member .kept .1 .0 in
@@ -114,28 +117,29 @@ run-ops-requires c κs =
       places = f .places;
       top = f .top;
       stack = omega (arith, fits k, length-take-le (count k) (after (asked k)) (fits k));
-      reply = f .reply;
-      replies = f .replies;
+      replyOps = f .replyOps;
+      replyValues = f .replyValues;
       short = f .short;
     }
 
-add-onward : tie.Need-add-onward
-add-onward c = omega (arith, inside (c .before .before .before .before .before .before .before .before .before .before .before .before .before .before .before .before .before .before .before .before .before))
+add-at-2 : tie.Need-add-at-2
+add-at-2 c = omega (arith, inside (c .before .before .before .before .before .before .before .before .before .before .before .before .before .before .before .before .before .before .before .before .before .before))
 
-onward-requires : tie.Need-onward-requires
-onward-requires c κs = (omega (arith, inside (c .before .before .before .before .before .before .before .before .before .before .before .before .before .before .before .before .before .before .before .before .before)), omega (arith, inside (c .before .before .before .before .before .before .before .before .before .before .before .before .before .before .before .before .before .before .before .before .before)))
+at-requires-3 : tie.Need-at-requires-3
+at-requires-3 c κs = omega (arith, inside (c .before .before .before .before .before .before .before .before .before .before .before .before .before .before .before .before .before .before .before .before .before .before))
 
 same-length-8 : tie.Need-same-length-8
-same-length-8 c = asked (c .before .before .before .before .before .before .before .before .before .before .before .before .before .before .before .before .before .before .before .before .before .before) .read-member .kept .1 .0
+same-length-8 c = asked (c .before .before .before .before .before .before .before .before .before .before .before .before .before .before .before .before .before .before .before .before .before .before .before .before) .read-member .kept .1 .0
 
 returns-2 : tie.Need-returns-2
 returns-2 c =
-    let k = c .before .before .before .before .before .before .before .before .before .before .before .before .before .before .before .before .before .before .before .before .before .before in
+    let k = c .before .before .before .before .before .before .before .before .before .before .before .before .before .before .before .before .before .before .before .before .before .before .before .before in
     let s = asked k in
-    let d = c .before .before .before .before .before .before .before .before .before .before .before .before .before .before .run-ops in
-    ap (λ (n : Next). afterTo n (at s + length (text s) - left k) (worldOf (d .last .1 .1 .1 .1 .1 .0) (d .result .parts) (d .last .1 .1 .1 .1 .1 .1 .0) (d .last .1 .1 .1 .1 .1 .1 .1 .0))) (c .onward .ensures)
-    ∙ member-done (page s) (ops s) (text s) (at s) (its-text s) (within s) (fair s .places) (one k) (env s) (world s)
-    (didIn (d .result) (d .last .1 .1 .1 .1 .1 .0) (d .last .1 .1 .1 .1 .1 .1 .0) (d .last .1 .1 .1 .1 .1 .1 .1 .0)) (after s) refl (s .read-member .ensures .1) (d .ensures)
+    let p = c .before .before .before .before .before .before .before .before .before .before .before .before .before .before .before .before .before .before .before .before .before .before .before .at2 in
+    let d = c .before .before .before .before .before .before .before .before .before .before .before .before .before .before .before .run-ops in
+    rw (c .led-by .ensures, c .before .at3 .ensures, p .ensures)
+    (member-done (page s) (ops s) (text s) (at s) (its-text s) (within s) (fair s .places) (one k) (env s) (world s)
+    (didIn (d .result) (d .last .1 .1 .1 .1 .1 .0) (d .last .1 .1 .1 .1 .1 .1 .0) (d .last .1 .1 .1 .1 .1 .1 .1 .0)) (after s) refl (s .read-member .ensures .1) (rw (p .ensures) at (d .ensures)))
 
 pub step-spec : {M : Type 1} → statement M
 step-spec =
@@ -144,16 +148,18 @@ step-spec =
     (λ c κs. search needs)
     (λ c κs. search needs)
     (λ c. search needs)
+    at-requires
     (λ c. search needs)
     returns
     add-at
     sub-at
+    at-requires-2
     slice-reshare-prefix-run-ops
     slice-aggregate-run-ops
-    cast-t29
     run-ops-requires
-    add-onward
-    onward-requires
+    add-at-2
+    at-requires-3
+    (λ c κs. search needs)
     (λ c. search needs)
     (λ c. search needs)
     (λ c. search needs)

@@ -1,7 +1,7 @@
 -- `apply` meets its contract: an arm for each operator, and the relations together. Assumes nothing.
 use borrow.Author.Needs.{needs}
 use Rattle.nibl.specs.Values.{apply}
-use Rattle.value.specs.Operators.{opOf}
+use Rattle.codes.specs.Operators.{opOf}
 use Rattle.value.proofs.apply.Statement.{statement}
 use Rattle.value.proofs.apply.Tie as tie
 

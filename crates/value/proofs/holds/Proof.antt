@@ -3,7 +3,7 @@ use borrow.Author.Needs.{needs}
 use Prim.Native.Nat.{_≤_}
 use native.Mathlib.Omega.{arith}
 use Rattle.nibl.specs.Values.{apply}
-use Rattle.value.specs.Operators.{opOf}
+use Rattle.codes.specs.Operators.{opOf}
 use Rattle.value.proofs.Laws.{op-last}
 use Rattle.value.proofs.holds.Statement.{statement}
 use Rattle.value.proofs.holds.Tie as tie

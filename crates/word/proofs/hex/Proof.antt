@@ -15,7 +15,7 @@ use Rattle.word.proofs.hex.Tie as tie
 use Rattle.word.proofs.hex.Reads as reads
 use Rattle.word.proofs.hex.Lts as lts
 use Rattle.word.proofs.shifted.Reads as shifted-reads
-use Rattle.word.proofs.is_hex_digit.Reads as is-hex-digit-reads
+use Rattle.letter.proofs.is_hex_digit.Reads as is-hex-digit-reads
 
 abbrev Inv-loop : tie.InvT-loop
 Inv-loop text from v₀ i₀ v i = (from ≤ i) × (i ≤ length text) × (v < 65536) × Hexed text from v i

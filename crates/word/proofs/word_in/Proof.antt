@@ -1,14 +1,10 @@
 -- `word::word_in` meets its contract: each answer is a law of Answers. Assumes nothing.
-use mathlib.Core.Path.{sym, _∙_}
 use native.Mathlib.Omega.{arith}
 use Rattle.word.specs.Found.{tableOf}
-use Rattle.word.proofs.Answers.{found-end, found-letters, found-decimal, found-hex, found-quoted, found-symbol}
+use Rattle.word.proofs.Answers.{is-capital, is-digit, found-end, found-letters, found-decimal, found-hex, found-quoted, found-symbol}
 use borrow.Author.Needs.{needs}
 use Rattle.word.proofs.word_in.Statement.{statement}
 use Rattle.word.proofs.word_in.Tie as tie
-
-run-end-requires : tie.Need-run-end-requires
-run-end-requires c κs = search needs
 
 returns : tie.Need-returns
 returns c =
@@ -16,65 +12,74 @@ returns c =
     let e = c .before .run-end in
     found-end (tableOf (a .commands)) (a .text .now) (a .from) (e .result) (e .ensures) (c .if1 .taken)
 
-shared-slice-read-b : tie.Need-shared-slice-read-b
-shared-slice-read-b c = search needs
-
-is-capital-requires : tie.Need-is-capital-requires
-is-capital-requires c κs = search needs
-
 letters-requires : tie.Need-letters-requires
-letters-requires c κs = (search needs, sym (c .before .is-capital .ensures) ∙ c .if2 .taken)
-
-returns-2 : tie.Need-returns-2
-returns-2 c =
-    let a = c .before .before .before .before .before .before .before .args in
-    let e = c .before .before .before .before .before .run-end in
-    found-letters (tableOf (a .commands)) (a .text .now) (a .from) (e .result) (e .ensures) (omega arith) (c .letters .result) (sym (c .before .before .is-capital .ensures) ∙ c .before .if2 .taken) (c .letters .ensures)
-
-is-digit-requires : tie.Need-is-digit-requires
-is-digit-requires c κs = search needs
-
-decimal-requires : tie.Need-decimal-requires
-decimal-requires c κs = (search needs, sym (c .before .is-digit .ensures) ∙ c .if3 .taken)
+letters-requires c κs =
+    let a = c .before .before .before .before .before .before .args in
+    let e = c .before .before .before .before .run-end in
+    let k = c .before .class-by-range in
+    (search needs, is-capital (tableOf (a .commands)) (a .text .now) (a .from) (e .result) (e .ensures) (omega arith) (k .result) (k .ensures .0) (c .match .keys1))
 
 returns-3 : tie.Need-returns-3
 returns-3 c =
-    let a = c .before .before .before .before .before .before .before .before .before .args in
-    let e = c .before .before .before .before .before .before .before .run-end in
-    found-decimal (tableOf (a .commands)) (a .text .now) (a .from) (e .result) (e .ensures) (omega arith) (sym (c .before .before .before .before .is-capital .ensures) ∙ c .before .before .before .if2 .left) (c .decimal .result) (sym (c .before .before .is-digit .ensures) ∙ c .before .if3 .taken) (c .decimal .ensures)
+    let a = c .before .before .before .before .before .before .before .args in
+    let e = c .before .before .before .before .before .run-end in
+    let k = c .before .before .class-by-range in
+    found-letters (tableOf (a .commands)) (a .text .now) (a .from) (e .result) (e .ensures) (omega arith) (k .result) (k .ensures .0) (c .letters .result) (c .before .match .keys1) (c .letters .ensures)
 
-add-hex : tie.Need-add-hex
-add-hex c = search needs
-
-hex-requires : tie.Need-hex-requires
-hex-requires c κs = search needs
+decimal-requires : tie.Need-decimal-requires
+decimal-requires c κs =
+    let a = c .before .before .before .before .before .before .args in
+    let e = c .before .before .before .before .run-end in
+    let k = c .before .class-by-range in
+    (search needs, is-digit (tableOf (a .commands)) (a .text .now) (a .from) (e .result) (e .ensures) (omega arith) (k .result) (k .ensures .0) (c .match .keys2))
 
 returns-4 : tie.Need-returns-4
 returns-4 c =
-    let a = c .before .before .before .before .before .before .before .before .before .before .args in
-    let e = c .before .before .before .before .before .before .before .before .run-end in
-    found-hex (tableOf (a .commands)) (a .text .now) (a .from) (e .result) (e .ensures) (omega arith) (sym (c .before .before .before .before .before .is-capital .ensures) ∙ c .before .before .before .before .if2 .left) (sym (c .before .before .before .is-digit .ensures) ∙ c .before .before .if3 .left) (c .hex .result) (c .before .if4 .taken) (c .hex .ensures)
-
-add-quoted : tie.Need-add-quoted
-add-quoted c = search needs
-
-quoted-requires : tie.Need-quoted-requires
-quoted-requires c κs = search needs
+    let a = c .before .before .before .before .before .before .before .args in
+    let e = c .before .before .before .before .before .run-end in
+    let k = c .before .before .class-by-range in
+    found-decimal (tableOf (a .commands)) (a .text .now) (a .from) (e .result) (e .ensures) (omega arith) (k .result) (k .ensures .0) (c .decimal .result) (c .before .match .keys2) (c .decimal .ensures)
 
 returns-5 : tie.Need-returns-5
 returns-5 c =
-    let a = c .before .before .before .before .before .before .before .before .before .before .before .args in
-    let e = c .before .before .before .before .before .before .before .before .before .run-end in
-    found-quoted (tableOf (a .commands)) (a .text .now) (a .from) (e .result) (e .ensures) (omega arith) (sym (c .before .before .before .before .before .before .is-capital .ensures) ∙ c .before .before .before .before .before .if2 .left) (sym (c .before .before .before .before .is-digit .ensures) ∙ c .before .before .before .if3 .left) (c .quoted .result) (c .before .if5 .taken) (c .quoted .ensures)
+    let a = c .before .before .before .before .before .before .before .args in
+    let e = c .before .before .before .before .before .run-end in
+    let k = c .before .before .class-by-range in
+    found-quoted (tableOf (a .commands)) (a .text .now) (a .from) (e .result) (e .ensures) (omega arith) (k .result) (k .ensures .0) (c .quoted .result) (c .before .match .keys3) (c .quoted .ensures)
 
-symbol-requires : tie.Need-symbol-requires
-symbol-requires c κs = search needs
+returns-2 : tie.Need-returns-2
+returns-2 c =
+    let a = c .before .before .before .before .before .before .before .before .args in
+    let e = c .before .before .before .before .before .before .run-end in
+    let k = c .before .before .before .class-by-range in
+    let o = c .before .before .match .rest in
+    found-hex (tableOf (a .commands)) (a .text .now) (a .from) (e .result) (e .ensures) (omega arith) (k .result) (k .ensures .0) (o .0 .0 .1) (o .0 .1) (c .hex .result) (c .before .if2 .taken) (c .hex .ensures)
 
 returns-6 : tie.Need-returns-6
 returns-6 c =
-    let a = c .before .before .before .before .before .before .before .before .before .before .before .args in
-    let e = c .before .before .before .before .before .before .before .before .before .run-end in
-    found-symbol (tableOf (a .commands)) (a .text .now) (a .from) (e .result) (e .ensures) (omega arith) (sym (c .before .before .before .before .before .before .is-capital .ensures) ∙ c .before .before .before .before .before .if2 .left) (sym (c .before .before .before .before .is-digit .ensures) ∙ c .before .before .before .if3 .left) (c .symbol .result) (c .before .before .if4 .left) (c .before .if5 .left) (c .symbol .ensures)
+    let a = c .before .before .before .before .before .before .before .before .args in
+    let e = c .before .before .before .before .before .before .run-end in
+    let k = c .before .before .before .class-by-range in
+    let o = c .before .before .match .rest in
+    found-symbol (tableOf (a .commands)) (a .text .now) (a .from) (e .result) (e .ensures) (omega arith) (k .result) (k .ensures .0) (o .0 .0 .1) (o .0 .1) (c .symbol .result) (o .1) (c .before .if2 .left) (c .symbol .ensures)
 
 pub word-in-spec : {M : Type 1} → statement M
-word-in-spec = tie.close (tie.spec run-end-requires returns shared-slice-read-b is-capital-requires letters-requires returns-2 is-digit-requires decimal-requires returns-3 add-hex hex-requires returns-4 add-quoted quoted-requires returns-5 symbol-requires returns-6)
+word-in-spec =
+    tie.close
+    (tie.spec
+    (λ c κs. search needs)
+    returns
+    (λ c. search needs)
+    (λ c κs. search needs)
+    letters-requires
+    decimal-requires
+    (λ c. search needs)
+    (λ c κs. search needs)
+    (λ c. search needs)
+    (λ c κs. search needs)
+    returns-2
+    (λ c κs. search needs)
+    returns-3
+    returns-4
+    returns-5
+    returns-6)

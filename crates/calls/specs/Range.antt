@@ -1,0 +1,11 @@
+-- What a call may be lent, by the lengths alone.
+use Prim.Native.Nat.{ℕ}
+use mathlib.Core.Bool.{Bool, _&&_}
+use lib.Dec.{leb}
+use Rattle.nibl.specs.declared.Call.{Call}
+
+-- "a length, position or budget outside the above", by the lengths alone
+abbrev pub rangeOf : ℕ → ℕ → ℕ → ℕ → Call → Bool
+rangeOf page memory input output c =
+    leb 2 page && (leb page 4096 && (leb memory 4096 && (leb input 65535 && (leb output 65535
+    && (leb (c .inpos) input && (leb (c .outpos) output && leb (c .budget) 65535))))))

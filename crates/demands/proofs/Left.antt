@@ -1,0 +1,44 @@
+-- What the code leaves. A call of the gate promises `leftAll a s p m o ≡ takeLine (lentAll ..)`, or `continueRun`: the answer, the
+-- record, the page, the memory and the output that it leaves are the definition's outcome of all that it was lent. So every
+-- theorem about that outcome is one about what was left (`carried`); three of the demands' sentences are written out. Assumes nothing.
+use Prim.Native.Nat.{ℕ}
+use mathlib.Core.Bool.{false}
+use mathlib.Core.List.{List}
+use mathlib.Core.Option.{some}
+use mathlib.Core.Path.{_≡_, sym, subst}
+use mathlib.Core.Logic.{_↔_}
+use lib.ListN.{drop}
+use Rattle.nibl.specs.Tree.{Typed}
+use Rattle.nibl.specs.Typing.{Gathered, gather}
+use Rattle.nibl.specs.Readings.{LineReading}
+use Rattle.nibl.specs.Calls.{Lent, Outcome, lentAll, leftAll, limit, firstRefusal, takeLine, continueRun}
+use Rattle.nibl.specs.declared.Session.{Session}
+use Rattle.nibl.specs.declared.Call.{Call}
+use Rattle.nibl.specs.declared.Answer.{Answer}
+use Rattle.record.specs.Sound.{Sized}
+use Rattle.demands.specs.Lent.{Numbered}
+use Rattle.demands.proofs.Numbers.{every-reply-is-numbered}
+use Rattle.demands.proofs.Five.{exactly-5}
+
+module _ (rec : Session) (page memory input output : List ℕ) (call : Call) (a : Answer) (s : Session) (p m o : List ℕ) where
+  abbrev lent : Lent
+  lent = lentAll rec page memory input output call
+
+  abbrev left : Outcome
+  left = leftAll a s p m o
+
+  -- any sentence P on what is lent and what is left, of either call
+  pub carried : (F : Lent → Outcome) (P : Lent → Outcome → Type 0) → left ≡ F lent → P lent (F lent) → P lent left
+  carried F P e h = subst (P lent) (sym e) h
+
+  -- "each refusal has its number"
+  pub left-numbered : left ≡ takeLine lent → Numbered left
+  left-numbered e = carried takeLine (λ x u. Numbered u) e (every-reply-is-numbered lent .0)
+
+  pub continued-numbered : left ≡ continueRun lent → Numbered left
+  continued-numbered e = carried continueRun (λ x u. Numbered u) e (every-reply-is-numbered lent .1)
+
+  -- "refused as bad grammar exactly when the written grammar gives it no reading"
+  pub left-exactly-5 : left ≡ takeLine lent → (g : Gathered) → Sized rec → firstRefusal limit lent ≡ 0 → gather limit (drop (call .inpos) input) ≡ some g → g .line .long ≡ false
+      → (a .stop ≡ 5) ↔ ((y : Typed) → LineReading (g .line .bytes) y → ⊥)
+  left-exactly-5 e g z f h l = carried takeLine (λ x u. (u .answer .stop ≡ 5) ↔ ((y : Typed) → LineReading (g .line .bytes) y → ⊥)) e (exactly-5 lent g z f h l)

@@ -1,0 +1,203 @@
+// How a call ends: by a stop that no program statement gave, an edit, a listing, a run, or an immediate statement. What ends
+// is the answer and the record, by value; the rest is where it was lent.
+ghost use mathlib.Core.Path.{_≡_};
+ghost use lib.ListN.{length};
+ghost use Rattle.nibl.specs.Page.{recordsOf};
+ghost use Rattle.nibl.specs.Record.{place, mark, positionOf};
+ghost use Rattle.nibl.specs.Read.{typed as readingOf};
+ghost use Rattle.nibl.specs.Calls.{runFrom, runOutcome, obeyRead};
+ghost use Rattle.effect.specs.Worlds.{envWith};
+ghost use Rattle.page.specs.Standing.{Stands};
+ghost use Rattle.page.specs.Listing.{listing};
+ghost use Rattle.ending.specs.Ends.{endedIn, worldAt, stopped, editEnd, listEnd, ranEnd};
+ghost use Rattle.ending.specs.Lends.{Lists, Accepted, IsStatement};
+use nibl::Answer;
+use nibl::Call;
+use nibl::LineNumber;
+use nibl::NO_LINE;
+use nibl::NOWHERE;
+use nibl::Onward;
+use nibl::Place;
+use nibl::Session;
+use page::Edited;
+use page::Listed;
+use run::Ran;
+use world::jump::Way;
+
+// How a call ended: its answer, and the record then.
+pub struct Ended {
+    pub answer: Answer,
+    pub session: Session,
+}
+
+// A stop that no program statement gave: it has no line, and no steps.
+pub fn stopped(stop: u8, session: Session, inpos: usize, outpos: usize) -> Ended
+    ensures { λ r. ⌜ r ≡ stopped stop session inpos outpos ⌝ }
+{
+    let answer = Answer {
+        stop: stop,
+        line: NO_LINE,
+        steps: 0,
+        inpos: inpos,
+        outpos: outpos,
+    };
+    Ended {
+        answer: answer,
+        session: session,
+    }
+}
+
+// How an edit ends. One that changed the page, or replaced a line by itself, clears the stacks.
+pub fn edited(edit: Edited, session: Session, inpos: usize, outpos: usize) -> Ended
+    ensures { λ r. ⌜ r ≡ editEnd edit session inpos outpos ⌝ }
+{
+    match edit {
+        Edited::Done => stopped(0, session.stackless(), inpos, outpos),
+        Edited::NoRoom => stopped(2, session, inpos, outpos),
+        Edited::Absent => stopped(0, session, inpos, outpos),
+    }
+}
+
+// LIST from a number on.
+pub fn list(
+    page: &[u8],
+    from: LineNumber,
+    output: &mut [u8],
+    session: Session,
+    inpos: usize,
+    outpos: usize,
+) -> Ended
+    ensures { λ r. ⌜ r ≡ listEnd session inpos (listing (from .0) (recordsOf (now (page .entry))) (now (output .entry)) outpos) ⌝ }
+    ensures { λ r. ⌜ now (output .exit) ≡ listing (from .0) (recordsOf (now (page .entry))) (now (output .entry)) outpos .output ⌝ }
+{
+    let listed = page::list_from(page, from, output, outpos);
+    match listed {
+        Listed::All(at) => stopped(0, session, inpos, at),
+        Listed::Full(at) => stopped(17, session, inpos, at),
+    }
+}
+
+// What a run left, as a call's end.
+fn ran(ran: Ran, vars: [u16; 26]) -> Ended
+    ensures { λ r. ⌜ r ≡ ranEnd ran vars ⌝ }
+{
+    let parts = ran.parts;
+    let answer = Answer {
+        stop: ran.stop,
+        line: ran.line,
+        steps: ran.steps,
+        inpos: parts.inpos,
+        outpos: parts.outpos,
+    };
+    Ended {
+        answer: answer,
+        session: parts.session(vars, ran.paused),
+    }
+}
+
+// A run within the call's budget. The variables are lent to it, the rest of the record goes by value.
+pub fn run_from<'a>(
+    from: Onward,
+    session: Session,
+    page: &'a [u8],
+    memory: &mut [u8],
+    input: &[u8],
+    output: &mut [u8],
+    call: Call,
+    typed: &'a [u8],
+    reply: &mut [u8],
+    replies: &mut [u32],
+    values: &mut [u16],
+    ops: &mut [u32],
+) -> Ended
+    requires { ⌜ Lists (now reply) (now replies) (now values) (now ops) × Accepted (length (now reply)) (now page) (call .budget) session × Stands (now page) (positionOf from) ⌝ }
+    ensures { λ r. ⌜ endedIn r (now (page .entry)) (now (memory .exit)) (now (output .exit)) ≡ runOutcome (runFrom (call .budget) (envWith (length (now (reply .entry))) (now (page .entry)) (now (input .entry)) (call .sense) (place mark)) (positionOf from) (worldAt session (now (memory .entry)) (now (output .entry)) (call .inpos) (call .outpos))) (now (page .entry)) ⌝ }
+{
+    let mut vars = session.vars;
+    let parts = session.parts(call.inpos, call.outpos);
+    let r = run::run_steps(
+        from,
+        call.budget,
+        page,
+        input,
+        call.sense,
+        &mut vars,
+        memory,
+        output,
+        reply,
+        replies,
+        values,
+        ops,
+        parts,
+        typed,
+    );
+    ran(r, vars)
+}
+
+// An immediate statement, whose operations are the first n: it runs at any budget and is not counted. It may set a run going.
+pub fn immediate<'a>(
+    n: usize,
+    session: Session,
+    page: &'a [u8],
+    memory: &mut [u8],
+    input: &[u8],
+    output: &mut [u8],
+    call: Call,
+    typed: &'a [u8],
+    reply: &mut [u8],
+    replies: &mut [u32],
+    values: &mut [u16],
+    ops: &mut [u32],
+) -> Ended
+    requires { ⌜ Lists (now reply) (now replies) (now values) (now ops) × Accepted (length (now reply)) (now page) (call .budget) session × IsStatement (now typed) n (now ops) ⌝ }
+    ensures { λ r. ⌜ endedIn r (now (page .entry)) (now (memory .exit)) (now (output .exit)) ≡ obeyRead (call .budget) (envWith (length (now (reply .entry))) (now (page .entry)) (now (input .entry)) (call .sense) (place mark)) (worldAt session (now (memory .entry)) (now (output .entry)) (call .inpos) (call .outpos)) (readingOf (now (typed .entry))) ⌝ }
+{
+    let mut vars = session.vars;
+    let parts = session.parts(call.inpos, call.outpos);
+    let d = statement::run_ops(
+        &ops[..n],
+        Place::mark(),
+        page,
+        input,
+        call.sense,
+        &mut vars,
+        memory,
+        output,
+        reply,
+        replies,
+        values,
+        parts,
+    );
+    let way = d.way;
+    let after = d.parts;
+    let inpos = after.inpos;
+    let outpos = after.outpos;
+    let next = after.session(vars, NOWHERE);
+    match way {
+        Way::On => stopped(0, next, inpos, outpos),
+        Way::Skip => stopped(0, next, inpos, outpos),
+        Way::Stop(k) => stopped(k, next, inpos, outpos),
+        Way::Go(from) => {
+            let onward = Call {
+                inpos: inpos,
+                outpos: outpos,
+                sense: call.sense,
+                budget: call.budget,
+            };
+            run_from(
+                from,
+                next,
+                page,
+                memory,
+                input,
+                output,
+                onward,
+                typed,
+                reply,
+                replies,
+                values,
+                ops,
+            )
+        }
+    }
+}

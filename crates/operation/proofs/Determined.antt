@@ -1,0 +1,53 @@
+-- One outcome: two answers that meet a public function's promise for the same arguments are equal, and so are the values
+-- on the stack, or the variables; of the lent room above those values it says nothing. Assumes nothing.
+use Prim.Native.Nat.{ℕ, zero, suc}
+use mathlib.Core.Path.{_≡_, refl, sym, ap, _∙_}
+use mathlib.Core.List.{List}
+use mathlib.Core.Option.{Option}
+use lib.ListN.{length, getD}
+use native.Mathlib.Omega.{arith}
+use Rattle.nibl.specs.Tree.{Expr}
+use Rattle.nibl.proofs.Determined.{determined}
+use Rattle.value.specs.declared.Value.{Value}
+use Rattle.value.specs.Operators.{valueOf}
+use Rattle.value.proofs.Laws.{value-same}
+use Rattle.world.specs.Turns.{wayOf}
+use Rattle.world.specs.declared.jump.Way.{Way}
+use Rattle.world.proofs.jump.Determined.{way-determined}
+use Rattle.operation.specs.Operations.{Sources, valueStep}
+use Rattle.operation.specs.declared.Height.{Height}
+use Rattle.operation.specs.declared.Height.the-variants as raised
+use Rattle.operation.proofs.Stacks.{stack-none}
+use Rattle.operation.specs.Stacks.{stackOf, stackAfter, heightOf, worked, assigned, assigning}
+
+pub nth-determined : (values : List ℕ) (height k a b : ℕ) → a ≡ getD (stackOf values height) k 0 → b ≡ getD (stackOf values height) k 0 → a ≡ b
+nth-determined values height k = determined (getD (stackOf values height) k 0)
+
+-- a stack says how high it is
+height : (values : List ℕ) (n : ℕ) → length (stackOf values n) ≡ n
+unfolding stackOf
+height values zero = refl
+height values (suc n) = ap suc (height values n)
+
+-- an answer, and the values that it counts
+height-same : (r s : Height) (values values′ : List ℕ) → stackAfter r values ≡ stackAfter s values′ → (r ≡ s) × (stackOf values (heightOf r) ≡ stackOf values′ (heightOf s))
+height-same (raised.Top m) (raised.Top n) values values′ e =
+    let v : stackOf values m ≡ stackOf values′ n = cc in
+    let k : m ≡ n = sym (height values m) ∙ ap length v ∙ height values′ n in
+    (ap raised.Top k, v)
+height-same (raised.No m) (raised.No n) values values′ e = let k : m ≡ n = cc in (ap raised.No k, stack-none values ∙ sym (stack-none values′))
+height-same (raised.Top m) (raised.No n) values values′ e = let z : _≡_ {A = ℕ} 0 1 = cc in absurd (omega arith)
+height-same (raised.No m) (raised.Top n) values values′ e = let z : _≡_ {A = ℕ} 0 1 = cc in absurd (omega arith)
+
+pub step-determined : (s : Sources) (op : ℕ) (vs : List ℕ) (a b : Height) (values values′ : List ℕ)
+    → stackAfter a values ≡ valueStep s op vs → stackAfter b values′ ≡ valueStep s op vs → (a ≡ b) × (stackOf values (heightOf a) ≡ stackOf values′ (heightOf b))
+step-determined s op vs a b values values′ p q = height-same a b values values′ (determined (valueStep s op vs) (stackAfter a values) (stackAfter b values′) p q)
+
+pub work-determined : (s : Sources) (ops : List ℕ) (a b : Value) → valueOf a ≡ worked s ops → valueOf b ≡ worked s ops → a ≡ b
+work-determined s ops a b p q = value-same a b (determined (worked s ops) (valueOf a) (valueOf b) p q)
+
+pub reply-determined : (s : Sources) (vs : List ℕ) (es : Option (List Expr)) (a b : Way) (vars vars′ : List ℕ)
+    → assigned a vars ≡ assigning s vs es → assigned b vars′ ≡ assigning s vs es → (a ≡ b) × (vars ≡ vars′)
+reply-determined s vs es a b vars vars′ p q =
+    let e = determined (assigning s vs es) (assigned a vars) (assigned b vars′) p q in
+    (way-determined (wayOf b) a b (λ i. e i .next) refl, λ i. e i .vars)

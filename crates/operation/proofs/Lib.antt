@@ -1,0 +1,7 @@
+pub mod Values
+pub mod Readings
+pub mod Compiles
+pub mod Stacks
+pub mod Replies
+pub mod Meaning
+pub mod Determined

@@ -1,0 +1,53 @@
+-- What a step and a run leave, and what must hold of what is lent.
+use Prim.Native.Nat.{ℕ, _+_, _≤_, _<_}
+use mathlib.Core.Bool.{true}
+use mathlib.Core.List.{List}
+use mathlib.Core.Path.{_≡_}
+use lib.Dec.{eqb}
+use lib.ListN.{length}
+use Rattle.nibl.specs.Bytes.{if_then_else_}
+use Rattle.nibl.specs.Page.{isGood, placesOf}
+use Rattle.nibl.specs.Meaning.{World}
+use Rattle.nibl.specs.Calls.{Outcome, leftAll, answerOf, lineFrom}
+use Rattle.nibl.specs.Record.{nowhere, pausedAt, sessionOf}
+use Rattle.nibl.specs.declared.Parts.{Parts}
+use Rattle.page.specs.Standing.{Stands}
+use Rattle.record.specs.Fit.{Fit}
+use Rattle.effect.specs.Worlds.{worldWith}
+use Rattle.run.specs.StepEnds.{StepEnd, ledTo, stepEnd}
+use Rattle.run.specs.declared.Stepped.{Stepped}
+use Rattle.run.specs.declared.Ran.{Ran}
+
+abbrev pub steppedIn : Stepped → List ℕ → List ℕ → List ℕ → StepEnd
+steppedIn s vars memory output = stepEnd (ledTo (s .led)) (s .at .0) (worldWith vars (s .parts) memory output)
+
+-- the text that begins at a lies in the page, and there is an operation to each of its bytes
+pub record TextRoom (page : List ℕ) (a : ℕ) (ops : List ℕ) : Type 0 where
+  pub inside : a + length (lineFrom page a) < length page
+  pub room : length (lineFrom page a) ≤ length ops
+
+abbrev pub ranTo : ℕ → ℕ → ℕ → ℕ → Parts → Ran
+ranTo stop line steps paused parts = record { stop = stop; line = line; steps = steps; paused = paused; parts = parts }
+
+-- what a run's answer says, with all that it leaves
+abbrev pub ranIn : Ran → List ℕ → List ℕ → List ℕ → List ℕ → Outcome
+ranIn r vars page memory output =
+    leftAll (answerOf (r .stop) (r .line) (r .steps) (r .parts .inpos) (r .parts .outpos)) (sessionOf (r .parts) vars (r .paused)) page memory output
+
+-- When a run may begin: on a good page of 16-bit places, with a record that fits, from a position where a run may stand, with a
+-- budget of 16 bits. The reply's slots are as many as the limit; there is an operation to each, and a value to each operation.
+pub record MayRun (page ops values reply replies : List ℕ) (q budget : ℕ) (w : World) : Type 0 where
+  pub places : length page ≤ 65535
+  pub short : length reply ≤ 251
+  pub good : isGood (length reply) page ≡ true
+  pub room : length reply ≤ length ops
+  pub stack : length ops ≤ length values
+  pub replyOps : length reply ≤ length replies
+  pub replyValues : length replies ≤ length values
+  pub fits : Fit (placesOf page) (w .session)
+  pub stands : Stands page q
+  pub steps : budget ≤ 65535
+
+-- a run is paused where its stop is 14
+abbrev pub pauseOf : ℕ → ℕ → ℕ
+pauseOf stop q = if eqb stop 14 then pausedAt q else nowhere

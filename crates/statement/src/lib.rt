@@ -1,0 +1,197 @@
+// A statement's operations run. What that needs besides is lent: room for values, for a reply's bytes and its operations.
+ghost use mathlib.Core.List.{[]};
+ghost use mathlib.Core.Path.{_≡_};
+ghost use lib.ListN.{length};
+ghost use Rattle.nibl.specs.Stack.{noPlace};
+ghost use Rattle.operation.specs.Operations.{isLast, lastBy, runOps, variablesOf};
+ghost use Rattle.world.specs.Hearing.{hearing, heardIn};
+ghost use Rattle.effect.specs.Worlds.{envWith, worldWith, didIn};
+ghost use Rattle.statement.specs.Lending.{Fair, isOn, takesReply};
+use effect::Did;
+use nibl::Parts;
+use nibl::Place;
+use operation::Height;
+use world::input;
+use world::input::Reply;
+use world::jump::Way;
+use world::memory;
+
+// INPUT of values: the reply's relations for the variables of the operations that follow.
+fn input_values(
+    rest: &[u32],
+    n: u32,
+    page: &[u8],
+    input: &[u8],
+    sense: u8,
+    vars: &mut [u16],
+    memory: &[u8],
+    output: &mut [u8],
+    reply: &mut [u8],
+    replies: &mut [u32],
+    values: &mut [u16],
+    parts: Parts,
+) -> Did
+    requires { ⌜ Fair (now page) [] (now values) (now reply) (now replies) ⌝ }
+    ensures { λ r. ⌜ didIn r (now (vars .exit)) (now (memory .entry)) (now (output .exit)) ≡ heardIn (worldWith (now (vars .entry)) parts (now (memory .entry)) (now (output .entry))) (hearing (length (now (reply .entry))) (now (input .entry)) (parts .inpos) (now (output .entry)) (parts .outpos)) (takesReply sense (now (page .entry)) (variablesOf (now (rest .entry))) n) ⌝ }
+{
+    let r = input::ask(input, parts.inpos, output, parts.outpos, reply);
+    match r {
+        Reply::No(k, i, o) => effect::ends(Way::Stop(k), effect::at_positions(parts, i, o)),
+        Reply::Line(k, i, o) => {
+            let flags = parts.flags;
+            let way = operation::take_reply(
+                rest,
+                n as usize,
+                &reply[..k],
+                flags,
+                sense,
+                page,
+                vars,
+                memory,
+                replies,
+                values,
+            );
+            effect::ends(way, effect::at_positions(parts, i, o))
+        }
+    }
+}
+
+// Whether an operation takes the rest of the list as its own.
+fn is_last(code: u32) -> bool
+    ensures { λ r. ⌜ r ≡ isLast code ⌝ }
+{
+    code == codes::STORE_STRING || code == codes::INPUT
+}
+
+// Such an operation: the bytes of a string, or the variables of INPUT.
+fn last(
+    op: u32,
+    x: u16,
+    rest: &[u32],
+    page: &[u8],
+    input: &[u8],
+    sense: u8,
+    vars: &mut [u16],
+    memory: &mut [u8],
+    output: &mut [u8],
+    reply: &mut [u8],
+    replies: &mut [u32],
+    values: &mut [u16],
+    parts: Parts,
+) -> Did
+    requires { ⌜ Fair (now page) [] (now values) (now reply) (now replies) ⌝ }
+    ensures { λ r. ⌜ didIn r (now (vars .exit)) (now (memory .exit)) (now (output .exit)) ≡ lastBy (envWith (length (now (reply .entry))) (now (page .entry)) (now (input .entry)) sense noPlace) op x (now (rest .entry)) (worldWith (now (vars .entry)) parts (now (memory .entry)) (now (output .entry))) ⌝ }
+{
+    if op % codes::CODES == codes::STORE_STRING {
+        return effect::store_ends(memory::store_args(memory, x, rest), parts);
+    }
+    input_values(
+        rest,
+        op / codes::CODES,
+        page,
+        input,
+        sense,
+        vars,
+        memory,
+        output,
+        reply,
+        replies,
+        values,
+        parts,
+    )
+}
+
+fn is_on(way: Way) -> bool
+    ensures { λ r. ⌜ r ≡ isOn way ⌝ }
+{
+    match way {
+        Way::On => true,
+        Way::Skip => false,
+        Way::Go(_) => false,
+        Way::Stop(_) => false,
+    }
+}
+
+// The operations of one statement.
+pub fn run_ops(
+    ops: &[u32],
+    here: Place,
+    page: &[u8],
+    input: &[u8],
+    sense: u8,
+    vars: &mut [u16],
+    memory: &mut [u8],
+    output: &mut [u8],
+    reply: &mut [u8],
+    replies: &mut [u32],
+    values: &mut [u16],
+    parts: Parts,
+) -> Did
+    requires { ⌜ Fair (now page) (now ops) (now values) (now reply) (now replies) ⌝ }
+    ensures { λ r. ⌜ didIn r (now (vars .exit)) (now (memory .exit)) (now (output .exit)) ≡ runOps (envWith (length (now (reply .entry))) (now (page .entry)) (now (input .entry)) sense here) (now (ops .entry)) (worldWith (now (vars .entry)) parts (now (memory .entry)) (now (output .entry))) [] ⌝ }
+{
+    let mut p = parts;
+    let mut height: usize = 0;
+    let mut i: usize = 0;
+    while i < ops.len() {
+        let op = ops[i];
+        let code = op % codes::CODES;
+        if code < codes::EFFECTS {
+            let t = operation::value_step(op, vars, p.flags, sense, page, memory, values, height);
+            match t {
+                Height::Top(n) => {
+                    height = n;
+                    i += 1;
+                }
+                Height::No(n) => {
+                    return effect::ends(Way::Stop(n), p);
+                }
+            }
+        } else {
+            let x = operation::nth(values, height, 0);
+            if is_last(code) {
+                return last(
+                    op,
+                    x,
+                    &ops[i + 1..],
+                    page,
+                    input,
+                    sense,
+                    vars,
+                    memory,
+                    output,
+                    reply,
+                    replies,
+                    values,
+                    p,
+                );
+            }
+            let y = operation::nth(values, height, 1);
+            let z = operation::nth(values, height, 2);
+            let d = effect::effect(
+                code,
+                op / codes::CODES,
+                x,
+                y,
+                z,
+                here,
+                page,
+                input,
+                vars,
+                memory,
+                output,
+                reply,
+                p,
+            );
+            let way = d.way;
+            if !is_on(way) {
+                return d;
+            }
+            let q = d.parts;
+            p = q;
+            height = 0;
+            i += 1;
+        }
+    }
+    effect::ends(Way::On, p)
+}

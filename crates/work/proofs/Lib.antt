@@ -1,4 +1,0 @@
-pub mod Stacks
-pub mod Replies
-pub mod Meaning
-pub mod Determined

@@ -1,0 +1,67 @@
+//! What the table must have.
+
+use std::collections::HashSet;
+
+use model::case::Call;
+use model::Stop;
+
+use crate::cases::cases;
+use crate::form::{bytes, Input};
+use crate::{count, table};
+
+#[test]
+fn the_stops_are_those_of_the_document() {
+    for case in cases() {
+        let stops: Vec<u8> = case
+            .outcomes()
+            .iter()
+            .map(|(_, stop)| stop.number())
+            .collect();
+        assert_eq!(stops, case.stops, "{}", case.name);
+    }
+}
+
+/// A continued run takes no line, so that it cannot be one that does not fit, has no reading or is not immediate.
+#[test]
+fn every_stop_comes_up_in_each_call_that_can_give_it() {
+    let cases = cases();
+    let of_lines = [Stop::PageFull, Stop::NotImmediate, Stop::NoReading];
+    for stop in Stop::ALL {
+        assert!(count(&cases, Call::Line, stop) > 0, "{stop:?}");
+        let by_runs = count(&cases, Call::Continue, stop) > 0;
+        assert_eq!(by_runs, !of_lines.contains(&stop), "{stop:?}");
+    }
+}
+
+#[test]
+fn no_two_cases_are_equal() {
+    let cases = cases();
+    for (at, case) in cases.iter().enumerate() {
+        for other in &cases[..at] {
+            let equal = case.gate == other.gate && case.calls == other.calls;
+            assert!(!equal, "{} and {}", case.name, other.name);
+        }
+    }
+}
+
+#[test]
+fn names_are_lines_of_their_own() {
+    let mut names = HashSet::new();
+    for case in cases() {
+        let text = case.name.bytes().all(|byte| matches!(byte, 32..=126));
+        assert!(text && case.name.len() <= 100, "{}", case.name);
+        assert!(names.insert(case.name.clone()), "{} twice", case.name);
+    }
+}
+
+#[test]
+fn bytes_read_back() {
+    let cases = cases();
+    let read = Input::new(bytes(&cases)).cases();
+    assert_eq!(read.len(), cases.len());
+    for (read, case) in read.iter().zip(&cases) {
+        assert_eq!(read.name, case.name);
+        assert_eq!((&read.gate, &read.calls), (&case.gate, &case.calls));
+    }
+    assert_eq!(table(read), table(cases));
+}
