@@ -4,6 +4,7 @@
 ghost use Prim.Native.Nat.{_-_, _≤_, _<_};
 ghost use lib.ListN.{length};
 ghost use mathlib.Core.Path.{_≡_};
+use nibl::Call;
 use nibl::ForEntry;
 use nibl::ForStack;
 use nibl::LineNumber;
@@ -16,6 +17,9 @@ use page::FoundLine;
 use reader::MemberRead;
 use word::Cursor;
 use word::Word;
+
+// Where the page's byte stands that a typed line changes: a digit of the middle line.
+const CHANGED: usize = 2005;
 
 // A word's number, so that no word can be left unread.
 fn number(w: Word) -> u16 {
@@ -254,6 +258,75 @@ fn steps(page: &[u8], session: Session) -> u16 {
     std::num::wrapping_add_u16(ran.steps, vars[0])
 }
 
+// A record whose stacks are full and that is paused: 21 places, all of them the CR of the line before the middle one.
+fn full() -> Session {
+    let there = Place::at(1968);
+    let entry = ForEntry {
+        var: 8,
+        limit: 8,
+        step: 1,
+        place: there,
+    };
+    let stack = PlaceStack {
+        depth: 8,
+        places: [there; 8],
+    };
+    Session {
+        vars: [0u16; 26],
+        flags: 0,
+        gosubs: stack,
+        dos: stack,
+        fors: ForStack {
+            depth: 4,
+            entries: [entry; 4],
+        },
+        paused: 1970,
+    }
+}
+
+// A typed line: its stop, how far the input was taken, how many places are left, and the page's byte that the line changes.
+fn take(page: &mut [u8], session: Session, input: &[u8]) -> u16
+    ensures { λ _. ⌜ length (now (page .exit)) ≡ length (now (page .entry)) ⌝ }
+{
+    let mut memory = [0u8; 1];
+    let mut output = [0u8; 1];
+    let call = Call {
+        inpos: 0,
+        outpos: 0,
+        sense: 0,
+        budget: 0,
+    };
+    let ended = calls::take_line(session, page, &mut memory, input, &mut output, call);
+    let answer = ended.answer;
+    let left = ended.session;
+    let sum = add(add(answer.stop as u16, answer.inpos), left.gosubs.depth);
+    if CHANGED < page.len() {
+        return add(sum, wide(page[CHANGED]));
+    }
+    sum
+}
+
+// The middle line of a full page is typed anew, with the other one of two digits: the page stays as full as it was.
+fn typed(page: &mut [u8], session: Session) -> u16
+    ensures { λ _. ⌜ length (now (page .exit)) ≡ length (now (page .entry)) ⌝ }
+{
+    if page.len() < CHANGED + 1 {
+        return 0;
+    }
+    if page[CHANGED] == b'3' {
+        return take(
+            page,
+            session,
+            b"510 PRINT \"COW\",C,\" GATE \",STAT AND 4;: REM OPEN: SHUT\r",
+        );
+    }
+    take(
+        page,
+        session,
+        b"510 PRINT \"COW\",C,\" GATE \",STAT AND 3;: REM OPEN: SHUT\r",
+    )
+}
+
 fn round(work: u16, bytes: &mut [u8], ops: &mut [u32]) -> u16
     ensures { λ _. ⌜ length (now (bytes .exit)) ≡ length (now (bytes .entry)) ⌝ }
 {
@@ -264,6 +337,8 @@ fn round(work: u16, bytes: &mut [u8], ops: &mut [u32]) -> u16
         5..=7 => finds(bytes),
         8 => check(bytes),
         9 => steps(bytes, fresh()),
+        10 => typed(bytes, fresh()),
+        11 => typed(bytes, full()),
         _ => 0,
     }
 }

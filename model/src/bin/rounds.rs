@@ -16,11 +16,18 @@ use model::reader::read_list;
 use model::rules::{empty_page, full_page, RULES};
 use model::tree::Tree;
 use model::words::{Word, Words};
-use model::{continue_run, Lent, Pause, Record};
+use model::{continue_run, take_line, ForEntry, ForStack, Lent, Pause, Place, PlaceStack, Record};
 
 /// A line in the middle of a full page of rule lines, and the texts that it has in turn, of which the second is its own.
 const MIDDLE: LineNumber = LineNumber(510);
 const EDITS: [&str; 2] = [RULES[0], RULES[3]];
+
+/// The same line as it is typed, with one of two digits, and where the page has the digit.
+const LINES: [&str; 2] = [
+    "510 PRINT \"COW\",C,\" GATE \",STAT AND 3;: REM OPEN: SHUT\r",
+    "510 PRINT \"COW\",C,\" GATE \",STAT AND 4;: REM OPEN: SHUT\r",
+];
+const CHANGED: usize = 2005;
 
 /// Rule lines without remarks, one after the other, as many as fit a page.
 fn text() -> Vec<u8> {
@@ -189,11 +196,59 @@ fn steps(page: &mut [u8]) -> u16 {
     add(record.variables[0] as u16, answer.steps as usize)
 }
 
+/// A record whose stacks are full and that is paused: 21 places, all of them the CR of the line before the middle one.
+fn full() -> Record {
+    let place = Place(1968);
+    let stack = PlaceStack {
+        depth: 8,
+        places: [place; 8],
+    };
+    let entry = ForEntry {
+        variable: 8,
+        limit: 8,
+        step: 1,
+        place,
+    };
+    Record {
+        gosubs: stack,
+        dos: stack,
+        fors: ForStack {
+            depth: 4,
+            entries: [entry; 4],
+        },
+        paused: Some(Pause::After(place)),
+        ..Record::default()
+    }
+}
+
+/// The middle line of a full page is typed anew, with the other one of two digits: the page stays as full as it was.
+/// The stop, how far the input was taken, how many places are left, and the page's byte that the line changes.
+fn typed(page: &mut [u8], mut record: Record) -> u16 {
+    let lent = Lent {
+        input: LINES[usize::from(page[CHANGED] == b'3')].as_bytes(),
+        page,
+        memory: &mut [0],
+        output: &mut [0],
+        input_position: 0,
+        output_position: 0,
+        sense: 0,
+        budget: 0,
+    };
+    let answer = take_line(&mut record, lent);
+    let found = [
+        answer.stop as usize,
+        answer.input_position as usize,
+        record.gosubs.depth as usize,
+        page[CHANGED].into(),
+    ];
+    found.into_iter().fold(0, add)
+}
+
 /// What a piece of work, by its number, works on.
 fn input(work: &str) -> Option<Vec<u8>> {
     match work {
         "0" => Some(text()),
-        "1" | "2" | "3" | "4" | "8" => Some(full_page(&RULES)),
+        "1" | "2" | "3" | "4" | "8" | "10" | "11" => Some(full_page(&RULES)),
         "5" | "6" | "7" => Some(lines()),
         "9" => Some(looping()),
         _ => None,
@@ -243,6 +298,8 @@ fn run(input: &[u8]) -> Option<u16> {
             read_page(black_box(page)).is_some().into()
         })),
         "9" => Some(repeat(rounds, || steps(black_box(page)))),
+        "10" => Some(repeat(rounds, || typed(black_box(page), Record::default()))),
+        "11" => Some(repeat(rounds, || typed(black_box(page), full()))),
         _ => None,
     }
 }
