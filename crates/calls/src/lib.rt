@@ -5,10 +5,11 @@ ghost use mathlib.Core.Bool.{true};
 ghost use lib.ListN.{length};
 ghost use Rattle.nibl.specs.Page.{placesOf, fitsPaused};
 ghost use Rattle.nibl.specs.Record.{unpaused};
-ghost use Rattle.nibl.specs.Calls.{lentAll, leftAll, firstRefusal, continueFrom, takeLine, continueRun};
+ghost use Rattle.nibl.specs.Calls.{lentAll, leftAll, firstRefusal, continueFrom, takeLine, continueRun, limit};
 ghost use Rattle.ending.specs.Ends.{endedIn};
 ghost use Rattle.ending.specs.Lends.{Lists, Accepted};
 ghost use Rattle.calls.specs.Range.{rangeOf};
+ghost use Rattle.calls.specs.Past.{pastRefusals};
 use ending::Ended;
 use nibl::Call;
 use nibl::LIMIT;
@@ -103,6 +104,54 @@ fn paused_run(
     }
 }
 
+// A call past its first refusals: it obeys the typed line, or lets a paused run go on. Its lists stand here and not in the calls,
+// so that they take no stack while page and record are checked.
+fn accepted_call(
+    typed: bool,
+    rec: Session,
+    page: &mut [u8],
+    memory: &mut [u8],
+    input: &[u8],
+    output: &mut [u8],
+    call: Call,
+) -> Ended
+    requires { ⌜ Accepted limit (now page) (call .budget) (unpaused rec) × (fitsPaused (placesOf (now page)) (rec .paused) ≡ true) ⌝ }
+    ensures { λ r. ⌜ leftAll (r .answer) (r .session) (now (page .exit)) (now (memory .exit)) (now (output .exit)) ≡ pastRefusals typed (lentAll rec (now (page .entry)) (now (memory .entry)) (now (input .entry)) (now (output .entry)) call) ⌝ }
+{
+    let mut line = [0u8; LIMIT];
+    let mut reply = [0u8; LIMIT];
+    let mut replies = [0u32; LIMIT];
+    let mut values = [0u16; ROOM];
+    let mut ops = [0u32; ROOM];
+    if typed {
+        return typing::typed_line(
+            rec,
+            page,
+            memory,
+            input,
+            output,
+            call,
+            &mut line,
+            &mut reply,
+            &mut replies,
+            &mut values,
+            &mut ops,
+        );
+    }
+    paused_run(
+        rec,
+        page,
+        memory,
+        input,
+        output,
+        call,
+        &mut reply,
+        &mut replies,
+        &mut values,
+        &mut ops,
+    )
+}
+
 // Take one typed line: all that is left is the definition's `takeLine` of all that was lent.
 pub fn take_line(
     rec: Session,
@@ -118,24 +167,7 @@ pub fn take_line(
     if first != 0 {
         return ending::stopped(first, rec, call.inpos, call.outpos);
     }
-    let mut line = [0u8; LIMIT];
-    let mut reply = [0u8; LIMIT];
-    let mut replies = [0u32; LIMIT];
-    let mut values = [0u16; ROOM];
-    let mut ops = [0u32; ROOM];
-    typing::typed_line(
-        rec,
-        page,
-        memory,
-        input,
-        output,
-        call,
-        &mut line,
-        &mut reply,
-        &mut replies,
-        &mut values,
-        &mut ops,
-    )
+    accepted_call(true, rec, page, memory, input, output, call)
 }
 
 // Continue a paused run: all that is left is the definition's `continueRun` of all that was lent.
@@ -149,24 +181,9 @@ pub fn continue_run(
 ) -> Ended
     ensures { λ r. ⌜ leftAll (r .answer) (r .session) (now (page .exit)) (now (memory .exit)) (now (output .exit)) ≡ continueRun (lentAll rec (now (page .entry)) (now (memory .entry)) (now (input .entry)) (now (output .entry)) call) ⌝ }
 {
-    let refusal = first_refusal(rec, page, memory, input, output, call, LIMIT);
-    if refusal != 0 {
-        return ending::stopped(refusal, rec, call.inpos, call.outpos);
+    let first = first_refusal(rec, page, memory, input, output, call, LIMIT);
+    if first != 0 {
+        return ending::stopped(first, rec, call.inpos, call.outpos);
     }
-    let mut reply = [0u8; LIMIT];
-    let mut replies = [0u32; LIMIT];
-    let mut values = [0u16; ROOM];
-    let mut ops = [0u32; ROOM];
-    paused_run(
-        rec,
-        page,
-        memory,
-        input,
-        output,
-        call,
-        &mut reply,
-        &mut replies,
-        &mut values,
-        &mut ops,
-    )
+    accepted_call(false, rec, page, memory, input, output, call)
 }

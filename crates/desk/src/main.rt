@@ -6,13 +6,8 @@ use nibl::Answer;
 use nibl::CR;
 use nibl::Call;
 use nibl::END_MARK;
-use nibl::ForEntry;
-use nibl::ForStack;
 use nibl::LF;
 use nibl::NO_LINE;
-use nibl::NOWHERE;
-use nibl::Place;
-use nibl::PlaceStack;
 use nibl::Session;
 
 const PAGE: usize = 4096;
@@ -34,41 +29,6 @@ struct Desk {
 
 fn say(s: &[u8]) {
     io::write_all(1, s);
-}
-
-fn no_places() -> PlaceStack {
-    PlaceStack {
-        depth: 0,
-        places: [Place::at(0); 8],
-    }
-}
-
-fn no_fors() -> ForStack {
-    let none = ForEntry {
-        var: 0,
-        limit: 0,
-        step: 0,
-        place: Place::at(0),
-    };
-    ForStack {
-        depth: 0,
-        entries: [none; 4],
-    }
-}
-
-// The record before the first line: all zeros, and nothing paused.
-fn fresh() -> Session {
-    let gosubs = no_places();
-    let dos = no_places();
-    let fors = no_fors();
-    Session {
-        vars: [0u16; 26],
-        flags: 0,
-        gosubs: gosubs,
-        dos: dos,
-        fors: fors,
-        paused: NOWHERE,
-    }
 }
 
 fn empty_page() -> [u8; PAGE] {
@@ -190,7 +150,7 @@ fn row(
 // The counts so far, and a fresh record.
 fn anew(desk: Desk) -> Desk {
     Desk {
-        session: fresh(),
+        session: Session::fresh(),
         rows: desk.rows,
         good: desk.good,
     }
@@ -343,7 +303,7 @@ fn shown(desk: Desk) -> Desk {
 
 fn main() {
     let none = Desk {
-        session: fresh(),
+        session: Session::fresh(),
         rows: 0,
         good: 0,
     };

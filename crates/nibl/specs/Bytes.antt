@@ -19,6 +19,11 @@ abbrev pub bytes : String → List ℕ
 bytes nil = []
 bytes (c ⊲ s) = code c ∷ bytes s
 
+-- the byte of one character
+abbrev pub byte : String → ℕ
+byte nil = 0
+byte (c ⊲ s) = code c
+
 abbrev pub same : List ℕ → List ℕ → Bool
 same [] [] = true
 same [] (y ∷ ys) = false

@@ -78,16 +78,14 @@ stackless s = record { vars = s .vars; flags = s .flags; gosubs = emptied (s .go
 abbrev pub cleared : Session → Session
 cleared s = withVars (stackless s) (replicate 26 0)
 
+abbrev pub freshPlaces : PlaceStack
+freshPlaces = record { depth = 0; places = replicate 8 noPlace }
+
+abbrev pub freshFors : ForStack
+freshFors = record { depth = 0; entries = replicate 4 noEntry }
+
 abbrev pub fresh : Session
-fresh =
-    record {
-      vars = replicate 26 0;
-      flags = 0;
-      gosubs = record { depth = 0; places = replicate 8 noPlace };
-      dos = record { depth = 0; places = replicate 8 noPlace };
-      fors = record { depth = 0; entries = replicate 4 noEntry };
-      paused = nowhere;
-    }
+fresh = record { vars = replicate 26 0; flags = 0; gosubs = freshPlaces; dos = freshPlaces; fors = freshFors; paused = nowhere }
 
 -- A record taken apart for a run: all but its variables and its pause, with a call's two positions; and put together again
 abbrev pub partsOf : Session → ℕ → ℕ → Parts

@@ -6,7 +6,7 @@ use mathlib.Core.Bool.{Bool, true, false, _&&_, _||_}
 use mathlib.Core.List.{List, [], _∷_, _++_}
 use mathlib.Core.Option.{Option, none, some}
 use lib.Dec.{eqb}
-use Rattle.nibl.specs.Bytes.{if_then_else_, bytes, same, isDigit, isCapital, isHexDigit, isQuotable, All, starts, decimalValue, hexValue}
+use Rattle.nibl.specs.Bytes.{if_then_else_, byte, bytes, same, isDigit, isCapital, isHexDigit, isQuotable, All, starts, decimalValue, hexValue}
 
 pub data Token : Type 0 where
   variable : ℕ → Token  -- 0 for A to 25 for Z
@@ -36,9 +36,9 @@ indexIn = indexFrom 128
 -- a pair's number: "the pairs <= >= <> are one word"
 abbrev pub pairs : ℕ → ℕ → Option ℕ
 pairs a b =
-    if eqb a 60 && eqb b 61 then some 1
-    else if eqb a 62 && eqb b 61 then some 2
-    else if eqb a 60 && eqb b 62 then some 3
+    if eqb a (byte "<") && eqb b (byte "=") then some 1
+    else if eqb a (byte ">") && eqb b (byte "=") then some 2
+    else if eqb a (byte "<") && eqb b (byte ">") then some 3
     else none
 
 abbrev pub there : Option ℕ → Bool
@@ -49,9 +49,11 @@ abbrev pub pairsWith : ℕ → List ℕ → Bool
 pairsWith a [] = false
 pairsWith a (b ∷ s) = there (pairs a b)
 
--- ( ) * + , - / : ; < = > $ @ , whose number is the byte
+-- a symbol's number is its byte
 abbrev pub isSymbol : ℕ → Bool
-isSymbol b = eqb b 36 || eqb b 40 || eqb b 41 || eqb b 42 || eqb b 43 || eqb b 44 || eqb b 45 || eqb b 47 || eqb b 58 || eqb b 59 || eqb b 60 || eqb b 61 || eqb b 62 || eqb b 64
+isSymbol b =
+    eqb b (byte "$") || eqb b (byte "(") || eqb b (byte ")") || eqb b (byte "*") || eqb b (byte "+") || eqb b (byte ",") || eqb b (byte "-")
+    || eqb b (byte "/") || eqb b (byte ":") || eqb b (byte ";") || eqb b (byte "<") || eqb b (byte "=") || eqb b (byte ">") || eqb b (byte "@")
 
 -- the run ds of bytes that pass stands before s, and is the longest
 pub record Run (p : ℕ → Bool) (ds s : List ℕ) : Type 0 where
@@ -61,12 +63,12 @@ pub record Run (p : ℕ → Bool) (ds s : List ℕ) : Type 0 where
 
 -- `Word table s w s'`: past any spaces the text s begins with the word w, and s' follows it
 pub data Word (table : List (List ℕ)) : List ℕ → Token → List ℕ → Type 0 where
-  spaced : {w : Token} {s s' : List ℕ} → Word table s w s' → Word table (32 ∷ s) w s'
-  letter : {c : ℕ} {s : List ℕ} → Run isCapital (c ∷ []) s → Word table (c ∷ s) (variable (c - 65)) s
+  spaced : {w : Token} {s s' : List ℕ} → Word table s w s' → Word table (byte " " ∷ s) w s'
+  letter : {c : ℕ} {s : List ℕ} → Run isCapital (c ∷ []) s → Word table (c ∷ s) (variable (c - byte "A")) s
   letters : {c d k : ℕ} {cs s : List ℕ} → Run isCapital (c ∷ d ∷ cs) s → indexIn table (c ∷ d ∷ cs) ≡ some k
       → Word table (c ∷ d ∷ cs ++ s) (sign k) s
   decimalDigits : {ds s : List ℕ} → Run isDigit ds s → decimalValue 0 ds ≤ 32767 → Word table (ds ++ s) (decimal (decimalValue 0 ds)) s
-  hexDigits : {ds s : List ℕ} → Run isHexDigit ds s → Word table (35 ∷ ds ++ s) (hex (hexValue 0 ds % 65536)) s
+  hexDigits : {ds s : List ℕ} → Run isHexDigit ds s → Word table (byte "#" ∷ ds ++ s) (hex (hexValue 0 ds % 65536)) s
   quoted : {bs s : List ℕ} → All isQuotable bs → Word table (34 ∷ bs ++ 34 ∷ s) (string bs) s
   pair : {a b k : ℕ} {s : List ℕ} → pairs a b ≡ some k → Word table (a ∷ b ∷ s) (sign k) s
   symbol : {b : ℕ} {s : List ℕ} → isSymbol b ≡ true → pairsWith b s ≡ false → Word table (b ∷ s) (sign b) s

@@ -4,7 +4,7 @@ ghost use Prim.Native.Nat.{_-_, _≤_};
 ghost use mathlib.Core.Path.{_≡_};
 ghost use lib.Dec.{eqb};
 ghost use Rattle.nibl.specs.Stack.{onTop, pushOf, topOf, popOf, pushFor, topFor, popFor};
-ghost use Rattle.nibl.specs.Record.{place, mark, positionOf, nowhere, pausedAt, pauseNumber, unpaused, stackless, cleared, partsOf, sessionOf, withFlags};
+ghost use Rattle.nibl.specs.Record.{place, mark, positionOf, nowhere, pausedAt, pauseNumber, freshPlaces, freshFors, fresh, unpaused, stackless, cleared, partsOf, sessionOf, withFlags};
 
 // Bytes that the rules name: what ends a typed line, a record's text and a string; what follows it in the output; what stands
 // between two statements; and the end mark, which is two of these.
@@ -316,7 +316,52 @@ pub struct Parts {
     pub outpos: usize,
 }
 
+impl PlaceStack {
+    pub fn fresh() -> PlaceStack
+        ensures { λ r. ⌜ r ≡ freshPlaces ⌝ }
+    {
+        PlaceStack {
+            depth: 0,
+            places: [Place(0); 8],
+        }
+    }
+}
+
+impl ForStack {
+    pub fn fresh() -> ForStack
+        ensures { λ r. ⌜ r ≡ freshFors ⌝ }
+    {
+        let none = ForEntry {
+            var: 0,
+            limit: 0,
+            step: 0,
+            place: Place(0),
+        };
+        ForStack {
+            depth: 0,
+            entries: [none; 4],
+        }
+    }
+}
+
 impl Session {
+    // The record before the first line: all zeros, and nothing paused.
+    pub fn fresh() -> Session
+        ensures { λ r. ⌜ r ≡ fresh ⌝ }
+    {
+        let gosubs = PlaceStack::fresh();
+        let dos = PlaceStack::fresh();
+        let fors = ForStack::fresh();
+        Session {
+            vars: [0u16; 26],
+            flags: 0,
+            gosubs: gosubs,
+            dos: dos,
+            fors: fors,
+            paused: NOWHERE,
+        }
+    }
+
     // A call past its first refusals ends any pause.
     pub fn unpaused(self) -> Session
         ensures { λ r. ⌜ r ≡ unpaused self ⌝ }

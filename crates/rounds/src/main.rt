@@ -189,38 +189,6 @@ fn check(page: &[u8]) -> u16 {
     }
 }
 
-fn no_places() -> PlaceStack {
-    let none = Place::at(0);
-    PlaceStack {
-        depth: 0,
-        places: [none; 8],
-    }
-}
-
-fn no_fors() -> ForStack {
-    let none = ForEntry {
-        var: 0,
-        limit: 0,
-        step: 0,
-        place: Place::at(0),
-    };
-    ForStack {
-        depth: 0,
-        entries: [none; 4],
-    }
-}
-
-fn fresh() -> Session {
-    Session {
-        vars: [0u16; 26],
-        flags: 0,
-        gosubs: no_places(),
-        dos: no_places(),
-        fors: no_fors(),
-        paused: 0,
-    }
-}
-
 // A run from the program's start, lent no more than the page: its steps, and variable A.
 fn steps(page: &[u8], session: Session) -> u16 {
     if 4096 < page.len() {
@@ -336,8 +304,8 @@ fn round(work: u16, bytes: &mut [u8], ops: &mut [u32]) -> u16
         2..=4 => edits(bytes),
         5..=7 => finds(bytes),
         8 => check(bytes),
-        9 => steps(bytes, fresh()),
-        10 => typed(bytes, fresh()),
+        9 => steps(bytes, Session::fresh()),
+        10 => typed(bytes, Session::fresh()),
         11 => typed(bytes, full()),
         _ => 0,
     }

@@ -5,12 +5,7 @@ use ending::Ended;
 use nibl::Answer;
 use nibl::Call;
 use nibl::END_MARK;
-use nibl::ForEntry;
-use nibl::ForStack;
 use nibl::NO_LINE;
-use nibl::NOWHERE;
-use nibl::Place;
-use nibl::PlaceStack;
 use nibl::Session;
 
 // What the session lends: standard input's first bytes, a page, a memory, and for each typed line an output and a budget.
@@ -29,41 +24,6 @@ const NO_CR: u8 = 7;
 
 fn say(s: &[u8]) {
     io::write_all(1, s);
-}
-
-fn no_places() -> PlaceStack {
-    PlaceStack {
-        depth: 0,
-        places: [Place::at(0); 8],
-    }
-}
-
-fn no_fors() -> ForStack {
-    let none = ForEntry {
-        var: 0,
-        limit: 0,
-        step: 0,
-        place: Place::at(0),
-    };
-    ForStack {
-        depth: 0,
-        entries: [none; 4],
-    }
-}
-
-// The record before the first line: all zeros, and nothing paused.
-fn fresh() -> Session {
-    let gosubs = no_places();
-    let dos = no_places();
-    let fors = no_fors();
-    Session {
-        vars: [0u16; 26],
-        flags: 0,
-        gosubs: gosubs,
-        dos: dos,
-        fors: fors,
-        paused: NOWHERE,
-    }
 }
 
 // The first bytes of the output: those that a call wrote. The test is for the proof alone: no call answers a position past
@@ -127,7 +87,7 @@ fn next_line(
 // Line after line, until no CR is left. A typed line takes its CR at least, so there are no more lines than bytes: the count of
 // lines that may still come, by which the loop is seen to end, never ends it before the input does.
 fn lines(page: &mut [u8], memory: &mut [u8], input: &[u8]) {
-    let mut rec = fresh();
+    let mut rec = Session::fresh();
     let mut inpos: usize = 0;
     let mut left = input.len();
     while 0 < left {
