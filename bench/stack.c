@@ -1,0 +1,140 @@
+/*
+ * How much stack a call takes, on the compiled library: each call runs on a stack of its own that was painted, and the
+ * deepest byte that changed is looked for. Bytes are counted from the caller's frame on.
+ */
+#include <stdio.h>
+#include <string.h>
+#include <ucontext.h>
+
+#include "nibl.h"
+
+enum { PAINT = 0xA5, STACK = 1 << 20 };
+
+static uint8_t page[NIBL_PAGE_MOST], memory[NIBL_MEMORY_MOST], output[NIBL_OUTPUT_MOST];
+static nibl_record record;
+static nibl_answer answer;
+
+static _Alignas(64) uint8_t stack[STACK];
+static ucontext_t here, there;
+static const uint8_t *frame;
+
+/* What the next call is lent: makecontext hands no pointers over. */
+static const char *input;
+static size_t budget;
+static int continues;
+
+static void call(void) {
+    nibl_call numbers = {.inpos = 0, .outpos = 0, .sense = 0, .budget = budget};
+    frame = __builtin_frame_address(0);
+    (continues ? nibl_continue_run : nibl_take_line)(&record, page, sizeof page, memory, sizeof memory,
+                                                     (const uint8_t *)input, strlen(input), output, sizeof output,
+                                                     &numbers, &answer);
+}
+
+static size_t depth(void) {
+    size_t at = 0;
+    memset(stack, PAINT, sizeof stack);
+    getcontext(&there);
+    there.uc_stack.ss_sp = stack;
+    there.uc_stack.ss_size = sizeof stack;
+    there.uc_link = &here;
+    makecontext(&there, call, 0);
+    swapcontext(&here, &there);
+    while (stack[at] == PAINT)
+        at++;
+    return (size_t)(frame - (stack + at));
+}
+
+static size_t typed(const char *text, size_t steps) {
+    input = text;
+    budget = steps;
+    continues = 0;
+    return depth();
+}
+
+static size_t continued(const char *replies) {
+    input = replies;
+    budget = NIBL_BUDGET_MOST;
+    continues = 1;
+    return depth();
+}
+
+static void start(void) {
+    memset(&record, 0, sizeof record);
+    memset(page, 0, sizeof page);
+    page[0] = page[1] = NIBL_END_MARK;
+}
+
+static void store(const char *line) {
+    typed(line, 0);
+}
+
+/* Lines from 1000 on, until no more fit. */
+static void fill(void) {
+    char line[NIBL_LINE_MOST + 2];
+    int number = 1000;
+    do {
+        snprintf(line, sizeof line, "%d A=A+1:PRINT A,B,\"X\",C\r", number++);
+        store(line);
+    } while (answer.stop == NIBL_DONE);
+}
+
+static void show(const char *what, size_t bytes) {
+    printf("%7zu  %s (stop %d)\n", bytes, what, answer.stop);
+}
+
+/* A line that says one thing so many times over: its first part, what is repeated, and its last parts, which are
+ * written once, or as often again for what closes it. */
+static size_t repeated(const char *first, const char *again, const char *middle, const char *close, int times) {
+    char line[200] = "";
+    strcat(line, first);
+    for (int n = 0; n < times; n++)
+        strcat(line, again);
+    strcat(line, middle);
+    for (int n = 0; n < times; n++)
+        strcat(line, close);
+    strcat(line, "\r");
+    return typed(line, NIBL_BUDGET_MOST);
+}
+
+static void each(const char *what, const char *first, const char *again, const char *middle, const char *close) {
+    printf("%7zu  %s\n", (repeated(first, again, middle, close, 12) - repeated(first, again, middle, close, 8)) / 4, what);
+}
+
+int main(void) {
+    start();
+    show("a line stored on an empty page", typed("10 A=1\r", 0));
+    fill();
+    show("a line stored on a full page", typed("1000 A=A+2:PRINT A,B,\"X\",C\r", 0));
+    show("LIST of a full page", typed("LIST\r", 0));
+    start();
+    store("10 FOR I=1 TO 3:GOSUB 100:NEXT I:INPUT A,B:PRINT A,B,\"X\",C:END\r");
+    store("100 DO:A=A+1:UNTIL A>3:RETURN\r");
+    show("a run with FOR, GOSUB, DO, INPUT and a PRINT of four items", typed("RUN\r1,2\r", NIBL_BUDGET_MOST));
+    typed("RUN\r", 4);
+    show("the same, paused and continued", continued("1,2\r"));
+    start();
+    store("10 FOR I=1 TO 9:FOR J=1 TO 9:FOR K=1 TO 9:FOR L=1 TO 9\r");
+    store("20 DO:DO:DO:DO:DO:DO:DO:DO\r");
+    store("30 GOSUB 30\r");
+    fill();
+    typed("RUN\r", NIBL_BUDGET_MOST);
+    show("a line typed on a full page, all stacks full", typed("A=1\r", NIBL_BUDGET_MOST));
+    puts("each more of these in a line:");
+    start();
+    each("item of PRINT", "PR A", ",A", "", "");
+    each("+", "A=A", "+A", "", "");
+    each("*", "A=A", "*A", "", "");
+    each("variable of INPUT", "INPUT A", ",A", "", "");
+    each("IF behind an IF", "", "IF A ", "A=1", "");
+    each("open bracket", "A=", "(", "1", ")");
+    each("@", "A=", "@", "1", "");
+    puts("the worst lines:");
+    show("34 brackets", repeated("A=", "(", "1", ")", 34));
+    store("10 INPUT A\r");
+    show("a reply of 35 brackets",
+         typed("RUN\r(((((((((((((((((((((((((((((((((((1)))))))))))))))))))))))))))))))))))\r", NIBL_BUDGET_MOST));
+    show("a reply of 72 open brackets",
+         typed("RUN\r((((((((((((((((((((((((((((((((((((((((((((((((((((((((((((((((((((((((\r", NIBL_BUDGET_MOST));
+    return 0;
+}
