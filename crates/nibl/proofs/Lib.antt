@@ -15,3 +15,4 @@ pub mod Next
 pub mod Quotients
 pub mod Whole
 pub mod Names
+pub mod Derived
