@@ -31,7 +31,7 @@ pub taken : (table : List (List ℕ)) {s t s' t' : List ℕ} {w v : Token} → s
 taken table h p q = let o = word-one table h p q in let e = o .0 in let f = o .1 in (cc, f)
 
 -- words that differ do not stand at one place
-abbrev kind : Token → ℕ
+abbrev pub kind : Token → ℕ
 kind (variable v) = 0
 kind (decimal n) = 1
 kind (hex n) = 2
@@ -73,7 +73,7 @@ size (two o a b) = suc (size a + size b)
 found-size : {r r' : Found Expr} {a b : Expr} {s t : List ℕ} → r ≡ r' → r ≡ found a s → r' ≡ found b t → size a ≡ size b
 found-size {a} {b} h e f = let i : a ≡ b = cc in ap size i
 
-factor-ends : {s t s' t' : List ℕ} {a b : Expr} → s ≡ t → Factor W s a s' → Factor W t b t' → (a ≡ b) × (s' ≡ t')
+pub factor-ends : {s t s' t' : List ℕ} {a b : Expr} → s ≡ t → Factor W s a s' → Factor W t b t' → (a ≡ b) × (s' ≡ t')
 factor-ends h f g = let e = factor-complete f in let i = factor-complete g in (cc, cc)
 
 record FirstFactor (s : List ℕ) (a : Expr) : Type 0 where

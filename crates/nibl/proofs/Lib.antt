@@ -16,3 +16,4 @@ pub mod Quotients
 pub mod Whole
 pub mod Names
 pub mod Derived
+pub mod Once
