@@ -4,15 +4,15 @@ use Prim.Native.Nat.{ℕ, suc, _+_, _≤_}
 use Prim.Native.String.{String}
 use mathlib.Core.Path.{_≡_, refl, sym, ap, _∙_}
 use mathlib.Core.Bool.{Bool, true, false, true≢false}
-use mathlib.Core.List.{List, [], _∷_}
+use mathlib.Core.List.{List}
 use native.Mathlib.Omega.{arith}
 use borrow.Author.Tests.{eq-eqb}
 use lib.Dec.{eqb}
 use Rattle.nibl.specs.Words.{Token, variable, decimal, hex, string, sign, keywords, number, Word}
 use Rattle.nibl.specs.Grammar.{Joints, factorJoints, termJoints, sumJoints, Key, May, noWord, aWord, Joint, joint, Factor, Term, Sum, Relation, aVariable, aConstant, aHex, aStat, aTop, inBrackets, aByte, aNot, aMod, aFactor, factors, aTerm, lessTerm, terms, aSum, related}
 use Rattle.nibl.specs.Tree.{Op, Expr, var, const, stat, top, byteAt, invert, negate, modulo, two}
-use Rattle.nibl.specs.Derivation.{Mark, by, took, ofMay, ofJoint, ofFactor, ofTerm, ofSum, ofRelation}
-use Rattle.nibl.specs.Read.{Found, found, read, factor as factorPart, term as termPart, sum as sumPart}
+use Rattle.nibl.specs.Derivation.{Mark, took, ofMay, ofJoint, ofFactor, ofTerm, ofSum, ofRelation}
+use Rattle.nibl.specs.Read.{Found, found, read, term as termPart, sum as sumPart}
 use Rattle.nibl.proofs.Words.{word-complete}
 use Rattle.nibl.proofs.Rules.{W}
 use Rattle.nibl.proofs.Next.{nextIs, next-at, _or_, not-left, not-right, isKey, joins, joint-other}
@@ -187,7 +187,7 @@ mutual
       let v = relation-one (u .1) q q' (next-at goesOn j) (next-at goesOn j') in
       cc (x .0, y .0, z .0, u .0, v .0, taken keywords (v .1) j j' .0)
 
-  pub term-one : {s t s' t' : List ℕ} {a : Expr} → s ≡ t → (x : Term W s a s') (y : Term W t a t') → Both (ofTerm W x) (ofTerm W y) s' t'
+  term-one : {s t s' t' : List ℕ} {a : Expr} → s ≡ t → (x : Term W s a s') (y : Term W t a t') → Both (ofTerm W x) (ofTerm W y) s' t'
   term-one h (aFactor f) (aFactor g) = (cc (factor-one h f g), factor-ends h f g .1)
   term-one h (aFactor f) (factors y i g) = no-factor h f y
   term-one h (factors x j f) (aFactor g) = no-factor (sym h) g x
@@ -196,7 +196,7 @@ mutual
       let q = joint-one (p .1) j i in
       (cc (p .0, q .0, factor-one (q .1) f g), factor-ends (q .1) f g .1)
 
-  pub sum-one : {s t s' t' : List ℕ} {a : Expr} → s ≡ t → (x : Sum W s a s') (y : Sum W t a t') → nextIs (joins factorJoints) s' ≡ false
+  sum-one : {s t s' t' : List ℕ} {a : Expr} → s ≡ t → (x : Sum W s a s') (y : Sum W t a t') → nextIs (joins factorJoints) s' ≡ false
       → nextIs (joins factorJoints) t' ≡ false → Both (ofSum W x) (ofSum W y) s' t'
   sum-one h (aTerm m x) (aTerm n y) f g =
       let p = plus-one h m n (term-first x) (term-first y) in

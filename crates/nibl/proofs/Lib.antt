@@ -17,3 +17,4 @@ pub mod Whole
 pub mod Names
 pub mod Derived
 pub mod Once
+pub mod InOrder

@@ -3,24 +3,23 @@
 use Prim.Native.Nat.{ℕ}
 use Prim.Native.String.{String}
 use mathlib.Core.Path.{_≡_, refl, sym, ap, _∙_, pathJ}
-use mathlib.Core.Bool.{Bool, true, false}
-use mathlib.Core.List.{List, [], _∷_}
+use mathlib.Core.Bool.{Bool, false}
+use mathlib.Core.List.{List, []}
 use native.Mathlib.Omega.{arith}
 use lib.Dec.{eqb}
-use Rattle.nibl.specs.Words.{Token, sign, keywords, commands, number, Word}
-use Rattle.nibl.specs.Bytes.{isSpace, All}
+use Rattle.nibl.specs.Words.{Token, sign, keywords, commands, number}
 use Rattle.nibl.specs.Grammar.{May, noWord, aWord, Either, whole, parted, PrintWord, shortPrint, longPrint, AnItem, aString, aStored, aValue, Items, oneItem, moreItems, LastSemicolon, noSemicolon, aSemicolon, AStep, noStep, someStep, Variables, oneVariable, moreVariables}
 use Rattle.nibl.specs.Grammar.{Statement, aLetVar, aLetStat, aLetByte, aLetText, aLetCopy, aGoto, aGosub, aReturn, aPrint, anIf, aDo, anUntil, aFor, aNext, anInput, anInputText, aRemark, anEnd}
 use Rattle.nibl.specs.Grammar.{Members, lastMember, moreMembers, Reply, lastReply, enough, moreReply, Line, aBlank, aDelete, aStore, aNew, aClear, aRun, aList, aListFrom, anImmediate}
 use Rattle.nibl.specs.Readings.{ListReading, ReplyReading, LineReading}
 use Rattle.nibl.specs.Tree.{Expr, Item, Stmt, Member, Typed}
-use Rattle.nibl.specs.Derivation.{Mark, wordsIn, took, ofMay, ofFactor, ofRelation, ofEither, ofPrintWord, ofItem, ofItems, ofSemicolon, ofStep, ofVariables, ofStatement, ofMembers, ofReply, ofLine}
+use Rattle.nibl.specs.Derivation.{wordsIn, took, ofMay, ofEither, ofPrintWord, ofItem, ofItems, ofSemicolon, ofStep, ofVariables, ofStatement, ofMembers, ofReply, ofLine}
 use Rattle.nibl.proofs.Rules.{W}
 use Rattle.nibl.proofs.Lines.{C}
 use Rattle.nibl.proofs.Next.{nextIs, next-at, next-spaces, _or_, not-left, not-right, isKey, isDecimal}
-use Rattle.nibl.proofs.Complete.{goesOn, factor-complete}
+use Rattle.nibl.proofs.Complete.{goesOn}
 use Rattle.nibl.proofs.Whole.{listed, continues, statement-word, statement-complete}
-use Rattle.nibl.proofs.Exact.{line-unique, members-unique, reply-unique}
+use Rattle.nibl.proofs.Exact.{line-unique, reply-unique}
 use Rattle.nibl.proofs.Derived.{Both, taken, kind, unlike, key-next, not-here, may-one, factor-ends, factor-one, relation-one}
 
 -- what does not go on a statement goes on none of its parts
@@ -211,7 +210,6 @@ members-one h (moreMembers p k ms) (moreMembers q j ns) =
     cc (x .0, y .0, members-one (y .1) ms ns)
 
 -- Replies
--- where a relation of a reply ends the reply does not go on, and the other way round
 reply-one : {n : ℕ} {s t : List ℕ} {es : List Expr} → s ≡ t → (d : Reply W n s es) (e : Reply W n t es) → ofReply W d ≡ ofReply W e
 reply-one h (lastReply r a) (lastReply q b) = cc (relation-one h r q (next-spaces goesOn a) (next-spaces goesOn b) .0)
 reply-one h (lastReply r a) (enough q k) =

@@ -5,6 +5,7 @@ use Prim.Native.String.{String}
 use mathlib.Core.Bool.{Bool}
 use mathlib.Core.List.{List, [], _∷_, _++_}
 use lib.ListN.{length}
+use Rattle.nibl.specs.Bytes.{isSpace, isText, All}
 use Rattle.nibl.specs.Words.{Token}
 use Rattle.nibl.specs.Grammar.{Joints, May, noWord, aWord, Joint, joint, Factor, aVariable, aConstant, aHex, aStat, aTop, inBrackets, aByte, aNot, aMod, Term, aFactor, factors, Sum, aTerm, lessTerm, terms, Relation, aSum, related}
 use Rattle.nibl.specs.Grammar.{Either, whole, parted, PrintWord, shortPrint, longPrint, AnItem, aString, aStored, aValue, Items, oneItem, moreItems, LastSemicolon, noSemicolon, aSemicolon, AStep, noStep, someStep, Variables, oneVariable, moreVariables}
@@ -15,6 +16,22 @@ use Rattle.nibl.specs.Tree.{Op, Expr, Item, Stmt, Member, Typed}
 pub data Mark : Type 0 where
   by : String → Mark  -- a production, by its name in the grammar
   takes : ℕ → Token → ℕ → Mark  -- a word; how many bytes of the text stand from its place on, spaces before it too, and how many behind it
+
+-- `Along R s ms s'`: the words of the marks stand in the text s one after the other, by the rule of words R, and s' follows them
+pub data Along (R : List ℕ → Token → List ℕ → Type 0) : List ℕ → List Mark → List ℕ → Type 0 where
+  ended : {s : List ℕ} → Along R s [] s
+  production : {name : String} {ms : List Mark} {s s' : List ℕ} → Along R s ms s' → Along R s (by name ∷ ms) s'
+  word : {w : Token} {ms : List Mark} {s t s' : List ℕ} → R s w t → Along R t ms s' → Along R s (takes (length s) w (length t) ∷ ms) s'
+
+-- they are all words of the text, up to spaces or to what follows REM
+pub data AllAlong (R : List ℕ → Token → List ℕ → Type 0) (s : List ℕ) (ms : List Mark) : Type 0 where
+  toSpaces : {t : List ℕ} → Along R s ms t → All isSpace t → AllAlong R s ms
+  toRemark : {t : List ℕ} → Along R s ms t → All isText t → AllAlong R s ms
+
+-- a word of either rule
+pub data OneOf (W C : List ℕ → Token → List ℕ → Type 0) (s : List ℕ) (w : Token) (s' : List ℕ) : Type 0 where
+  first : W s w s' → OneOf W C s w s'
+  second : C s w s' → OneOf W C s w s'
 
 -- the words alone
 abbrev pub wordsIn : List Mark → List (ℕ × Token × ℕ)
