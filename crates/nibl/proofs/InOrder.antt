@@ -3,9 +3,10 @@
 use Prim.Native.Nat.{ℕ}
 use Prim.Native.String.{String}
 use mathlib.Core.Bool.{Bool}
-use mathlib.Core.List.{List, [], _++_}
+use mathlib.Core.List.{List, [], _∷_, _++_}
 use native.Mathlib.Omega.{arith}
-use Rattle.nibl.specs.Bytes.{isSpace, isText, All}
+use lib.ListN.{length}
+use Rattle.nibl.specs.Bytes.{isSpace, All}
 use Rattle.nibl.specs.Words.{Token}
 use Rattle.nibl.specs.Grammar.{Joints, May, noWord, aWord, Joint, joint, Factor, aVariable, aConstant, aHex, aStat, aTop, inBrackets, aByte, aNot, aMod, Term, aFactor, factors, Sum, aTerm, lessTerm, terms, Relation, aSum, related}
 use Rattle.nibl.specs.Grammar.{Either, whole, parted, PrintWord, shortPrint, longPrint, AnItem, aString, aStored, aValue, Items, oneItem, moreItems, LastSemicolon, noSemicolon, aSemicolon, AStep, noStep, someStep, Variables, oneVariable, moreVariables}
@@ -13,7 +14,7 @@ use Rattle.nibl.specs.Grammar.{Statement, aLetVar, aLetStat, aLetByte, a
 use Rattle.nibl.specs.Grammar.{Members, lastMember, moreMembers, Reply, lastReply, enough, moreReply, Line, aBlank, aDelete, aStore, aNew, aClear, aRun, aList, aListFrom, anImmediate}
 use Rattle.nibl.specs.Readings.{ListReading, ReplyReading, LineReading}
 use Rattle.nibl.specs.Tree.{Op, Expr, Item, Stmt, Member, Typed}
-use Rattle.nibl.specs.Derivation.{Mark, Along, ended, production, word, AllAlong, toSpaces, toRemark, OneOf, first, second, took, ofMay, ofJoint, ofFactor, ofTerm, ofSum, ofRelation, ofEither, ofPrintWord, ofItem, ofItems, ofSemicolon, ofStep, ofVariables, ofStatement, ofMembers, ofReply, ofLine}
+use Rattle.nibl.specs.Derivation.{Mark, by, takes, AllAlong, toSpaces, toEnd, afterProduction, afterWord, ToRemark, ToComma, OneOf, first, second, took, ofMay, ofJoint, ofFactor, ofTerm, ofSum, ofRelation, ofEither, ofPrintWord, ofItem, ofItems, ofSemicolon, ofStep, ofVariables, ofStatement, ofMembers, ofReply, ofLine}
 use Rattle.nibl.proofs.Over.{word-short}
 use Rattle.nibl.proofs.Rules.{W as Keywords}
 use Rattle.nibl.proofs.Lines.{C as Commands}
@@ -21,12 +22,30 @@ use Rattle.nibl.proofs.Lines.{C as Commands}
 abbrev Rule : Type 1
 Rule = List ℕ → Token → List ℕ → Type 0
 
+-- `Along R s ms s'`: the words of the marks stand in s one after the other, and s' follows them
+data Along (R : Rule) : List ℕ → List Mark → List ℕ → Type 0 where
+  ended : {s : List ℕ} → Along R s [] s
+  production : {name : String} {ms : List Mark} {s s' : List ℕ} → Along R s ms s' → Along R s (by name ∷ ms) s'
+  word : {w : Token} {ms : List Mark} {s t s' : List ℕ} → R s w t → Along R t ms s' → Along R s (takes (length s) w (length t) ∷ ms) s'
+
 module _ {R : Rule} where
   infixl 20 _⟫_
   _⟫_ : {s t u : List ℕ} {ms ns : List Mark} → Along R s ms t → Along R t ns u → Along R s (ms ++ ns) u
   ended ⟫ q = q
   production p ⟫ q = production (p ⟫ q)
   word w p ⟫ q = word w (p ⟫ q)
+
+module _ {R : Rule} {end : Token} {Q : List ℕ → Type 0} where
+  infixl 20 _⟫all_
+  _⟫all_ : {s t : List ℕ} {ms ns : List Mark} → Along R s ms t → AllAlong R end Q t ns → AllAlong R end Q s (ms ++ ns)
+  ended ⟫all q = q
+  production p ⟫all q = afterProduction (p ⟫all q)
+  word w p ⟫all q = afterWord w (p ⟫all q)
+
+  to-spaces : {s t : List ℕ} {ms : List Mark} → Along R s ms t → All isSpace t → AllAlong R end Q s ms
+  to-spaces ended a = toSpaces a
+  to-spaces (production p) a = afterProduction (to-spaces p a)
+  to-spaces (word w p) a = afterWord w (to-spaces p a)
 
 -- every word of W is one of R
 module _ (W R : Rule) (into : (s t : List ℕ) (w : Token) → W s w t → R s w t) where
@@ -94,14 +113,14 @@ module _ (W R : Rule) (into : (s t : List ℕ) (w : Token) → W s w t → R s w
   variables-along (oneVariable w) = production (one w)
   variables-along (moreVariables w k vs) = production (one w ⟫ one k ⟫ variables-along vs)
 
-  -- to the statement's end, or to the text of a remark, which takes the rest
+  -- to the statement's end, or to a remark, which takes the rest
   data Ends (s : List ℕ) (ms : List Mark) : List ℕ → Type 0 where
     here : {s' : List ℕ} → Along R s ms s' → Ends s ms s'
-    remarked : {t : List ℕ} → Along R s ms t → All isText t → Ends s ms []
+    remarked : ToRemark R s ms → Ends s ms []
 
   onto : {s t s' : List ℕ} {ms ns : List Mark} → Along R s ms t → Ends t ns s' → Ends s (ms ++ ns) s'
   onto p (here q) = here (p ⟫ q)
-  onto p (remarked q a) = remarked (p ⟫ q) a
+  onto p (remarked q) = remarked (p ⟫all q)
 
   statement-along : {s s' : List ℕ} {q : Stmt} (d : Statement W s q s') → Ends s (ofStatement W d) s'
   statement-along (aLetVar m w k r) = here (production (may-along m ⟫ one w ⟫ one k ⟫ relation-along r))
@@ -120,61 +139,53 @@ module _ (W R : Rule) (into : (s t : List ℕ) (w : Token) → W s w t → R s w
   statement-along (aNext k w) = here (production (one k ⟫ one w))
   statement-along (anInput k vs) = here (production (one k ⟫ variables-along vs))
   statement-along (anInputText k d f) = here (production (one k ⟫ one d ⟫ factor-along f))
-  statement-along (aRemark k a) = remarked (production (one k)) a
+  statement-along (aRemark {s} {t} k a) = remarked (afterProduction (toEnd (into s t _ k) a))
   statement-along (anEnd k) = here (production (one k))
 
-  pub reply-along : {n : ℕ} {s : List ℕ} {es : List Expr} (d : Reply W n s es) → (t : List ℕ) × Along R s (ofReply W d) t
-  reply-along (lastReply {t} r a) = (t, production (relation-along r))
-  reply-along (enough {u} r k) = (u, production (relation-along r ⟫ one k))
-  reply-along (moreReply r k es) = let p = reply-along es in (p .0, production (relation-along r ⟫ one k ⟫ p .1))
+  pub reply-along : {n : ℕ} {s : List ℕ} {es : List Expr} (d : Reply W n s es) → ToComma R s (ofReply W d)
+  reply-along (lastReply r a) = to-spaces (production (relation-along r)) a
+  reply-along (enough {t} {u} r k) = production (relation-along r) ⟫all toEnd (into t u _ k) tt
+  reply-along (moreReply r k es) = production (relation-along r ⟫ one k) ⟫all reply-along es
 
-  -- what is left is spaces, if it is no remark's
-  at-end : {s t : List ℕ} {ms : List Mark} → Ends s ms t → All isSpace t → AllAlong R s ms
-  at-end (here p) a = toSpaces p a
-  at-end (remarked p b) a = toRemark p b
-
-  go-on : {s t : List ℕ} {ms ns : List Mark} → Along R s ms t → AllAlong R t ns → AllAlong R s (ms ++ ns)
-  go-on p (toSpaces q a) = toSpaces (p ⟫ q) a
-  go-on p (toRemark q a) = toRemark (p ⟫ q) a
+  at-end : {s t : List ℕ} {ms : List Mark} → Ends s ms t → All isSpace t → ToRemark R s ms
+  at-end (here p) a = to-spaces p a
+  at-end (remarked p) a = p
 
   -- nothing follows a remark, where the empty text begins with no word
   module _ (empty : (t : List ℕ) (w : Token) → W [] w t → ⊥) where
-    past-end : {s t u : List ℕ} {w : Token} {ms ns : List Mark} → Ends s ms t → (k : W t w u) → AllAlong R u ns → AllAlong R s (ms ++ took W k ++ ns)
-    past-end (here p) k q = go-on (p ⟫ one k) q
-    past-end {u} {w} (remarked p b) k q = absurd (empty u w k)
+    past-end : {s t u : List ℕ} {w : Token} {ms ns : List Mark} → Ends s ms t → (k : W t w u) → ToRemark R u ns → ToRemark R s (ms ++ took W k ++ ns)
+    past-end (here p) k q = p ⟫ one k ⟫all q
+    past-end {u} {w} (remarked p) k q = absurd (empty u w k)
 
-    pub members-along : {s : List ℕ} {ms : List Member} (d : Members W s ms) → AllAlong R s (ofMembers W d)
-    members-along (lastMember p a) = go-on (production ended) (at-end (statement-along p) a)
-    members-along (moreMembers p k ms) = go-on (production ended) (past-end (statement-along p) k (members-along ms))
+    pub members-along : {s : List ℕ} {ms : List Member} (d : Members W s ms) → ToRemark R s (ofMembers W d)
+    members-along (lastMember p a) = afterProduction (at-end (statement-along p) a)
+    members-along (moreMembers p k ms) = afterProduction (past-end (statement-along p) k (members-along ms))
 
 -- a typed line, with a word of either rule at its front
 module _ (W C : Rule) (empty : (t : List ℕ) (w : Token) → W [] w t → ⊥) where
   either : (s t : List ℕ) (w : Token) → W s w t → OneOf W C s w t
   either s t w k = first k
 
-  front : {s t : List ℕ} {w : Token} (c : C s w t) → Along (OneOf W C) s (took C c) t
-  front c = word (second c) ended
-
-  pub line-along : {s : List ℕ} {y : Typed} (d : Line W C s y) → AllAlong (OneOf W C) s (ofLine W C d)
-  line-along (aBlank a) = toSpaces (production ended) a
-  line-along (aDelete w a) = toSpaces (production (one W (OneOf W C) either w)) a
-  line-along (aStore w ms) = go-on W (OneOf W C) either (production (one W (OneOf W C) either w)) (members-along W (OneOf W C) either empty ms)
-  line-along (aNew c a) = toSpaces (production (front c)) a
-  line-along (aClear c a) = toSpaces (production (front c)) a
-  line-along (aRun c a) = toSpaces (production (front c)) a
-  line-along (aList c a) = toSpaces (production (front c)) a
-  line-along (aListFrom c w a) = toSpaces (production (front c ⟫ one W (OneOf W C) either w)) a
-  line-along (anImmediate q a) = go-on W (OneOf W C) either (production ended) (at-end W (OneOf W C) either (statement-along W (OneOf W C) either q) a)
+  pub line-along : {s : List ℕ} {y : Typed} (d : Line W C s y) → ToRemark (OneOf W C) s (ofLine W C d)
+  line-along (aBlank a) = afterProduction (toSpaces a)
+  line-along (aDelete w a) = afterProduction (afterWord (first w) (toSpaces a))
+  line-along (aStore w ms) = afterProduction (afterWord (first w) (members-along W (OneOf W C) either empty ms))
+  line-along (aNew c a) = afterProduction (afterWord (second c) (toSpaces a))
+  line-along (aClear c a) = afterProduction (afterWord (second c) (toSpaces a))
+  line-along (aRun c a) = afterProduction (afterWord (second c) (toSpaces a))
+  line-along (aList c a) = afterProduction (afterWord (second c) (toSpaces a))
+  line-along (aListFrom c w a) = afterProduction (afterWord (second c) (afterWord (first w) (toSpaces a)))
+  line-along (anImmediate q a) = afterProduction (at-end W (OneOf W C) either (statement-along W (OneOf W C) either q) a)
 
 -- The same, of document 01's words
 no-word : (t : List ℕ) (w : Token) → Keywords [] w t → ⊥
 no-word t w k = omega (arith, word-short k)
 
-pub line-in-order : {s : List ℕ} {y : Typed} (d : LineReading s y) → AllAlong (OneOf Keywords Commands) s (ofLine Keywords Commands d)
+pub line-in-order : {s : List ℕ} {y : Typed} (d : LineReading s y) → ToRemark (OneOf Keywords Commands) s (ofLine Keywords Commands d)
 line-in-order d = line-along Keywords Commands no-word d
 
-pub list-in-order : {s : List ℕ} {ms : List Member} (d : ListReading s ms) → AllAlong Keywords s (ofMembers Keywords d)
+pub list-in-order : {s : List ℕ} {ms : List Member} (d : ListReading s ms) → ToRemark Keywords s (ofMembers Keywords d)
 list-in-order d = members-along Keywords Keywords (λ s t w k. k) no-word d
 
-pub reply-in-order : {n : ℕ} {s : List ℕ} {es : List Expr} (d : ReplyReading n s es) → (t : List ℕ) × Along Keywords s (ofReply Keywords d) t
+pub reply-in-order : {n : ℕ} {s : List ℕ} {es : List Expr} (d : ReplyReading n s es) → ToComma Keywords s (ofReply Keywords d)
 reply-in-order d = reply-along Keywords Keywords (λ s t w k. k) d

@@ -6,7 +6,7 @@ use mathlib.Core.Bool.{Bool}
 use mathlib.Core.List.{List, [], _∷_, _++_}
 use lib.ListN.{length}
 use Rattle.nibl.specs.Bytes.{isSpace, isText, All}
-use Rattle.nibl.specs.Words.{Token}
+use Rattle.nibl.specs.Words.{Token, sign, number}
 use Rattle.nibl.specs.Grammar.{Joints, May, noWord, aWord, Joint, joint, Factor, aVariable, aConstant, aHex, aStat, aTop, inBrackets, aByte, aNot, aMod, Term, aFactor, factors, Sum, aTerm, lessTerm, terms, Relation, aSum, related}
 use Rattle.nibl.specs.Grammar.{Either, whole, parted, PrintWord, shortPrint, longPrint, AnItem, aString, aStored, aValue, Items, oneItem, moreItems, LastSemicolon, noSemicolon, aSemicolon, AStep, noStep, someStep, Variables, oneVariable, moreVariables}
 use Rattle.nibl.specs.Grammar.{Statement, aLetVar, aLetStat, aLetByte, aLetText, aLetCopy, aGoto, aGosub, aReturn, aPrint, anIf, aDo, anUntil, aFor, aNext, anInput, anInputText, aRemark, anEnd}
@@ -17,16 +17,21 @@ pub data Mark : Type 0 where
   by : String → Mark  -- a production, by its name in the grammar
   takes : ℕ → Token → ℕ → Mark  -- a word; how many bytes of the text stand from its place on, spaces before it too, and how many behind it
 
--- `Along R s ms s'`: the words of the marks stand in the text s one after the other, by the rule of words R, and s' follows them
-pub data Along (R : List ℕ → Token → List ℕ → Type 0) : List ℕ → List Mark → List ℕ → Type 0 where
-  ended : {s : List ℕ} → Along R s [] s
-  production : {name : String} {ms : List Mark} {s s' : List ℕ} → Along R s ms s' → Along R s (by name ∷ ms) s'
-  word : {w : Token} {ms : List Mark} {s t s' : List ℕ} → R s w t → Along R t ms s' → Along R s (takes (length s) w (length t) ∷ ms) s'
+-- `AllAlong R end Q s ms`: the words of the marks stand in the text s one after the other, by the rule of words R, up to the
+-- spaces that end the text, or up to the word `end` with a text behind it that is Q
+pub data AllAlong (R : List ℕ → Token → List ℕ → Type 0) (end : Token) (Q : List ℕ → Type 0) : List ℕ → List Mark → Type 0 where
+  toSpaces : {s : List ℕ} → All isSpace s → AllAlong R end Q s []
+  toEnd : {s t : List ℕ} → R s end t → Q t → AllAlong R end Q s (takes (length s) end (length t) ∷ [])
+  afterProduction : {name : String} {ms : List Mark} {s : List ℕ} → AllAlong R end Q s ms → AllAlong R end Q s (by name ∷ ms)
+  afterWord : {w : Token} {ms : List Mark} {s t : List ℕ} → R s w t → AllAlong R end Q t ms → AllAlong R end Q s (takes (length s) w (length t) ∷ ms)
 
--- they are all words of the text, up to spaces or to what follows REM
-pub data AllAlong (R : List ℕ → Token → List ℕ → Type 0) (s : List ℕ) (ms : List Mark) : Type 0 where
-  toSpaces : {t : List ℕ} → Along R s ms t → All isSpace t → AllAlong R s ms
-  toRemark : {t : List ℕ} → Along R s ms t → All isText t → AllAlong R s ms
+-- "REM takes the rest of the line"
+abbrev pub ToRemark : (List ℕ → Token → List ℕ → Type 0) → List ℕ → List Mark → Type 0
+ToRemark R = AllAlong R (sign (number "REM")) (All isText)
+
+-- "text after the comma that follows the last needed relation is ignored"
+abbrev pub ToComma : (List ℕ → Token → List ℕ → Type 0) → List ℕ → List Mark → Type 0
+ToComma R = AllAlong R (sign (number ",")) (λ t. Unit)
 
 -- a word of either rule
 pub data OneOf (W C : List ℕ → Token → List ℕ → Type 0) (s : List ℕ) (w : Token) (s' : List ℕ) : Type 0 where
