@@ -16,7 +16,7 @@ abbrev pub goesOn : Token → Bool
 goesOn = joins factorJoints or joins termJoints or joins sumJoints
 
 -- no factor begins with such a word
-abbrev unfit : Token → Bool
+abbrev pub unfit : Token → Bool
 unfit = isKey "-" or isKey "+" or (isKey "$" or isString)
 
 factor-first : {s s' : List ℕ} {a : Expr} → Factor W s a s' → nextIs unfit s ≡ false
@@ -30,7 +30,7 @@ factor-first (aByte k f) = next-at unfit k
 factor-first (aNot k f) = next-at unfit k
 factor-first (aMod k i r c q j) = next-at unfit k
 
-term-first : {s s' : List ℕ} {a : Expr} → Term W s a s' → nextIs unfit s ≡ false
+pub term-first : {s s' : List ℕ} {a : Expr} → Term W s a s' → nextIs unfit s ≡ false
 term-first (aFactor f) = factor-first f
 term-first (factors t j f) = term-first t
 
@@ -58,10 +58,10 @@ onward-stop js q go a s h = rw (joint-not js s h)
 onward-go : {js : Joints} (q : Part) (go : Expr → Reader Expr) (a : Expr) {o : Op} {b : Expr} {s t u : List ℕ} → Joint W js s o t → read q t ≡ found b u → moreOperands read js q go a s ≡ go (two o a b) u
 onward-go q go a j e = rw (joint-at j) (then-at (read q) _ _ e)
 
-factors-stop : (a : Expr) (s : List ℕ) → nextIs (joins factorJoints) s ≡ false → read (factorsPart a) s ≡ found a s
+pub factors-stop : (a : Expr) (s : List ℕ) → nextIs (joins factorJoints) s ≡ false → read (factorsPart a) s ≡ found a s
 factors-stop a s h = read-factors a s ∙ onward-stop factorJoints factorPart (λ b. read (factorsPart b)) a s h
 
-terms-stop : (a : Expr) (s : List ℕ) → nextIs (joins termJoints) s ≡ false → read (termsPart a) s ≡ found a s
+pub terms-stop : (a : Expr) (s : List ℕ) → nextIs (joins termJoints) s ≡ false → read (termsPart a) s ≡ found a s
 terms-stop a s h = read-terms a s ∙ onward-stop termJoints termPart (λ b. read (termsPart b)) a s h
 
 -- a sum from its first term on
@@ -92,11 +92,11 @@ mutual
       ∙ then-at (read relationPart) _ _ (relation-complete q (next-at goesOn j)) ∙ key-at ")" _ _ j
 
   -- what was read so far
-  term-goes : {s s' : List ℕ} {a : Expr} → Term W s a s' → read termPart s ≡ read (factorsPart a) s'
+  pub term-goes : {s s' : List ℕ} {a : Expr} → Term W s a s' → read termPart s ≡ read (factorsPart a) s'
   term-goes (aFactor {s} f) = read-term s ∙ then-at (read factorPart) _ _ (factor-complete f)
   term-goes (factors {t} {a} x j f) = term-goes x ∙ read-factors a t ∙ onward-go factorPart (λ b. read (factorsPart b)) a j (factor-complete f)
 
-  sum-goes : {s s' : List ℕ} {a : Expr} → Sum W s a s' → nextIs (joins factorJoints) s' ≡ false → read sumPart s ≡ read (termsPart a) s'
+  pub sum-goes : {s s' : List ℕ} {a : Expr} → Sum W s a s' → nextIs (joins factorJoints) s' ≡ false → read sumPart s ≡ read (termsPart a) s'
   sum-goes (aTerm {s'} {a} m t) h = sum-step m (term-first t) (term-goes t ∙ factors-stop a s' h)
   sum-goes (lessTerm {s} {s'} {a} k t) h = read-sum s ∙ key-at "-" _ _ k ∙ signed-step negate _ (term-goes t ∙ factors-stop a s' h)
   sum-goes (terms {t} {s'} {a} {b} x j y) h =

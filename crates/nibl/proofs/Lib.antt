@@ -15,3 +15,6 @@ pub mod Next
 pub mod Quotients
 pub mod Whole
 pub mod Names
+pub mod Derived
+pub mod Once
+pub mod InOrder
