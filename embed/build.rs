@@ -1,0 +1,42 @@
+//! Makes the proved library current and links it, and hands on the list of layouts. The archive is copied, so that what
+//! was built stays whole when the repository's target directory is emptied.
+
+use std::path::{Path, PathBuf};
+use std::process::{Command, Stdio};
+
+/// C's list of layouts.
+const LAYOUT: &str = "include/nibl.layout";
+
+/// What the library is made from: a change of one of these asks for it anew.
+const SOURCES: [&str; 4] = ["crates", "crates.txt", "tools/library", "tools/current.sh"];
+
+fn library(root: &Path) -> PathBuf {
+    let tool = root.join("tools/library");
+    let run = Command::new(&tool).stderr(Stdio::inherit()).output();
+    let run = run.unwrap_or_else(|error| panic!("{} does not start: {error}", tool.display()));
+    assert!(run.status.success(), "{} failed", tool.display());
+    let path = String::from_utf8(run.stdout).expect("a path in UTF-8");
+    PathBuf::from(path.trim_end())
+}
+
+/// The list's lines as Rust has macros: with an exclamation mark and a semicolon.
+fn layout(root: &Path) -> String {
+    let list = std::fs::read_to_string(root.join(LAYOUT)).expect("the list of layouts is there");
+    let lines = list.lines().filter(|line| line.starts_with("NIBL_"));
+    lines
+        .map(|line| line.replacen('(', "!(", 1) + ";\n")
+        .collect()
+}
+
+fn main() {
+    let root = Path::new(env!("CARGO_MANIFEST_DIR")).join("..");
+    let out = std::env::var("OUT_DIR").expect("cargo says where to write");
+    std::fs::copy(library(&root), Path::new(&out).join("libnibl.a"))
+        .expect("the archive is copied");
+    std::fs::write(Path::new(&out).join("layout.rs"), layout(&root)).expect("the list is written");
+    println!("cargo:rustc-link-search=native={out}");
+    println!("cargo:rustc-link-lib=static=nibl");
+    for source in SOURCES.into_iter().chain([LAYOUT]) {
+        println!("cargo:rerun-if-changed={}", root.join(source).display());
+    }
+}

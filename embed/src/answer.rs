@@ -1,0 +1,47 @@
+//! The numbers that a call is given, and what it answers.
+
+use crate::stop::Stop;
+
+/// The line that the library answers with where there is none.
+pub const NO_LINE: u16 = 65535;
+
+/// The numbers of a call. In C's layout: `nibl_call` in `include/nibl.h`.
+#[repr(C)]
+#[derive(Clone, Copy, Debug, Default, PartialEq, Eq)]
+pub struct Call {
+    /// Where to read in the input: 0 to its length.
+    pub inpos: usize,
+    /// Where to write in the output: 0 to its length.
+    pub outpos: usize,
+    /// The sense byte, of which STAT reads bits 4 and 5.
+    pub sense: u8,
+    /// The steps that may run: 0 to 65,535.
+    pub budget: usize,
+}
+
+impl Call {
+    /// A call with these positions and this budget, and 0 for its sense byte.
+    pub fn at(inpos: usize, outpos: usize, budget: usize) -> Call {
+        Call {
+            inpos,
+            outpos,
+            sense: 0,
+            budget,
+        }
+    }
+}
+
+/// What a call answers.
+#[derive(Clone, Copy, Debug, PartialEq, Eq)]
+pub struct Answer {
+    /// Why the call came back.
+    pub stop: Stop,
+    /// The line of the program statement that gave the stop.
+    pub line: Option<u16>,
+    /// The steps that ran, the one that stopped included.
+    pub steps: u16,
+    /// Where to read next.
+    pub inpos: usize,
+    /// The end of what was written.
+    pub outpos: usize,
+}

@@ -1,0 +1,216 @@
+//! The stop numbers, in words.
+
+use std::fmt;
+
+/// Why a call came back. The discriminant is document 01's number.
+#[derive(Clone, Copy, Debug, PartialEq, Eq, Hash, PartialOrd, Ord)]
+#[repr(u8)]
+pub enum Stop {
+    /// Done; past the last line; RETURN to the immediate mark.
+    Done = 0,
+    /// A length, position or budget outside the limits.
+    OutOfRange = 1,
+    /// The edited program would not fit the page.
+    PageFull = 2,
+    /// DO, UNTIL, FOR, NEXT or INPUT in an immediate line.
+    NotImmediate = 3,
+    /// Over-long typed line, or no reading.
+    NoReading = 5,
+    /// Reply over-long or not in its form.
+    BadReply = 6,
+    /// No CR left in the input.
+    NoCr = 7,
+    /// GOTO or GOSUB to a line not there.
+    NoSuchLine = 8,
+    /// RETURN with its stack empty.
+    NoGosub = 9,
+    /// Past 8 GOSUBs, 8 DOs or 4 FORs.
+    TooDeep = 10,
+    /// NEXT with no FOR.
+    NoFor = 11,
+    /// NEXT with another variable.
+    OtherVariable = 12,
+    /// Division or MOD by 0.
+    DivisionByZero = 13,
+    /// Budget spent and a statement still to run.
+    Paused = 14,
+    /// UNTIL with its stack empty.
+    NoDo = 15,
+    /// A memory byte needed is not there, or no CR found.
+    NoMemory = 16,
+    /// An output item does not fit whole.
+    OutputFull = 17,
+    /// Bad page.
+    BadPage = 18,
+    /// Session record does not fit.
+    BadRecord = 19,
+    /// END.
+    End = 20,
+}
+
+/// Every stop with what it means and what it did, in order of the numbers.
+const TABLE: [(Stop, &str, &str); 20] = [
+    (Stop::Done, "done", "all that was asked was done"),
+    (
+        Stop::OutOfRange,
+        "a length, position or budget out of range",
+        "nothing was changed",
+    ),
+    (
+        Stop::PageFull,
+        "no room on the page",
+        "the line was taken; the page is as it was",
+    ),
+    (
+        Stop::NotImmediate,
+        "only in a program",
+        "the line was taken; nothing was run",
+    ),
+    (
+        Stop::NoReading,
+        "no reading",
+        "the line was taken; nothing was stored",
+    ),
+    (
+        Stop::BadReply,
+        "a reply not in its form",
+        "the reply was taken; no variable was given",
+    ),
+    (Stop::NoCr, "no CR left in the input", "no byte was taken"),
+    (
+        Stop::NoSuchLine,
+        "no such line",
+        "the run stopped before the jump",
+    ),
+    (
+        Stop::NoGosub,
+        "RETURN with no GOSUB open",
+        "the run stopped there",
+    ),
+    (
+        Stop::TooDeep,
+        "too many GOSUBs, DOs or FORs open",
+        "the open ones stay open",
+    ),
+    (
+        Stop::NoFor,
+        "NEXT with no FOR open",
+        "the run stopped there",
+    ),
+    (
+        Stop::OtherVariable,
+        "NEXT with another variable than its FOR",
+        "the FOR stays open",
+    ),
+    (
+        Stop::DivisionByZero,
+        "division by 0",
+        "the statement changed nothing",
+    ),
+    (
+        Stop::Paused,
+        "paused",
+        "the budget is spent; the run can be continued",
+    ),
+    (Stop::NoDo, "UNTIL with no DO open", "the run stopped there"),
+    (
+        Stop::NoMemory,
+        "an address outside the memory, or a string with no CR",
+        "the statement stored nothing",
+    ),
+    (
+        Stop::OutputFull,
+        "the output is full",
+        "what fitted whole was written",
+    ),
+    (Stop::BadPage, "the page is bad", "nothing was changed"),
+    (
+        Stop::BadRecord,
+        "the session record does not fit the page",
+        "nothing was changed",
+    ),
+    (Stop::End, "END", "all statements before it have run"),
+];
+
+impl Stop {
+    /// All of them, in order of their numbers.
+    pub const ALL: [Stop; TABLE.len()] = {
+        let mut all = [Stop::Done; TABLE.len()];
+        let mut at = 0;
+        while at < TABLE.len() {
+            all[at] = TABLE[at].0;
+            at += 1;
+        }
+        all
+    };
+
+    /// Document 01's number.
+    pub fn number(self) -> u8 {
+        self as u8
+    }
+
+    /// The stop of a number, if it is one's.
+    ///
+    /// ```
+    /// use nibl::Stop;
+    ///
+    /// assert_eq!(Stop::of(14), Some(Stop::Paused));
+    /// assert_eq!(Stop::of(4), None);
+    /// ```
+    pub fn of(number: u8) -> Option<Stop> {
+        Stop::ALL.into_iter().find(|stop| stop.number() == number)
+    }
+
+    fn row(self) -> &'static (Stop, &'static str, &'static str) {
+        // The numbers rise by one but for 4, which is none.
+        let number = usize::from(self.number());
+        &TABLE[number - usize::from(number > 4)]
+    }
+
+    /// What it means.
+    ///
+    /// ```
+    /// assert_eq!(nibl::Stop::NoReading.words(), "no reading");
+    /// ```
+    pub fn words(self) -> &'static str {
+        self.row().1
+    }
+
+    /// What the call did, or did not.
+    ///
+    /// ```
+    /// assert_eq!(nibl::Stop::NoReading.effect(), "the line was taken; nothing was stored");
+    /// ```
+    pub fn effect(self) -> &'static str {
+        self.row().2
+    }
+}
+
+/// The number and the words: `5: no reading`.
+impl fmt::Display for Stop {
+    fn fmt(&self, f: &mut fmt::Formatter) -> fmt::Result {
+        write!(f, "{}: {}", self.number(), self.words())
+    }
+}
+
+#[cfg(test)]
+mod tests {
+    use super::*;
+
+    #[test]
+    fn each_stop_has_its_own_row() {
+        for stop in Stop::ALL {
+            assert_eq!(stop.row().0, stop);
+            assert_eq!(Stop::of(stop.number()), Some(stop));
+        }
+    }
+
+    #[test]
+    fn all_numbers_but_4_up_to_20_are_stops() {
+        let numbers: Vec<u8> = (0..=255)
+            .filter(|&number| Stop::of(number).is_some())
+            .collect();
+        let wanted: Vec<u8> = (0..=20).filter(|&number| number != 4).collect();
+        assert_eq!(numbers, wanted);
+    }
+}
