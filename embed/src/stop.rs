@@ -53,30 +53,30 @@ const TABLE: [(Stop, &str, &str); 20] = [
     (Stop::Done, "done", "all that was asked was done"),
     (
         Stop::OutOfRange,
-        "a length, position or budget out of range",
+        "length, position or budget out of range",
         "nothing was changed",
     ),
     (
         Stop::PageFull,
         "no room on the page",
-        "the line was taken; the page is as it was",
+        "the page is as it was",
     ),
     (
         Stop::NotImmediate,
-        "only in a program",
-        "the line was taken; nothing was run",
+        "only in a line with a number",
+        "nothing was run",
     ),
-    (
-        Stop::NoReading,
-        "no reading",
-        "the line was taken; nothing was stored",
-    ),
+    (Stop::NoReading, "no reading", "nothing was stored"),
     (
         Stop::BadReply,
         "a reply not in its form",
-        "the reply was taken; no variable was given",
+        "the reply was taken, nothing given",
     ),
-    (Stop::NoCr, "no CR left in the input", "no byte was taken"),
+    (
+        Stop::NoCr,
+        "no whole line left in the input",
+        "no byte was taken",
+    ),
     (
         Stop::NoSuchLine,
         "no such line",
@@ -107,15 +107,11 @@ const TABLE: [(Stop, &str, &str); 20] = [
         "division by 0",
         "the statement changed nothing",
     ),
-    (
-        Stop::Paused,
-        "paused",
-        "the budget is spent; the run can be continued",
-    ),
+    (Stop::Paused, "paused", "the run can be continued"),
     (Stop::NoDo, "UNTIL with no DO open", "the run stopped there"),
     (
         Stop::NoMemory,
-        "an address outside the memory, or a string with no CR",
+        "no such address, or a string with no CR",
         "the statement stored nothing",
     ),
     (
@@ -126,7 +122,7 @@ const TABLE: [(Stop, &str, &str); 20] = [
     (Stop::BadPage, "the page is bad", "nothing was changed"),
     (
         Stop::BadRecord,
-        "the session record does not fit the page",
+        "the record does not fit the page",
         "nothing was changed",
     ),
     (Stop::End, "END", "all statements before it have run"),
@@ -179,7 +175,7 @@ impl Stop {
     /// What the call did, or did not.
     ///
     /// ```
-    /// assert_eq!(nibl::Stop::NoReading.effect(), "the line was taken; nothing was stored");
+    /// assert_eq!(nibl::Stop::NoReading.effect(), "nothing was stored");
     /// ```
     pub fn effect(self) -> &'static str {
         self.row().2

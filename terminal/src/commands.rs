@@ -25,7 +25,7 @@ pub const HELP: &str = "\
 A line of NIBL is typed as it is. A line that begins with a dot is for the desk:
 
 .               goes on with a paused run
-.load FILE      types a rule book line by line; lines that were refused are shown
+.load FILE      types a rule book line by line; shows lines that are refused
 .save FILE      writes what LIST gives
 .show           draws variables, flags, stacks, pause and used bytes
 .sense N        sets the sense byte, 0 to 255; STAT reads its bits 16 and 32

@@ -138,13 +138,7 @@ impl Desk {
     pub fn listing(&self) -> Result<Vec<u8>, Stop> {
         let mut copy = Controller::new(self.controller.page.clone(), Vec::new());
         let mut output = vec![0; LISTING];
-        let call = Call {
-            inpos: 0,
-            outpos: 0,
-            sense: 0,
-            budget: 0,
-        };
-        let answer = copy.take_line(b"LIST\r", &mut output, call);
+        let answer = copy.take_line(b"LIST\r", &mut output, Call::at(0, 0, 0));
         output.truncate(answer.outpos);
         match answer.stop {
             Stop::Done => Ok(output),
@@ -289,12 +283,7 @@ mod tests {
         let mut output = [0; OUTPUT];
         let mut answer = None;
         for line in program {
-            let call = Call {
-                inpos: 0,
-                outpos: 0,
-                sense: 0,
-                budget: 40_000,
-            };
+            let call = Call::at(0, 0, 40_000);
             let input = [line.as_bytes(), b"\r"].concat();
             answer = Some(whole.controller.take_line(&input, &mut output, call));
         }

@@ -1,6 +1,6 @@
 //! The controller's state, drawn.
 
-use nibl::{ForStack, PlaceStack, Record, MARK, NOWHERE};
+use nibl::{ForEntry, ForStack, PlaceStack, Record, MARK, NOWHERE, START};
 
 use crate::desk::Desk;
 use crate::page::{line_at, lines, used};
@@ -8,8 +8,7 @@ use crate::words::{counted, grouped};
 
 /// In how many columns the variables stand.
 const COLUMNS: usize = 6;
-/// The pause at the program's start, and what is added to a place to say one after it.
-const START: u16 = 1;
+/// What is added to a place to say a pause after it.
 const AFTER: u16 = 2;
 /// How many bytes of memory a row has, and how many rows are shown from an address on.
 const ROW: usize = 10;
@@ -72,7 +71,7 @@ fn places(stack: &PlaceStack, page: &[u8]) -> Vec<String> {
 
 fn fors(stack: &ForStack, page: &[u8]) -> Vec<String> {
     let open = &stack.entries[..stack.depth.min(stack.entries.len())];
-    let entry = |entry: &nibl::ForEntry| {
+    let entry = |entry: &ForEntry| {
         let variable = char::from(b'A' + entry.var % 26);
         let (limit, step) = (entry.limit as i16, entry.step as i16);
         format!(

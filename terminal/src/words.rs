@@ -11,12 +11,7 @@ pub fn sentence(reply: &Reply) -> String {
     if reply.cause == Cause::Interrupted {
         said += " by Ctrl-C";
     }
-    if let Some(line) = reply.line {
-        said += &format!(" in line {line}");
-    }
-    if reply.steps > 0 || reply.stop == Stop::Paused {
-        said += &format!(" after {}", counted(reply.steps, "step"));
-    }
+    said += &whereabouts(reply);
     if let Some(effect) = effect(reply) {
         said += &format!("; {effect}");
     }
@@ -24,6 +19,15 @@ pub fn sentence(reply: &Reply) -> String {
         said += "; the pause has ended";
     }
     said
+}
+
+fn whereabouts(reply: &Reply) -> String {
+    let steps = counted(reply.steps, "step");
+    match reply.line {
+        Some(line) => format!(" (line {line}, after {steps})"),
+        None if reply.steps > 0 || reply.stop == Stop::Paused => format!(" after {steps}"),
+        None => String::new(),
+    }
 }
 
 /// What it did, where the number alone does not say all.
@@ -36,6 +40,7 @@ fn effect(reply: &Reply) -> Option<String> {
         (Stop::Done, Change::Emptied) => "the page is empty".to_string(),
         (Stop::Done, _) if reply.cause == Cause::NothingPaused => "nothing was paused".to_string(),
         (Stop::Done, Change::Nothing) => return None,
+        _ if reply.cause == Cause::NoReply => "no reply was given".to_string(),
         (stop, _) => stop.effect().to_string(),
     };
     Some(effect)
@@ -164,7 +169,20 @@ mod tests {
         let effect = Stop::DivisionByZero.effect();
         assert_eq!(
             said,
-            format!("13: {words} in line 30 after 12 steps; {effect}")
+            format!("13: {words} (line 30, after 12 steps); {effect}")
+        );
+    }
+
+    #[test]
+    fn a_wait_that_was_ended_is_told() {
+        let ended = Reply {
+            cause: Cause::NoReply,
+            ..reply(Stop::NoCr, Some(10), 1)
+        };
+        let words = Stop::NoCr.words();
+        assert_eq!(
+            sentence(&ended),
+            format!("7: {words} (line 10, after 1 step); no reply was given")
         );
     }
 
@@ -175,6 +193,7 @@ mod tests {
         for (row, stop) in table.lines().zip(Stop::ALL) {
             assert!(row.trim_start().starts_with(&stop.number().to_string()));
             assert!(row.contains(stop.words()) && row.ends_with(stop.effect()));
+            assert!(row.len() <= 80, "it fits a terminal");
         }
     }
 
