@@ -70,7 +70,7 @@ const TABLE: [(Stop, &str, &str); 20] = [
     (
         Stop::BadReply,
         "a reply not in its form",
-        "the reply was taken, nothing given",
+        "it was taken, nothing given",
     ),
     (
         Stop::NoCr,

@@ -50,6 +50,13 @@ pub struct Reply {
     pub ended_pause: bool,
 }
 
+impl Reply {
+    /// Did the dealer end it?
+    pub fn was_cut_short(&self) -> bool {
+        matches!(self.cause, Cause::Interrupted | Cause::NoReply)
+    }
+}
+
 pub struct Desk {
     pub controller: Controller<Vec<u8>, Vec<u8>>,
     pub sense: u8,

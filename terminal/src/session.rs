@@ -28,6 +28,9 @@ impl<W: Write> Session<W> {
     /// Until the dealer leaves.
     pub fn run(&mut self) {
         self.seat.screen.say(&self.lent(), false);
+        self.seat
+            .screen
+            .say(".help says what can be done; Ctrl-D ends", false);
         while !self.seat.has_left() {
             match self.seat.line() {
                 Asked::Line(line) => self.obey(&line),
@@ -78,7 +81,7 @@ impl<W: Write> Session<W> {
     /// What the desk lends.
     fn lent(&self) -> String {
         format!(
-            "a page of {} bytes, a memory of {}, {} for a reply; .help says more, Ctrl-D ends",
+            "a page of {} bytes, a memory of {}, {} for a reply",
             grouped(self.desk.controller.page.len() as u64),
             grouped(self.desk.controller.memory.len() as u64),
             counted(self.desk.budget, "step"),
@@ -174,7 +177,7 @@ impl<W: Write> Session<W> {
                 refused += 1;
                 book.refused(file, number, line, &reply);
             }
-            if book.seat.has_left() || book.interrupts() {
+            if reply.was_cut_short() || book.seat.has_left() || book.interrupts() {
                 let words = format!("{file}: ended at line {number}");
                 return self.seat.screen.say(&words, true);
             }

@@ -24,7 +24,7 @@ pub fn sentence(reply: &Reply) -> String {
 fn whereabouts(reply: &Reply) -> String {
     let steps = counted(reply.steps, "step");
     match reply.line {
-        Some(line) => format!(" (line {line}, after {steps})"),
+        Some(line) => format!(" (line {line}, {steps})"),
         None if reply.steps > 0 || reply.stop == Stop::Paused => format!(" after {steps}"),
         None => String::new(),
     }
@@ -167,10 +167,7 @@ mod tests {
         let said = sentence(&reply(Stop::DivisionByZero, Some(30), 12));
         let words = Stop::DivisionByZero.words();
         let effect = Stop::DivisionByZero.effect();
-        assert_eq!(
-            said,
-            format!("13: {words} (line 30, after 12 steps); {effect}")
-        );
+        assert_eq!(said, format!("13: {words} (line 30, 12 steps); {effect}"));
     }
 
     #[test]
@@ -182,7 +179,7 @@ mod tests {
         let words = Stop::NoCr.words();
         assert_eq!(
             sentence(&ended),
-            format!("7: {words} (line 10, after 1 step); no reply was given")
+            format!("7: {words} (line 10, 1 step); no reply was given")
         );
     }
 
