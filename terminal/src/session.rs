@@ -151,7 +151,6 @@ impl<W: Write> Session<W> {
         }
     }
 
-    /// Types a file's lines. Those that were refused are shown with their numbers.
     fn load(&mut self, file: &str) {
         let bytes = match files::read(file) {
             Ok(bytes) => bytes,
@@ -159,15 +158,19 @@ impl<W: Write> Session<W> {
         };
         let nuls = bytes.iter().filter(|byte| **byte == 0).count() as u64;
         if nuls > 0 {
-            let words = format!(
-                "{file} has {}; typing drops each",
-                counted(nuls, "NUL byte")
-            );
-            self.seat.screen.say(&words, true);
+            let nuls = counted(nuls, "NUL byte");
+            self.seat
+                .screen
+                .say(&format!("{file} has {nuls}; typing drops each"), true);
         }
+        self.type_book(file, numbered(&bytes));
+    }
+
+    /// Types a file's lines. Those that were refused are shown with their numbers.
+    fn type_book(&mut self, file: &str, rest: VecDeque<(usize, &[u8])>) {
         let mut book = Book {
             seat: &mut self.seat,
-            rest: numbered(&bytes),
+            rest,
         };
         let (mut typed, mut refused) = (0, 0);
         while let Some((number, line)) = book.rest.pop_front() {
@@ -178,15 +181,17 @@ impl<W: Write> Session<W> {
                 book.refused(file, number, line, &reply);
             }
             if reply.was_cut_short() || book.seat.has_left() || book.interrupts() {
-                let words = format!("{file}: ended at line {number}");
-                return self.seat.screen.say(&words, true);
+                return self
+                    .seat
+                    .screen
+                    .say(&format!("{file}: ended at line {number}"), true);
             }
         }
-        let words = format!(
-            "{file}: {} typed, {refused} refused",
-            counted(typed, "line")
+        let typed = counted(typed, "line");
+        self.seat.screen.say(
+            &format!("{file}: {typed} typed, {refused} refused"),
+            refused > 0,
         );
-        self.seat.screen.say(&words, refused > 0);
     }
 }
 
