@@ -12,8 +12,8 @@ pub const BUDGET_LIMIT: u64 = 1_000_000_000_000;
 const OUTPUT: usize = 8192;
 /// Room for any listing: a page has at most 4,096 bytes, and no line is listed at twice its record's length.
 const LISTING: usize = 2 * PAGE;
-/// So many steps are run before the dealer is looked at again: about a millisecond.
-const SLICE: u64 = 5000;
+/// About a millisecond.
+const SLICE: u16 = 5000;
 const CR: u8 = 13;
 
 /// The one who sits at the desk.
@@ -60,7 +60,10 @@ impl Reply {
 pub struct Desk {
     pub controller: Controller<Vec<u8>, Vec<u8>>,
     pub sense: u8,
+    /// The steps for one reply.
     pub budget: u64,
+    /// So many steps, at least 1, are run before the dealer is looked at again.
+    pub slice: u16,
 }
 
 #[derive(Clone, Copy)]
@@ -112,15 +115,19 @@ impl Run {
     }
 }
 
-impl Desk {
-    pub fn new() -> Desk {
+/// What document 01's session lends.
+impl Default for Desk {
+    fn default() -> Desk {
         Desk {
             controller: Controller::owned(PAGE, MEMORY),
             sense: 0,
             budget: BUDGET,
+            slice: SLICE,
         }
     }
+}
 
+impl Desk {
     /// Types a line, which has no CR yet.
     pub fn take_line(&mut self, line: &[u8], dealer: &mut impl Dealer) -> Reply {
         let before = self.controller.page.clone();
@@ -186,7 +193,7 @@ impl Desk {
     /// 7 with a line number is always an INPUT of the program: the typed line itself has its CR, and a typed INPUT is 3.
     fn slice(&mut self, run: &mut Run, dealer: &mut impl Dealer) -> (Answer, bool) {
         let lent = self.lent();
-        let budget = SLICE.min(self.budget - run.steps) as usize;
+        let budget = u64::from(self.slice.max(1)).min(self.budget - run.steps) as usize;
         let answer = self.call(run, budget);
         run.show(&answer, dealer);
         let (Stop::NoCr, Some(line)) = (answer.stop, answer.line) else {
@@ -267,6 +274,13 @@ mod tests {
         }
     }
 
+    fn with_budget(budget: u64) -> Desk {
+        Desk {
+            budget,
+            ..Desk::default()
+        }
+    }
+
     fn typed(desk: &mut Desk, lines: &[&str], script: &mut Script) -> Reply {
         let mut reply = None;
         for line in lines {
@@ -282,11 +296,10 @@ mod tests {
     #[test]
     fn a_run_in_slices_answers_as_one_call_does() {
         let program = ["10 FOR C=1 TO 9000:NEXT C", "20 PRINT C:C=C/0", "RUN"];
-        let mut sliced = Desk::new();
-        sliced.budget = 40_000;
+        let mut sliced = with_budget(40_000);
         let mut script = Script::default();
         let reply = typed(&mut sliced, &program, &mut script);
-        let mut whole = Desk::new();
+        let mut whole = Desk::default();
         let mut output = [0; OUTPUT];
         let mut answer = None;
         for line in program {
@@ -306,7 +319,7 @@ mod tests {
 
     #[test]
     fn input_waits_and_shows_only_what_is_new() {
-        let mut desk = Desk::new();
+        let mut desk = Desk::default();
         let mut script = Script {
             replies: vec!["17", "2,3"],
             ..Script::default()
@@ -326,7 +339,7 @@ mod tests {
 
     #[test]
     fn a_wrong_reply_is_6_and_no_reply_is_7() {
-        let mut desk = Desk::new();
+        let mut desk = Desk::default();
         let mut script = Script {
             replies: vec!["BERTA"],
             ..Script::default()
@@ -340,8 +353,7 @@ mod tests {
 
     #[test]
     fn input_behind_a_pause_waits_too() {
-        let mut desk = Desk::new();
-        desk.budget = 3;
+        let mut desk = with_budget(3);
         let mut script = Script {
             replies: vec!["5", "6"],
             ..Script::default()
@@ -356,8 +368,7 @@ mod tests {
 
     #[test]
     fn many_replies_in_one_run_never_outgrow_the_input() {
-        let mut desk = Desk::new();
-        desk.budget = 100_000;
+        let mut desk = with_budget(100_000);
         let long = "1,THIS IS IGNORED AND MAKES THE REPLY LONG ENOUGH TO FILL AN INPUT SOON";
         let mut script = Script {
             replies: vec![long; 1000],
@@ -374,24 +385,25 @@ mod tests {
 
     #[test]
     fn a_run_is_ended_between_two_slices_and_goes_on() {
-        let mut desk = Desk::new();
-        desk.budget = BUDGET_LIMIT;
+        let mut desk = with_budget(BUDGET_LIMIT);
         let mut script = Script {
             looks: Some(2),
             ..Script::default()
         };
         let reply = typed(&mut desk, &["10 GOTO 10", "RUN"], &mut script);
-        assert_eq!(told(&reply), (14, None, 3 * SLICE, Cause::Interrupted));
+        assert_eq!(
+            told(&reply),
+            (14, None, 3 * u64::from(SLICE), Cause::Interrupted)
+        );
         assert!(desk.controller.record.is_paused());
         let reply = desk.go_on(&mut script);
-        assert_eq!(told(&reply), (14, None, SLICE, Cause::Interrupted));
+        assert_eq!(told(&reply), (14, None, SLICE.into(), Cause::Interrupted));
     }
 
     #[test]
     fn the_budget_is_the_dealers() {
-        for budget in [0, 1, SLICE, SLICE + 1, 70_000] {
-            let mut desk = Desk::new();
-            desk.budget = budget;
+        for budget in [0, 1, 5000, 5001, 70_000] {
+            let mut desk = with_budget(budget);
             let reply = typed(&mut desk, &["10 GOTO 10", "RUN"], &mut Script::default());
             assert_eq!(told(&reply), (14, None, budget, Cause::Answered));
         }
@@ -399,7 +411,7 @@ mod tests {
 
     #[test]
     fn a_typed_line_ends_a_pause_and_nothing_is_left_to_go_on_with() {
-        let mut desk = Desk::new();
+        let mut desk = Desk::default();
         let mut script = Script::default();
         assert!(!typed(&mut desk, &["10 GOTO 10", "RUN"], &mut script).ended_pause);
         assert!(typed(&mut desk, &[""], &mut script).ended_pause);
@@ -412,7 +424,7 @@ mod tests {
 
     #[test]
     fn a_listing_ends_no_pause_and_is_whole() {
-        let mut desk = Desk::new();
+        let mut desk = Desk::default();
         let mut script = Script::default();
         assert_eq!(desk.listing(), Ok(Vec::new()));
         typed(&mut desk, &["20 GOTO 10", "10 REM", "RUN"], &mut script);
@@ -429,7 +441,7 @@ mod tests {
 
     #[test]
     fn an_over_long_line_is_the_calls_to_refuse() {
-        let mut desk = Desk::new();
+        let mut desk = Desk::default();
         let mut script = Script::default();
         assert_eq!(
             told(&desk.take_line(&[b'A'; 73], &mut script)),

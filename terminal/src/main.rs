@@ -1,26 +1,15 @@
-//! A place where a dealer can work: typed lines, edited with a history, and the controller's replies in words.
-//!
-//! Reading order: [`keys`], [`history`], [`editor`] and [`commands`], [`words`], [`page`] know no terminal; [`desk`] makes the
-//! calls; [`raw`], [`keyboard`], [`screen`] are the terminal; [`seat`] and [`session`] put them together.
+//! Starts a dealer's session at the terminal, or prints the table of stops.
 
 use std::env;
 use std::io::{stdin, stdout, IsTerminal};
 use std::process::ExitCode;
 
-mod commands;
-mod desk;
-mod editor;
-mod files;
-mod history;
-mod keyboard;
-mod keys;
-mod page;
-mod raw;
-mod screen;
-mod seat;
-mod session;
-mod show;
-mod words;
+use nibl_terminal::keyboard::Keyboard;
+use nibl_terminal::raw::Raw;
+use nibl_terminal::screen::Screen;
+use nibl_terminal::seat::Seat;
+use nibl_terminal::session::Session;
+use nibl_terminal::words::stops;
 
 fn main() -> ExitCode {
     let words: Vec<String> = env::args().skip(1).collect();
@@ -32,7 +21,7 @@ fn main() -> ExitCode {
     {
         [] => work(),
         ["--stops"] => {
-            print!("{}", words::stops());
+            print!("{}", stops());
             Ok(())
         }
         _ => Err("usage: nibl-terminal [--stops]".to_string()),
@@ -50,11 +39,11 @@ fn work() -> Result<(), String> {
     if !stdin().is_terminal() {
         return Err("standard input is no terminal".to_string());
     }
-    let _raw = raw::Raw::enter()
-        .map_err(|error| format!("the terminal cannot be set by stty: {error}"))?;
-    let screen = screen::Screen::new(stdout(), is_able());
-    let keyboard = keyboard::Keyboard::of(stdin());
-    session::Session::new(seat::Seat::new(screen, keyboard)).run();
+    let _raw =
+        Raw::enter().map_err(|error| format!("the terminal cannot be set by stty: {error}"))?;
+    let screen = Screen::new(stdout(), is_able());
+    let keyboard = Keyboard::of(stdin());
+    Session::new(Seat::new(screen, keyboard)).run();
     Ok(())
 }
 

@@ -20,7 +20,7 @@ pub struct Session<W: Write> {
 impl<W: Write> Session<W> {
     pub fn new(seat: Seat<W>) -> Session<W> {
         Session {
-            desk: Desk::new(),
+            desk: Desk::default(),
             seat,
         }
     }

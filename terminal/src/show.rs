@@ -183,8 +183,10 @@ mod tests {
     }
 
     fn after(budget: u64, lines: &[&str]) -> String {
-        let mut desk = Desk::new();
-        desk.budget = budget;
+        let mut desk = Desk {
+            budget,
+            ..Desk::default()
+        };
         for line in lines {
             desk.take_line(line.as_bytes(), &mut Silent);
         }
