@@ -102,7 +102,7 @@ impl Editor {
     }
 
     fn older(&mut self, history: &History) {
-        let at = self.recalled.unwrap_or(history.len());
+        let at = self.recalled.unwrap_or(history.count());
         let Some(line) = at.checked_sub(1).and_then(|at| history.get(at)) else {
             return;
         };

@@ -20,7 +20,7 @@ impl History {
         self.lines.push(line.to_string());
     }
 
-    pub fn len(&self) -> usize {
+    pub fn count(&self) -> usize {
         self.lines.len()
     }
 
@@ -40,7 +40,7 @@ mod tests {
         for line in ["RUN", "RUN", "", "  ", "LIST", "RUN"] {
             history.add(line);
         }
-        let kept: Vec<_> = (0..history.len())
+        let kept: Vec<_> = (0..history.count())
             .filter_map(|at| history.get(at))
             .collect();
         assert_eq!(kept, ["RUN", "LIST", "RUN"]);
@@ -52,7 +52,7 @@ mod tests {
         for number in 0..=LIMIT {
             history.add(&number.to_string());
         }
-        assert_eq!(history.len(), LIMIT);
+        assert_eq!(history.count(), LIMIT);
         assert_eq!(history.get(0), Some("1"));
     }
 }

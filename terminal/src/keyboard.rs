@@ -40,7 +40,7 @@ impl Keyboard {
     }
 
     /// Waits for a key. When the terminal is gone, that is Ctrl-D for ever.
-    pub fn next(&mut self) -> Key {
+    pub fn key(&mut self) -> Key {
         loop {
             if let Some(key) = self.keys.pop_front() {
                 return key;
@@ -119,7 +119,7 @@ mod tests {
     #[test]
     fn keys_come_in_order_and_then_the_end() {
         let mut keyboard = Keyboard::of(Cursor::new(b"A\x1b[A\r"));
-        let pressed: Vec<_> = (0..5).map(|_| keyboard.next()).collect();
+        let pressed: Vec<_> = (0..5).map(|_| keyboard.key()).collect();
         assert_eq!(
             pressed,
             [Key::Char('A'), Key::Up, Key::Enter, Key::Close, Key::Close]
@@ -141,7 +141,7 @@ mod tests {
             thread::sleep(4 * SEQUENCE_TIME);
             sender.send(vec![b'A']).expect("sent");
         });
-        assert_eq!(keyboard.next(), Key::Char('A'));
+        assert_eq!(keyboard.key(), Key::Char('A'));
         typist.join().expect("ended");
     }
 
@@ -159,6 +159,6 @@ mod tests {
         sender.send(b"\x03C".to_vec()).expect("sent");
         assert!(keyboard.interrupted());
         assert!(!keyboard.interrupted());
-        assert_eq!(keyboard.next(), Key::Char('C'));
+        assert_eq!(keyboard.key(), Key::Char('C'));
     }
 }

@@ -65,7 +65,7 @@ fn ask<W: Write>(
         if !keyboard.has_more() {
             screen.draw(prompt, &editor.row(room));
         }
-        let pressed = editor.press(keyboard.next(), history);
+        let pressed = editor.press(keyboard.key(), history);
         if pressed == Pressed::Editing {
             continue;
         }

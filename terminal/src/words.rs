@@ -77,7 +77,7 @@ pub fn grouped(number: u64) -> String {
     let digits = number.to_string();
     let mut grouped = String::new();
     for (at, digit) in digits.chars().enumerate() {
-        if at > 0 && (digits.len() - at) % 3 == 0 {
+        if at > 0 && at % 3 == digits.len() % 3 {
             grouped.push(',');
         }
         grouped.push(digit);
