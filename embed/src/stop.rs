@@ -77,15 +77,11 @@ const TABLE: [(Stop, &str, &str); 20] = [
         "no whole line left in the input",
         "no byte was taken",
     ),
-    (
-        Stop::NoSuchLine,
-        "no such line",
-        "the run stopped before the jump",
-    ),
+    (Stop::NoSuchLine, "no such line", "no jump was made"),
     (
         Stop::NoGosub,
         "RETURN with no GOSUB open",
-        "the run stopped there",
+        "the statement changed nothing",
     ),
     (
         Stop::TooDeep,
@@ -95,7 +91,7 @@ const TABLE: [(Stop, &str, &str); 20] = [
     (
         Stop::NoFor,
         "NEXT with no FOR open",
-        "the run stopped there",
+        "the statement changed nothing",
     ),
     (
         Stop::OtherVariable,
@@ -108,7 +104,11 @@ const TABLE: [(Stop, &str, &str); 20] = [
         "the statement changed nothing",
     ),
     (Stop::Paused, "paused", "the run can be continued"),
-    (Stop::NoDo, "UNTIL with no DO open", "the run stopped there"),
+    (
+        Stop::NoDo,
+        "UNTIL with no DO open",
+        "the statement changed nothing",
+    ),
     (
         Stop::NoMemory,
         "no such address, or a string with no CR",

@@ -125,10 +125,9 @@ impl<W: Write> Session<W> {
 
     fn not_there(&mut self) {
         let last = self.desk.controller.memory.len() - 1;
-        self.seat.screen.say(
-            &format!("the memory goes from 0 to {last}; nothing was changed"),
-            true,
-        );
+        self.seat
+            .screen
+            .say(&format!("the memory goes from 0 to {last}"), true);
     }
 
     fn save(&mut self, file: &str) {
