@@ -101,7 +101,7 @@ const TABLE: [(Stop, &str, &str); 20] = [
     (
         Stop::DivisionByZero,
         "division by 0",
-        "the statement changed nothing",
+        "the rest was not done",
     ),
     (Stop::Paused, "paused", "the run can be continued"),
     (
@@ -112,7 +112,7 @@ const TABLE: [(Stop, &str, &str); 20] = [
     (
         Stop::NoMemory,
         "no such address, or a string with no CR",
-        "the statement stored nothing",
+        "the rest was not done",
     ),
     (
         Stop::OutputFull,
