@@ -53,39 +53,35 @@ const TABLE: [(Stop, &str, &str); 20] = [
     (Stop::Done, "done", "all that was asked was done"),
     (
         Stop::OutOfRange,
-        "a length, position or budget out of range",
+        "length, position or budget out of range",
         "nothing was changed",
     ),
     (
         Stop::PageFull,
         "no room on the page",
-        "the line was taken; the page is as it was",
+        "the page is as it was",
     ),
     (
         Stop::NotImmediate,
-        "only in a program",
-        "the line was taken; nothing was run",
+        "only in a line with a number",
+        "nothing was run",
     ),
-    (
-        Stop::NoReading,
-        "no reading",
-        "the line was taken; nothing was stored",
-    ),
+    (Stop::NoReading, "no reading", "nothing was stored"),
     (
         Stop::BadReply,
         "a reply not in its form",
-        "the reply was taken; no variable was given",
+        "it was taken, nothing given",
     ),
-    (Stop::NoCr, "no CR left in the input", "no byte was taken"),
     (
-        Stop::NoSuchLine,
-        "no such line",
-        "the run stopped before the jump",
+        Stop::NoCr,
+        "no whole line left in the input",
+        "no byte was taken",
     ),
+    (Stop::NoSuchLine, "no such line", "no jump was made"),
     (
         Stop::NoGosub,
         "RETURN with no GOSUB open",
-        "the run stopped there",
+        "the statement changed nothing",
     ),
     (
         Stop::TooDeep,
@@ -95,7 +91,7 @@ const TABLE: [(Stop, &str, &str); 20] = [
     (
         Stop::NoFor,
         "NEXT with no FOR open",
-        "the run stopped there",
+        "the statement changed nothing",
     ),
     (
         Stop::OtherVariable,
@@ -105,18 +101,18 @@ const TABLE: [(Stop, &str, &str); 20] = [
     (
         Stop::DivisionByZero,
         "division by 0",
+        "the rest was not done",
+    ),
+    (Stop::Paused, "paused", "the run can be continued"),
+    (
+        Stop::NoDo,
+        "UNTIL with no DO open",
         "the statement changed nothing",
     ),
     (
-        Stop::Paused,
-        "paused",
-        "the budget is spent; the run can be continued",
-    ),
-    (Stop::NoDo, "UNTIL with no DO open", "the run stopped there"),
-    (
         Stop::NoMemory,
-        "an address outside the memory, or a string with no CR",
-        "the statement stored nothing",
+        "no such address, or a string with no CR",
+        "the rest was not done",
     ),
     (
         Stop::OutputFull,
@@ -126,7 +122,7 @@ const TABLE: [(Stop, &str, &str); 20] = [
     (Stop::BadPage, "the page is bad", "nothing was changed"),
     (
         Stop::BadRecord,
-        "the session record does not fit the page",
+        "the record does not fit the page",
         "nothing was changed",
     ),
     (Stop::End, "END", "all statements before it have run"),
@@ -179,7 +175,7 @@ impl Stop {
     /// What the call did, or did not.
     ///
     /// ```
-    /// assert_eq!(nibl::Stop::NoReading.effect(), "the line was taken; nothing was stored");
+    /// assert_eq!(nibl::Stop::NoReading.effect(), "nothing was stored");
     /// ```
     pub fn effect(self) -> &'static str {
         self.row().2
