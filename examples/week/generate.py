@@ -6,7 +6,8 @@ was milked comes again when she has made enough milk to be willing; one that was
 hour or so, impatient ones after minutes. A cow that finds the box taken or washing mostly waits for her turn, and now and
 then walks up to the gate all the same. At a box there is at most one visit in a minute.
 
-The seed is one of those in which cow 118, slow and impatient, is the first to come in early by the leftover line.
+The seed is one of those in which cow 118, slow and impatient, is the first to come in early by the leftover line, by the whole
+40 minutes, and in which some visit falls on the very minute at which each interval of the rules is over.
 """
 import csv
 import heapq
@@ -17,10 +18,11 @@ import sys
 import onpaper
 from onpaper import DAY
 
-SEED = 31
+SEED = 293
 WEEK = 7 * DAY
 SLOW = (9, 23, 31, 42, 50, 57, 66, 74, 85, 97, 103, 111, 118, 126, 134, 139, 148, 155, 163, 172, 186, 193)
 IMPATIENT = (17, 31, 66, 80, 97, 118, 126, 144, 155, 172, 186, 199)
+FRESH = (17, 199)
 BLOCKED = {12: WEEK, 36: 2 * DAY + 6 * 60, 71: 4 * DAY + 9 * 60, 88: DAY + 7 * 60 + 30, 151: WEEK, 190: 5 * DAY + 15 * 60}
 STRAYS = (27, 80, 129, 164)  # cows that now and then get into another group
 
@@ -49,8 +51,10 @@ def litres_at(days):
 
 def make_cow(number, chance):
     days = chance.between(1, 310)
-    if number in SLOW:
+    if number in SLOW or number in IMPATIENT:
         days = chance.between(35, 170)
+    if number in FRESH:
+        days = chance.between(2, 15)
     litres = litres_at(days) * (0.8 + 0.35 * chance.random())
     flow = chance.between(13, 19) if number in SLOW else chance.about(31, 8)
     return {
@@ -80,9 +84,10 @@ class Barn:
     def willing(self, cow):
         """Minutes from the end of a milking until she comes again by herself."""
         if cow["cow"] in IMPATIENT:
-            return self.chance.between(296, 322) if cow["cow"] in SLOW else self.chance.between(255, 300)
+            may = 240 if cow["cow"] in FRESH else onpaper.OLD if cow["cow"] in SLOW else 300
+            return may + self.chance.between(-24, 2)
         wait = max(250, 7 * DAY // cow["litres"]) + self.chance.about(320, 300)
-        return wait if self.chance.happens(0.92) else self.chance.between(20, 200)
+        return wait if self.chance.happens(0.88) else self.chance.between(20, 200)
 
     def back(self, cow):
         """Minutes until a refused cow comes back."""

@@ -9,6 +9,7 @@ const OUTPUT: usize = 8192;
 const BUDGET: usize = 1000;
 
 const CR: u8 = 13;
+const LF: u8 = 10;
 
 /// The bits of the sense byte that the boxes set.
 pub const TAKEN: u8 = 16;
@@ -84,14 +85,17 @@ impl Gate {
             }
             at = answer.inpos;
         }
-        Ok(())
+        match lines[at..].iter().all(|byte| *byte == LF) {
+            true => Ok(()),
+            false => Err("the last typed line does not end in CR".to_string()),
+        }
     }
 
     /// What LIST writes.
-    pub fn listing(&mut self) -> Result<Vec<u8>, String> {
+    pub fn listing(&mut self) -> Result<String, String> {
         let answer = self.take(b"LIST\r", Call::at(0, 0, BUDGET));
         match answer.stop {
-            Stop::Done => Ok(self.output[..answer.outpos].to_vec()),
+            Stop::Done => Ok(self.written(answer)),
             stop => Err(format!("LIST stopped with {stop}")),
         }
     }
@@ -99,40 +103,27 @@ impl Gate {
     /// Asks about a visit: lends its bytes and the sense, runs, and reads the decision.
     pub fn ask(&mut self, question: &Question) -> Result<Decision, String> {
         self.lend(question);
-        let call = Call {
-            sense: question.sense,
-            ..Call::at(0, 0, BUDGET)
-        };
-        let answer = self.take(b"RUN\r", call);
+        let answer = self.take(b"RUN\r", call(question, 0, BUDGET));
         self.decision(answer)
     }
 
-    /// The lines that a visit goes through, one step after the other: a line that follows itself stands once.
+    /// The lines that a visit goes through, step by step: a line that follows itself stands once.
     pub fn trace(&mut self, question: &Question) -> Result<Vec<u16>, String> {
         self.lend(question);
-        let one_step = Call {
-            sense: question.sense,
-            ..Call::at(0, 0, 1)
-        };
         let mut lines = Vec::new();
-        let mut answer = self.take(
-            b"RUN\r",
-            Call {
-                budget: 0,
-                ..one_step
-            },
-        );
-        while answer.stop == Stop::Paused {
+        let mut answer = self.take(b"RUN\r", call(question, 0, 0));
+        while answer.stop == Stop::Paused && lines.len() < BUDGET {
             lines.push(self.next_line());
-            let call = Call {
-                outpos: answer.outpos,
-                ..one_step
-            };
-            answer = self.controller.continue_run(&[], &mut self.output, call);
+            let step = call(question, answer.outpos, 1);
+            answer = self.controller.continue_run(&[], &mut self.output, step);
         }
         self.decision(answer)?;
         lines.dedup();
         Ok(lines)
+    }
+
+    fn written(&self, answer: Answer) -> String {
+        String::from_utf8_lossy(&self.output[..answer.outpos]).into_owned()
     }
 
     fn take(&mut self, input: &[u8], call: Call) -> Answer {
@@ -165,13 +156,12 @@ impl Gate {
             return Err(format!("the rule book stopped with {}{line}", answer.stop));
         };
         let memory = &self.controller.memory;
-        let display = String::from_utf8_lossy(&self.output[..answer.outpos]);
         Ok(Decision {
             admitted: self.controller.record.flags & OPEN != 0,
             rule: memory[RULE],
             interval: i16::from_le_bytes([memory[INTERVAL], memory[INTERVAL + 1]]),
             line,
-            display: display.trim().to_string(),
+            display: self.written(answer).trim().to_string(),
         })
     }
 
@@ -185,5 +175,13 @@ impl Gate {
             line += usize::from(page[line + 2]);
         }
         u16::from_be_bytes([page[line], page[line + 1]])
+    }
+}
+
+/// The numbers of a call for a visit.
+fn call(question: &Question, outpos: usize, budget: usize) -> Call {
+    Call {
+        sense: question.sense,
+        ..Call::at(0, outpos, budget)
     }
 }

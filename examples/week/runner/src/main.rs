@@ -41,15 +41,26 @@ fn tell(folder: &Path, out: &Path) -> Result<(), String> {
     let began = Instant::now();
     let weeks = Weeks::decide(&folder)?;
     let seconds = began.elapsed().as_secs_f32();
-    let early = early::early(&weeks.leftover, &mut weeks::changed(&folder)?)?;
+    let (mut book, mut faulty) = (weeks::changed(&folder)?, weeks::with_leftover(&folder)?);
+    let early = early::early(&weeks.leftover, &mut book)?;
     let trace = match early.first() {
-        Some(first) => weeks::with_leftover(&folder)?.trace(&first.outcome.question)?,
+        Some(first) => faulty.trace(&first.outcome.question)?,
         None => Vec::new(),
     };
     let sums = sums::sums(&folder.herd, folder.rules.len(), &weeks.right);
     let told = [
-        Told::new("Line 240 retyped", &weeks.right, &[]),
-        Told::new("Old line left at 241", &weeks.leftover, &early),
+        Told {
+            name: "Line 240 retyped",
+            listing: book.listing()?,
+            outcomes: &weeks.right,
+            early: &[],
+        },
+        Told {
+            name: "Old line left at 241",
+            listing: faulty.listing()?,
+            outcomes: &weeks.leftover,
+            early: &early,
+        },
     ];
     let files = [
         ("report.csv", report::report(&weeks.right, &folder.rules)),

@@ -1,7 +1,5 @@
 //! The picture: one HTML file with all that it shows.
 
-use std::fmt::Write;
-
 use crate::barn::{Outcome, CHANGED};
 use crate::early::Early;
 use crate::tables::Cow;
@@ -13,54 +11,62 @@ const DATA: &str = "/*DATA*/";
 
 /// A week under a name, for the picture.
 pub struct Told<'a> {
-    name: &'a str,
-    outcomes: &'a [Outcome],
-    early: &'a [Early],
-}
-
-impl<'a> Told<'a> {
-    pub fn new(name: &'a str, outcomes: &'a [Outcome], early: &'a [Early]) -> Told<'a> {
-        Told {
-            name,
-            outcomes,
-            early,
-        }
-    }
+    pub name: &'a str,
+    /// The rule program from the change on: what LIST writes.
+    pub listing: String,
+    pub outcomes: &'a [Outcome],
+    pub early: &'a [Early],
 }
 
 pub fn picture(herd: &[Cow], rules: &[String], weeks: &[Told]) -> String {
     let mut data = format!("{{\"changed\":{CHANGED},\"rules\":[");
-    separated(&mut data, rules, |data, name| write!(data, "\"{name}\""));
+    separated(&mut data, rules, |data, name| data.push_str(&quoted(name)));
     data += "],\n\"herd\":[";
-    separated(&mut data, herd, |data, cow| {
-        let Cow {
-            number,
-            home,
-            litres,
-            flow,
-            days,
-            ..
-        } = cow;
-        write!(
-            data,
-            "[{number},{home},{litres},{flow},{days},{}]",
-            cow.blocked_until
-        )
-    });
+    separated(&mut data, herd, cow);
     data += "],\n\"weeks\":[";
     separated(&mut data, weeks, |data, week| {
-        write!(data, "{{\"name\":\"{}\",\n\"visits\":[", week.name)?;
+        *data += &format!("{{\"name\":{},\n\"listing\":[", quoted(week.name));
+        let lines: Vec<&str> = week.listing.lines().collect();
+        separated(data, &lines, |data, line| listed(data, line));
+        data.push_str("],\n\"visits\":[");
         separated(data, week.outcomes, |data, outcome| {
             visit(data, outcome, week.early)
         });
-        data.write_str("]}")
+        data.push_str("]}");
     });
     data += "]}";
     PAGE.replace(DATA, &data)
 }
 
+/// A cow as numbers: number, box, litres, flow, days, blocked until.
+fn cow(data: &mut String, cow: &Cow) {
+    let (number, home, litres, flow) = (cow.number, cow.home, cow.litres, cow.flow);
+    *data += &format!(
+        "[{number},{home},{litres},{flow},{},{}]",
+        cow.days, cow.blocked_until
+    );
+}
+
+/// A line of the listing: its number and its text.
+fn listed(data: &mut String, line: &str) {
+    let digits = line
+        .find(|sign: char| !sign.is_ascii_digit())
+        .unwrap_or(line.len());
+    let (number, text) = line.split_at(digits);
+    *data += &format!("[{number},{}]", quoted(text));
+}
+
+/// A text as JavaScript has it in a page: no quote ends it early, and no "<" begins a tag.
+fn quoted(text: &str) -> String {
+    let inner = text
+        .replace('\\', "\\\\")
+        .replace('"', "\\\"")
+        .replace('<', "\\u003c");
+    format!("\"{inner}\"")
+}
+
 /// A visit as numbers: minute, box, cow, admitted, rule, interval, line, minutes milked, minutes too early.
-fn visit(data: &mut String, outcome: &Outcome, early: &[Early]) -> std::fmt::Result {
+fn visit(data: &mut String, outcome: &Outcome, early: &[Early]) {
     let (visit, decision) = (&outcome.visit, &outcome.decision);
     let is_this = |early: &&Early| {
         let other = &early.outcome.visit;
@@ -70,22 +76,15 @@ fn visit(data: &mut String, outcome: &Outcome, early: &[Early]) -> std::fmt::Res
     let (minute, at, cow) = (visit.minute, visit.at, outcome.question.cow);
     let (admitted, rule) = (u8::from(decision.admitted), decision.rule);
     let (interval, line, took) = (decision.interval, decision.line, outcome.took);
-    write!(
-        data,
-        "[{minute},{at},{cow},{admitted},{rule},{interval},{line},{took},{by}]"
-    )
+    *data += &format!("[{minute},{at},{cow},{admitted},{rule},{interval},{line},{took},{by}]");
 }
 
 /// Writes items with a comma and a line end between them.
-fn separated<T>(
-    data: &mut String,
-    items: &[T],
-    mut item: impl FnMut(&mut String, &T) -> std::fmt::Result,
-) {
+fn separated<T>(data: &mut String, items: &[T], mut item: impl FnMut(&mut String, &T)) {
     for (at, one) in items.iter().enumerate() {
         if at > 0 {
             data.push_str(",\n");
         }
-        item(data, one).expect("a string takes all that is written");
+        item(data, one);
     }
 }

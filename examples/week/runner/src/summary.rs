@@ -27,7 +27,7 @@ pub fn counts(sums: &[Sum], rules: &[String]) -> String {
 
 /// The week with the old line left at 241, held to the right one.
 pub fn fault(weeks: &Weeks, early: &[Early], trace: &[u16]) -> String {
-    let mut text = "\nHad the old line been left behind the retyped one:\n".to_string();
+    let mut text = "\nWith the old line left behind the retyped one:\n".to_string();
     let (in_by_fault, out_by_fault) = otherwise(&weeks.leftover, &weeks.right);
     for Early { outcome, by } in early {
         let (time, cow, at) = (
@@ -44,14 +44,8 @@ pub fn fault(weeks: &Weeks, early: &[Early], trace: &[u16]) -> String {
     line(
         &mut text,
         format_args!(
-            "{} visits let in early; against the right week {in_by_fault} more come in, and",
+            "{} visits let in early. Of all, {in_by_fault} come in that stayed out in the right week, {out_by_fault} stay out that came in.",
             early.len()
-        ),
-    );
-    line(
-        &mut text,
-        format_args!(
-            "{out_by_fault} stay out, since the cow had just been milked or found the box taken."
         ),
     );
     if let Some(first) = early.first() {

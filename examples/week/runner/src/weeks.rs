@@ -38,7 +38,7 @@ impl Weeks {
 
 /// A gate with an empty page, into which the other's listing is typed.
 fn retyped_listing(gate: &mut Gate) -> Result<Gate, String> {
-    Gate::with(&gate.listing()?)
+    Gate::with(gate.listing()?.as_bytes())
 }
 
 /// The rule book as it should be from Thursday on.
