@@ -2,9 +2,9 @@
  * The milking gate's controller: a proved NIBL interpreter, for C. Link the archive that tools/library prints.
  *
  * Everything is lent by the host and everything is kept by the host: the library has no state of its own, takes nothing
- * from the heap and calls no function of the host. Only numbers, pointers and lengths cross. Any bits may be lent: what
- * is out of range, a bad page and a record that does not fit are refused by a stop number, and change nothing.
- * docs/EMBEDDING.md says more.
+ * from the heap, and needs no other function than C's memcpy and memset. Only numbers, pointers and lengths cross. Any
+ * bits may be lent: what is out of range, a bad page and a record that does not fit are refused by a stop number, and
+ * change nothing. docs/EMBEDDING.md says more.
  */
 #ifndef NIBL_H
 #define NIBL_H

@@ -30,7 +30,7 @@ fn every_field_of_the_record_crosses_both_ways() {
         (record.gosubs.depth, record.dos.depth, record.fors.depth),
         (1, 1, 1)
     );
-    let text = b"\x00\x0a\x26 FOR Z=1 TO 5 STEP 2:DO:GOSUB 30\r";
+    let text = b"\x00\x0a\x24 FOR Z=1 TO 5 STEP 2:DO:GOSUB 30\r";
     let ends: Vec<u16> = (3..text.len() as u16)
         .filter(|&at| b":\r".contains(&text[usize::from(at)]))
         .collect();
@@ -107,7 +107,7 @@ fn what_is_out_of_range_is_refused_and_changes_nothing() {
 #[test]
 fn lengths_at_and_past_their_limits() {
     let stop = |page, memory, input: usize, output: usize| {
-        let mut input = vec![b' '; input];
+        let mut input = vec![0; input]; // which are dropped
         if let Some(last) = input.last_mut() {
             *last = 13;
         }

@@ -1,6 +1,7 @@
 //! One call of the controller as a line of JSON, and what it left.
 
-use std::fmt::Write;
+use std::fmt::Write as _;
+use std::io::{self, BufRead, Write};
 
 use crate::calls::{continue_run, take_line, Answer, Lent};
 use crate::json::{parse, push_bytes, push_list, Json};
@@ -27,15 +28,15 @@ pub struct Case {
     pub record: Record,
 }
 
-/// Why a line does not give a case.
+/// Why a line does not give a call.
 #[derive(Clone, Debug, PartialEq, Eq)]
 pub enum Unread {
-    /// It is a case, but a number is too wide for its field of the record.
+    /// It is a case, but it cannot be put into the record.
     Skip,
     Error(String),
 }
 
-type Reading<T> = Result<T, Unread>;
+pub type Reading<T> = Result<T, Unread>;
 
 impl Case {
     /// Makes the call. Afterwards the case holds what the call left.
@@ -117,17 +118,37 @@ impl Case {
 
 /// Answers one line of a case driver's input.
 pub fn drive(line: &[u8]) -> String {
-    match Case::read(line) {
-        Ok(mut case) => {
-            let answer = case.run();
-            case.write_outcome(&answer)
-        }
+    drive_by(line, |case| Ok(case.run()))
+}
+
+/// Answers one line of a case driver's input by whoever makes the call. Afterwards the case holds what it left.
+pub fn drive_by(line: &[u8], make: impl Fn(&mut Case) -> Reading<Answer>) -> String {
+    let outcome = Case::read(line).and_then(|mut case| {
+        let answer = make(&mut case)?;
+        Ok(case.write_outcome(&answer))
+    });
+    match outcome {
+        Ok(outcome) => outcome,
         Err(Unread::Skip) => "{\"skip\":true}".to_string(),
         Err(Unread::Error(what)) => {
             let what: String = what.chars().filter(|c| !"\"\\".contains(*c)).collect();
             format!("{{\"error\":\"{what}\"}}")
         }
     }
+}
+
+/// A case driver: each line of standard input is answered on standard output.
+pub fn serve(drive: impl Fn(&[u8]) -> String) -> io::Result<()> {
+    let mut input = io::stdin().lock();
+    let mut sink = io::stdout().lock();
+    let mut line = Vec::new();
+    while input.read_until(b'\n', &mut line)? > 0 {
+        // One write a case, so that whoever holds the other end can wait for it.
+        let outcome = drive(line.trim_ascii_end()) + "\n";
+        sink.write_all(outcome.as_bytes())?;
+        line.clear();
+    }
+    Ok(())
 }
 
 fn error<T>(what: impl Into<String>) -> Reading<T> {
@@ -163,7 +184,7 @@ fn list<const N: usize>(json: &Json) -> Reading<&[Json; N]> {
     }
 }
 
-fn number(json: &Json) -> Reading<i64> {
+fn number(json: &Json) -> Reading<i128> {
     match json {
         Json::Number(number) => Ok(*number),
         _ => error("no number"),
@@ -171,7 +192,7 @@ fn number(json: &Json) -> Reading<i64> {
 }
 
 /// A number of the call: one that does not fit makes the line no case.
-fn lent_number<T: TryFrom<i64>>(json: &Json) -> Reading<T> {
+fn lent_number<T: TryFrom<i128>>(json: &Json) -> Reading<T> {
     let number = number(json)?;
     number
         .try_into()
@@ -179,7 +200,7 @@ fn lent_number<T: TryFrom<i64>>(json: &Json) -> Reading<T> {
 }
 
 /// A number of the record: one that does not fit is skipped.
-fn field<T: TryFrom<i64>>(json: &Json) -> Reading<T> {
+fn field<T: TryFrom<i128>>(json: &Json) -> Reading<T> {
     number(json)?.try_into().map_err(|_| Unread::Skip)
 }
 
@@ -270,13 +291,13 @@ fn without_dead_slots(record: &Record) -> Record {
         stack
             .places
             .iter_mut()
-            .skip(stack.depth as usize)
+            .skip(stack.depth)
             .for_each(|slot| *slot = Place::default());
     }
     let fors = &mut shown.fors;
     fors.entries
         .iter_mut()
-        .skip(fors.depth as usize)
+        .skip(fors.depth)
         .for_each(|slot| *slot = ForEntry::default());
     shown
 }

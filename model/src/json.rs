@@ -4,7 +4,7 @@
 pub enum Json {
     Null,
     Bool(bool),
-    Number(i64),
+    Number(i128),
     Text(String),
     List(Vec<Json>),
     /// The entries as they stand, a repeated key included.
@@ -91,18 +91,15 @@ impl Parser<'_> {
     fn number(&mut self) -> Result<Json, String> {
         let negative = self.accept(b'-');
         let start = self.position;
-        let mut value: i64 = 0;
-        while let Some(digit @ b'0'..=b'9') = self.peek() {
-            let shifted = value.checked_mul(10);
-            let next = shifted.and_then(|value| value.checked_add(i64::from(digit - b'0')));
-            value = next.ok_or_else(|| self.complaint("too large a number"))?;
+        while let Some(b'0'..=b'9') = self.peek() {
             self.position += 1;
         }
-        let digits = self.position - start;
-        let leading_zero = digits > 1 && self.text[start] == b'0';
-        if digits == 0 || leading_zero || matches!(self.peek(), Some(b'.' | b'e' | b'E')) {
+        let digits = &self.text[start..self.position];
+        let leading_zero = digits.len() > 1 && digits[0] == b'0';
+        if digits.is_empty() || leading_zero || matches!(self.peek(), Some(b'.' | b'e' | b'E')) {
             return Err(self.complaint("no whole number"));
         }
+        let value = whole(digits).ok_or_else(|| self.complaint("too large a number"))?;
         Ok(Json::Number(if negative { -value } else { value }))
     }
 
@@ -158,6 +155,16 @@ impl Parser<'_> {
             }
         }
     }
+}
+
+/// The number of these digits. Most are few: then 64 bits do.
+fn whole(digits: &[u8]) -> Option<i128> {
+    const FEW: usize = 18;
+    if digits.len() > FEW {
+        return std::str::from_utf8(digits).ok()?.parse().ok();
+    }
+    let add = |value: i64, &digit: &u8| 10 * value + i64::from(digit - b'0');
+    Some(digits.iter().fold(0, add).into())
 }
 
 /// Writes a list, each entry by `write`.

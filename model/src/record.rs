@@ -24,7 +24,7 @@ pub const FORS_DEEP: usize = 4;
 /// The stack of GOSUBs, and that of DOs.
 #[derive(Clone, Copy, Debug, Default, PartialEq, Eq)]
 pub struct PlaceStack {
-    pub depth: u32,
+    pub depth: usize,
     pub places: [Place; PLACES_DEEP],
 }
 
@@ -38,7 +38,7 @@ pub struct ForEntry {
 
 #[derive(Clone, Copy, Debug, Default, PartialEq, Eq)]
 pub struct ForStack {
-    pub depth: u32,
+    pub depth: usize,
     pub entries: [ForEntry; FORS_DEEP],
 }
 
@@ -60,8 +60,8 @@ pub struct Record {
 }
 
 /// The entries in use, or `None` if the depth is past what the stack holds.
-fn in_use<T>(depth: u32, slots: &[T]) -> Option<&[T]> {
-    slots.get(..usize::try_from(depth).ok()?)
+fn in_use<T>(depth: usize, slots: &[T]) -> Option<&[T]> {
+    slots.get(..depth)
 }
 
 impl PlaceStack {
@@ -74,12 +74,12 @@ impl PlaceStack {
     }
 
     pub fn is_full(&self) -> bool {
-        self.depth as usize >= PLACES_DEEP
+        self.depth >= PLACES_DEEP
     }
 
     /// Only for a stack that is not full.
     pub fn push(&mut self, place: Place) {
-        self.places[self.depth as usize] = place;
+        self.places[self.depth] = place;
         self.depth += 1;
     }
 
@@ -98,12 +98,12 @@ impl ForStack {
     }
 
     pub fn is_full(&self) -> bool {
-        self.depth as usize >= FORS_DEEP
+        self.depth >= FORS_DEEP
     }
 
     /// Only for a stack that is not full.
     pub fn push(&mut self, entry: ForEntry) {
-        self.entries[self.depth as usize] = entry;
+        self.entries[self.depth] = entry;
         self.depth += 1;
     }
 

@@ -73,7 +73,8 @@ fn numbers_too_wide_for_the_record_are_skipped() {
         ("[-32768,", "[-32769,"),
         ("32767]", "32768]"),
         ("[65535,2", "[65536,2"),
-        ("\"gosub\":[1,", "\"gosub\":[4294967296,"),
+        ("\"gosub\":[1,", "\"gosub\":[18446744073709551616,"),
+        ("\"gosub\":[1,", "\"gosub\":[-1,"),
         ("\"var\":1,", "\"var\":256,"),
         ("\"limit\":-2", "\"limit\":40000"),
         ("{\"start\":true}", "{\"at\":65536}"),
@@ -88,7 +89,8 @@ fn numbers_too_wide_for_the_record_are_skipped() {
 fn garbage_that_fits_its_field_is_a_case() {
     let garbage = [
         ("\"flags\":3", "\"flags\":255"),
-        ("\"gosub\":[1,", "\"gosub\":[4294967295,"),
+        ("\"gosub\":[1,", "\"gosub\":[4294967297,"),
+        ("\"gosub\":[1,", "\"gosub\":[18446744073709551615,"),
         ("\"do\":[0,", "\"do\":[1,"),
         ("\"for\":[0,", "\"for\":[200,"),
         ("{\"start\":true}", "{\"at\":65535}"),

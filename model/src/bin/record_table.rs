@@ -44,7 +44,7 @@ impl Input {
     }
 
     /// A depth, and the slots that are given, as many as there are.
-    fn stack<T>(&mut self, slots: &mut [T], mut slot: impl FnMut(&mut Input) -> T) -> u32 {
+    fn stack<T>(&mut self, slots: &mut [T], mut slot: impl FnMut(&mut Input) -> T) -> usize {
         let depth = self.number();
         let given = usize::from(self.byte());
         for at in 0..given {
@@ -144,13 +144,13 @@ fn push_number(out: &mut Vec<u8>, number: usize) {
 /// The depth, and the slots up to the last that holds more than 0.
 fn push_stack<T: Default + PartialEq>(
     out: &mut Vec<u8>,
-    depth: u32,
+    depth: usize,
     slots: &[T],
     push: impl Fn(&mut Vec<u8>, &T),
 ) {
     let last = slots.iter().rposition(|slot| *slot != T::default());
     let given = &slots[..last.map_or(0, |last| last + 1)];
-    push_number(out, depth as usize);
+    push_number(out, depth);
     out.push(given.len() as u8);
     given.iter().for_each(|slot| push(out, slot));
 }

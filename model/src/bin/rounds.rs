@@ -238,7 +238,7 @@ fn typed(page: &mut [u8], mut record: Record) -> u16 {
     let found = [
         answer.stop as usize,
         answer.input_position as usize,
-        record.gosubs.depth as usize,
+        record.gosubs.depth,
         page[CHANGED].into(),
     ];
     found.into_iter().fold(0, add)

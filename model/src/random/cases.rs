@@ -9,7 +9,7 @@ use crate::case::{Call, Case};
 use crate::page::read_page;
 
 /// Memory bytes: mostly letters and CRs, so that strings are found.
-fn memory(random: &mut Random, size: Size) -> Vec<u8> {
+pub fn memory(random: &mut Random, size: Size) -> Vec<u8> {
     let most = match size {
         Size::Small => 40,
         Size::Full => 400,
@@ -45,7 +45,7 @@ fn output(random: &mut Random, size: Size) -> (Vec<u8>, u32) {
     (output, used as u32)
 }
 
-fn budget(random: &mut Random, size: Size) -> u32 {
+pub fn budget(random: &mut Random, size: Size) -> u32 {
     let budget = match (size, random.below(20)) {
         (_, 0) => 0,
         (_, 1..=7) => random.between(1, 8),
@@ -57,7 +57,7 @@ fn budget(random: &mut Random, size: Size) -> u32 {
 }
 
 /// The input: bytes already taken, what this call is to take, and more.
-fn input(random: &mut Random, setting: Setting, call: Call) -> (Vec<u8>, u32) {
+pub fn input(random: &mut Random, setting: Setting, call: Call) -> (Vec<u8>, u32) {
     let mut input: Vec<u8> = (0..random.below(4)).map(|_| random.byte()).collect();
     let taken = input.len() as u32;
     if call == Call::Line {

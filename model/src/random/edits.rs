@@ -62,6 +62,13 @@ pub fn sequences(random: &mut Random) -> Vec<Sequence> {
     sequences
 }
 
+/// On a page of one of the lengths, the shorter ones more often.
+pub fn any_sequence(random: &mut Random) -> Sequence {
+    let weights = PAGES.map(|(_, pages, _)| pages);
+    let (length, _, lines) = PAGES[random.weighted(&weights)];
+    sequence(random, length, lines)
+}
+
 fn sequence(random: &mut Random, length: usize, lines: usize) -> Sequence {
     let mut typist = Typist {
         random,

@@ -101,7 +101,19 @@ pub fn fitting(random: &mut Random, program: &Program) -> Record {
 
 /// Makes one field of the record garbage; by chance it may still fit.
 pub fn spoil(random: &mut Random, record: &mut Record) {
-    let wide = [5, 8, 9, 10, 200, 255, 256, 65_535, u32::MAX];
+    let wide = [
+        5,
+        8,
+        9,
+        10,
+        200,
+        255,
+        256,
+        65_535,
+        1 << 32,
+        (1 << 32) + 2,
+        usize::MAX,
+    ];
     match random.below(10) {
         0 => record.flags = random.byte(),
         1 => record.gosubs.depth = *random.pick(&wide),
@@ -114,7 +126,7 @@ pub fn spoil(random: &mut Random, record: &mut Record) {
         8 => record.paused = Some(Pause::After(garbage_place(random))),
         _ => {
             record.gosubs = PlaceStack {
-                depth: random.below(10) as u32,
+                depth: random.below(10),
                 places: [0; 8].map(|_| garbage_place(random)),
             }
         }
@@ -179,7 +191,7 @@ pub fn misplace(random: &mut Random, record: &mut Record, program: &Program, len
 /// A slot in use; a stack that has none gets one.
 fn live_place<'a>(random: &mut Random, stack: &'a mut PlaceStack) -> &'a mut Place {
     stack.depth = stack.depth.max(1);
-    &mut stack.places[random.below(stack.depth as usize)]
+    &mut stack.places[random.below(stack.depth)]
 }
 
 fn live_for<'a>(
@@ -191,7 +203,7 @@ fn live_for<'a>(
         let place = true_place(random, program).unwrap_or_default();
         record.fors.push(entry(random, place));
     }
-    &mut record.fors.entries[random.below(record.fors.depth as usize)]
+    &mut record.fors.entries[random.below(record.fors.depth)]
 }
 
 /// Any record for a page that may be bad itself.

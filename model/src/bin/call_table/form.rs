@@ -139,7 +139,7 @@ fn push_lent(out: &mut Vec<u8>, lent: &[u8]) {
 }
 
 fn push_places(out: &mut Vec<u8>, stack: &PlaceStack) {
-    push_number(out, stack.depth as usize);
+    push_number(out, stack.depth);
     let places = stack.places.iter();
     places.for_each(|place| out.extend(place.0.to_be_bytes()));
 }
@@ -151,7 +151,7 @@ fn push_record(out: &mut Vec<u8>, record: &Record) {
     out.extend(pause(record.paused).to_be_bytes());
     push_places(out, &record.gosubs);
     push_places(out, &record.dos);
-    push_number(out, record.fors.depth as usize);
+    push_number(out, record.fors.depth);
     for entry in &record.fors.entries {
         out.push(entry.variable);
         out.extend(entry.limit.to_be_bytes());

@@ -1,0 +1,84 @@
+//! What the calls answered, counted.
+
+use std::time::{Duration, Instant};
+
+use model::case::Call;
+use model::{Answer, Stop};
+
+/// From so many cases on, each stop must have come up in each call that can give it.
+const ENOUGH: usize = 1000;
+
+/// How often it is said on standard error how far it is.
+const EVERY: Duration = Duration::from_secs(2);
+
+pub struct Tally {
+    began: Instant,
+    said: Instant,
+    pub cases: usize,
+    pub calls: usize,
+    pub skipped: usize,
+    pub differ: usize,
+    /// By stop number: typed lines, continued runs.
+    stops: [[usize; 2]; 21],
+}
+
+/// A continued run reads no typed line and edits nothing.
+fn can_give(call: Call, stop: Stop) -> bool {
+    let of_lines = [Stop::PageFull, Stop::NotImmediate, Stop::NoReading];
+    call == Call::Line || !of_lines.contains(&stop)
+}
+
+impl Tally {
+    pub fn new() -> Tally {
+        let now = Instant::now();
+        Tally {
+            began: now,
+            said: now,
+            cases: 0,
+            calls: 0,
+            skipped: 0,
+            differ: 0,
+            stops: [[0; 2]; 21],
+        }
+    }
+
+    pub fn count(&mut self, call: Call, answer: &Answer) {
+        self.stops[usize::from(answer.stop.number())][call as usize] += 1;
+    }
+
+    fn a_second(&self) -> f64 {
+        self.cases as f64 / self.began.elapsed().as_secs_f64()
+    }
+
+    /// Says now and then how far it is.
+    pub fn progress(&mut self, of: usize) {
+        if self.said.elapsed() >= EVERY {
+            self.said = Instant::now();
+            let (cases, differ, rate) = (self.cases, self.differ, self.a_second());
+            eprintln!("compare: {cases} of {of} cases, {rate:.0} a second, {differ} differ");
+        }
+    }
+
+    /// Prints the counts, and hands back whether all is well.
+    pub fn finish(&self) -> bool {
+        let mut missing = 0;
+        println!("stop  typed lines  continued runs");
+        for stop in Stop::ALL {
+            let [lines, runs] = self.stops[usize::from(stop.number())];
+            println!("{:4}  {lines:11}  {runs:14}", stop.number());
+            for (call, count) in [(Call::Line, lines), (Call::Continue, runs)] {
+                missing += usize::from(count == 0 && can_give(call, stop));
+            }
+        }
+        let (seconds, rate) = (self.began.elapsed().as_secs_f64(), self.a_second());
+        println!(
+            "{} cases, {} calls in {seconds:.1} s, {rate:.0} cases a second: {} differ, {} skipped",
+            self.cases, self.calls, self.differ, self.skipped
+        );
+        let covered = missing == 0 || self.cases < ENOUGH;
+        if !covered {
+            println!("{missing} stops of a call did not come up");
+        }
+        covered && self.differ == 0 && self.skipped == 0 && self.calls > 0
+    }
+}

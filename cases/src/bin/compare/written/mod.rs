@@ -1,0 +1,44 @@
+//! Lists of what the rules treat apart, each entry tried through the calls.
+
+mod pages;
+mod programs;
+mod texts;
+mod values;
+
+use model::case::{Call, Case};
+use model::random::pages::{render, Lines};
+use model::{Answer, Record};
+
+/// Takes a case, and how often its run is continued where it is paused.
+pub type Visit<'a> = dyn FnMut(Case, usize) + 'a;
+
+pub fn each(visit: &mut Visit) {
+    values::each(visit);
+    texts::each(visit);
+    pages::each(visit);
+    programs::each(visit);
+}
+
+/// A line typed on a page with these lines, much lent of everything.
+fn typed(lines: &Lines, input: &[u8]) -> Case {
+    Case {
+        call: Call::Line,
+        page: render(lines),
+        memory: vec![13; 64],
+        input: input.to_vec(),
+        output: vec![0; 200],
+        input_position: 0,
+        output_position: 0,
+        budget: 100,
+        sense: 0x5a,
+        record: Record::default(),
+    }
+}
+
+/// The case that goes on where this one is paused.
+pub fn continued(mut case: Case, answer: &Answer) -> Case {
+    case.call = Call::Continue;
+    case.input_position = answer.input_position;
+    case.output_position = answer.output_position;
+    case
+}

@@ -1,0 +1,70 @@
+//! The library's driver beside the model's.
+
+use model::case::{drive, drive_by, Case};
+use model::random::cases::case;
+use model::random::{Random, Size};
+use model::{Pause, Place, Record};
+
+const SKIP: &str = "{\"skip\":true}";
+
+fn by_library(line: &str) -> String {
+    drive_by(line.as_bytes(), cases::run)
+}
+
+#[test]
+fn both_drivers_write_the_same_but_for_a_pause_that_the_record_cannot_say() {
+    let mut random = Random::new(1976);
+    for _ in 0..500 {
+        let case = case(&mut random, Size::Full);
+        let line = case.write();
+        let wanted = match case.record.paused {
+            Some(Pause::After(Place(65_534..))) => SKIP.to_string(),
+            _ => drive(line.as_bytes()),
+        };
+        assert_eq!(by_library(&line), wanted, "{line}");
+    }
+}
+
+#[test]
+fn every_pause_up_to_65533_is_taken() {
+    for place in [0, 1, 4095, 32_768, 65_532, 65_533, 65_534, 65_535] {
+        let case = Case {
+            record: Record {
+                paused: Some(Pause::After(Place(place))),
+                ..Record::default()
+            },
+            ..case(&mut Random::new(1), Size::Small)
+        };
+        let line = case.write();
+        assert_eq!(by_library(&line) == SKIP, place > 65_533, "{place}");
+    }
+}
+
+#[test]
+fn depths_of_all_64_bits_are_taken() {
+    let mut sound = case(&mut Random::new(3), Size::Small);
+    sound.record = Record::default();
+    for depth in [9, 1 << 32, (1 << 32) + 1, usize::MAX] {
+        for stack in 0..3 {
+            let mut case = sound.clone();
+            match stack {
+                0 => case.record.gosubs.depth = depth,
+                1 => case.record.dos.depth = depth,
+                _ => case.record.fors.depth = depth,
+            }
+            let line = case.write();
+            let outcome = by_library(&line);
+            assert!(outcome.starts_with("{\"stop\":19,"), "{outcome}");
+            assert_eq!(outcome, drive(line.as_bytes()));
+        }
+    }
+}
+
+#[test]
+fn what_is_no_case_is_answered_as_the_model_does() {
+    for line in ["", "{}", "nothing", "{\"call\":\"line\"}"] {
+        let outcome = by_library(line);
+        assert!(outcome.starts_with("{\"error\":"), "{outcome}");
+        assert_eq!(outcome, drive(line.as_bytes()));
+    }
+}
