@@ -19,10 +19,11 @@ impl Progress {
         }
     }
 
-    /// One more is done: draws the bar when a hundredth of all is done since it was drawn, and ends its line with the last.
+    /// One more is done: draws the bar when one more per cent is, and ends its line with the last.
     pub fn step(&mut self) {
         self.done += 1;
-        if !self.is_shown || (self.done % self.total.div_ceil(100) != 0 && self.done < self.total) {
+        let percent = |done| 100 * done / self.total;
+        if !self.is_shown || percent(self.done) == percent(self.done - 1) {
             return;
         }
         let full = WIDTH * self.done / self.total;
