@@ -61,7 +61,7 @@ impl Trial {
         };
         let left = match made_by_library(&self.case, record, self.numbers, lending) {
             Ok(left) => left,
-            Err(touched) => return Outcome::Differs(format!("{touched} was touched")),
+            Err(touched) => return Outcome::Differs(format!("touched: {touched}")),
         };
         let answer = self.case.run();
         match self.difference(&answer, &left) {
