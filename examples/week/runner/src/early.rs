@@ -2,6 +2,7 @@
 
 use crate::barn::{Outcome, CHANGED};
 use crate::gate::{Gate, Question};
+use crate::tables::WEEK;
 
 /// A visit that the leftover line admitted and the rule book would not have.
 pub struct Early {
@@ -26,12 +27,20 @@ pub fn early(outcomes: &[Outcome], book: &mut Gate) -> Result<Vec<Early>, String
 }
 
 /// The minutes until the rule book says yes, all else staying as it is.
-fn wait(book: &mut Gate, mut question: Question) -> Result<u16, String> {
-    let asked = question.minute;
-    while !book.ask(&question)?.admitted {
-        question.minute += 1;
+fn wait(book: &mut Gate, question: Question) -> Result<u16, String> {
+    for by in 0..WEEK {
+        let later = Question {
+            minute: question.minute + by,
+            ..question
+        };
+        if book.ask(&later)?.admitted {
+            return Ok(by);
+        }
     }
-    Ok(question.minute - asked)
+    let (cow, minute) = (question.cow, question.minute);
+    Err(format!(
+        "cow {cow} came in at minute {minute}, and the rule book would never let her in"
+    ))
 }
 
 /// Visits that two weeks decide otherwise: let in only by the first, and only by the second.

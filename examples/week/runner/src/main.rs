@@ -49,39 +49,38 @@ fn tell(folder: &Path, out: &Path) -> Result<(), String> {
     };
     let sums = sums::sums(&folder.herd, folder.rules.len(), &weeks.right);
     let told = [
-        Told {
-            name: "Line 240 retyped",
-            listing: book.listing()?,
-            outcomes: &weeks.right,
-            early: &[],
-        },
-        Told {
-            name: "Old line left at 241",
-            listing: faulty.listing()?,
-            outcomes: &weeks.leftover,
-            early: &early,
-        },
+        Told::new("Line 240 retyped", &mut book, &weeks.right, &[])?,
+        Told::new("Old line left at 241", &mut faulty, &weeks.leftover, &early)?,
     ];
-    let files = [
-        ("report.csv", report::report(&weeks.right, &folder.rules)),
-        ("sums.csv", report::sums(&sums)),
-        (
-            "leftover.csv",
-            report::report(&weeks.leftover, &folder.rules),
-        ),
-        ("listed.csv", report::report(&weeks.listed, &folder.rules)),
-        ("early.csv", report::early(&early)),
-        (
-            "week.html",
-            picture::picture(&folder.herd, &folder.rules, &told),
-        ),
-    ];
-    for (name, text) in files {
-        let path = out.join(name);
-        fs::write(&path, text).map_err(|error| format!("{}: {error}", path.display()))?;
-    }
+    write(
+        out,
+        "report.csv",
+        report::report(&weeks.right, &folder.rules),
+    )?;
+    write(out, "sums.csv", report::sums(&sums))?;
+    write(
+        out,
+        "leftover.csv",
+        report::report(&weeks.leftover, &folder.rules),
+    )?;
+    write(
+        out,
+        "listed.csv",
+        report::report(&weeks.listed, &folder.rules),
+    )?;
+    write(out, "early.csv", report::early(&early))?;
+    write(
+        out,
+        "week.html",
+        picture::picture(&folder.herd, &folder.rules, &told),
+    )?;
     print!("{}", summary::counts(&sums, &folder.rules));
     print!("{}", summary::fault(&weeks, &early, &trace));
     println!("{} decisions in {seconds:.1} s", 3 * folder.visits.len());
     Ok(())
+}
+
+fn write(out: &Path, name: &str, text: String) -> Result<(), String> {
+    let path = out.join(name);
+    fs::write(&path, text).map_err(|error| format!("{}: {error}", path.display()))
 }

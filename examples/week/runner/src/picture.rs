@@ -2,6 +2,7 @@
 
 use crate::barn::{Outcome, CHANGED};
 use crate::early::Early;
+use crate::gate::Gate;
 use crate::tables::Cow;
 
 const PAGE: &str = include_str!("picture.html");
@@ -11,11 +12,27 @@ const DATA: &str = "/*DATA*/";
 
 /// A week under a name, for the picture.
 pub struct Told<'a> {
-    pub name: &'a str,
+    name: &'a str,
     /// The rule program from the change on: what LIST writes.
-    pub listing: String,
-    pub outcomes: &'a [Outcome],
-    pub early: &'a [Early],
+    listing: String,
+    outcomes: &'a [Outcome],
+    early: &'a [Early],
+}
+
+impl<'a> Told<'a> {
+    pub fn new(
+        name: &'a str,
+        gate: &mut Gate,
+        outcomes: &'a [Outcome],
+        early: &'a [Early],
+    ) -> Result<Told<'a>, String> {
+        Ok(Told {
+            name,
+            listing: gate.listing()?,
+            outcomes,
+            early,
+        })
+    }
 }
 
 pub fn picture(herd: &[Cow], rules: &[String], weeks: &[Told]) -> String {
