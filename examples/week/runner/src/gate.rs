@@ -1,0 +1,187 @@
+//! A gate: the proved controller with a rule book typed into its page, asked about one visit at a time.
+
+use nibl::{Answer, Call, Controller, Stop};
+
+const PAGE: usize = 4096;
+const MEMORY: usize = 19;
+const OUTPUT: usize = 8192;
+/// Steps for a visit; the rule book needs less than a hundred.
+const BUDGET: usize = 1000;
+
+const CR: u8 = 13;
+const LF: u8 = 10;
+
+/// The bits of the sense byte that the boxes set.
+pub const TAKEN: u8 = 16;
+pub const WASHING: u8 = 32;
+
+/// Where in the memory the numbers of a visit stand: README.md has the table.
+const COW: usize = 0;
+const MINUTE: usize = 2;
+const BOX: usize = 4;
+const HOME: usize = 5;
+const LITRES: usize = 6;
+const FLOW: usize = 7;
+const DAYS: usize = 8;
+const BLOCKED: usize = 9;
+const LAST_END: usize = 11;
+const RULE: usize = 16;
+const INTERVAL: usize = 17;
+
+/// The flag that opens the gate.
+const OPEN: u8 = 1;
+
+/// What the rule book is asked.
+#[derive(Clone, Copy, Debug)]
+pub struct Question {
+    pub cow: u16,
+    pub minute: u16,
+    pub at: u8,
+    pub home: u8,
+    pub litres: u8,
+    pub flow: u8,
+    pub days: u8,
+    pub blocked_until: u16,
+    pub last_end: i16,
+    pub sense: u8,
+}
+
+/// What the rule book said.
+#[derive(Clone, Debug, PartialEq, Eq)]
+pub struct Decision {
+    pub admitted: bool,
+    pub rule: u8,
+    /// Minutes since the end of her last milking.
+    pub interval: i16,
+    /// The program line whose END decided, as the controller answered it.
+    pub line: u16,
+    pub display: String,
+}
+
+pub struct Gate {
+    controller: Controller<Vec<u8>, Vec<u8>>,
+    output: Vec<u8>,
+}
+
+impl Gate {
+    /// A gate with this rule book typed into an empty page.
+    pub fn with(book: &[u8]) -> Result<Gate, String> {
+        let mut gate = Gate {
+            controller: Controller::owned(PAGE, MEMORY),
+            output: vec![0; OUTPUT],
+        };
+        gate.type_in(book)?;
+        Ok(gate)
+    }
+
+    /// Types lines, each ended by CR, one after the other. A line that is not taken is an error.
+    pub fn type_in(&mut self, lines: &[u8]) -> Result<(), String> {
+        let mut at = 0;
+        while lines[at..].contains(&CR) {
+            let answer = self.take(lines, Call::at(at, 0, BUDGET));
+            if answer.stop != Stop::Done {
+                let typed = String::from_utf8_lossy(&lines[at..answer.inpos]);
+                return Err(format!("{:?} was refused, {}", typed.trim(), answer.stop));
+            }
+            at = answer.inpos;
+        }
+        match lines[at..].iter().all(|byte| *byte == LF) {
+            true => Ok(()),
+            false => Err("the last typed line does not end in CR".to_string()),
+        }
+    }
+
+    /// What LIST writes.
+    pub fn listing(&mut self) -> Result<String, String> {
+        let answer = self.take(b"LIST\r", Call::at(0, 0, BUDGET));
+        match answer.stop {
+            Stop::Done => Ok(self.written(answer)),
+            stop => Err(format!("LIST stopped with {stop}")),
+        }
+    }
+
+    /// Asks about a visit: lends its bytes and the sense, runs, and reads the decision.
+    pub fn ask(&mut self, question: &Question) -> Result<Decision, String> {
+        self.lend(question);
+        let answer = self.take(b"RUN\r", call(question, 0, BUDGET));
+        self.decision(answer)
+    }
+
+    /// The lines that a visit goes through, step by step: a line that follows itself stands once.
+    pub fn trace(&mut self, question: &Question) -> Result<Vec<u16>, String> {
+        self.lend(question);
+        let mut lines = Vec::new();
+        let mut answer = self.take(b"RUN\r", call(question, 0, 0));
+        while answer.stop == Stop::Paused && lines.len() < BUDGET {
+            lines.push(self.next_line());
+            let step = call(question, answer.outpos, 1);
+            answer = self.controller.continue_run(&[], &mut self.output, step);
+        }
+        self.decision(answer)?;
+        lines.dedup();
+        Ok(lines)
+    }
+
+    fn written(&self, answer: Answer) -> String {
+        String::from_utf8_lossy(&self.output[..answer.outpos]).into_owned()
+    }
+
+    fn take(&mut self, input: &[u8], call: Call) -> Answer {
+        self.controller.take_line(input, &mut self.output, call)
+    }
+
+    fn lend(&mut self, question: &Question) {
+        self.controller.memory.fill(0);
+        self.put(COW, question.cow);
+        self.put(MINUTE, question.minute);
+        self.put(BLOCKED, question.blocked_until);
+        self.put(LAST_END, question.last_end as u16);
+        let memory = &mut self.controller.memory;
+        memory[BOX] = question.at;
+        memory[HOME] = question.home;
+        memory[LITRES] = question.litres;
+        memory[FLOW] = question.flow;
+        memory[DAYS] = question.days;
+    }
+
+    fn put(&mut self, at: usize, number: u16) {
+        self.controller.memory[at..at + 2].copy_from_slice(&number.to_le_bytes());
+    }
+
+    fn decision(&self, answer: Answer) -> Result<Decision, String> {
+        let (Stop::End, Some(line)) = (answer.stop, answer.line) else {
+            let line = answer
+                .line
+                .map_or(String::new(), |line| format!(" in line {line}"));
+            return Err(format!("the rule book stopped with {}{line}", answer.stop));
+        };
+        let memory = &self.controller.memory;
+        Ok(Decision {
+            admitted: self.controller.record.flags & OPEN != 0,
+            rule: memory[RULE],
+            interval: i16::from_le_bytes([memory[INTERVAL], memory[INTERVAL + 1]]),
+            line,
+            display: self.written(answer).trim().to_string(),
+        })
+    }
+
+    /// The line that a paused run goes on with: the one that holds the byte behind the pause's place. The pause at the
+    /// start counts as a place just before the page.
+    fn next_line(&self) -> u16 {
+        let page = &self.controller.page;
+        let next = usize::from(self.controller.record.paused) - 1;
+        let mut line = 0;
+        while line + usize::from(page[line + 2]) <= next {
+            line += usize::from(page[line + 2]);
+        }
+        u16::from_be_bytes([page[line], page[line + 1]])
+    }
+}
+
+/// The numbers of a call for a visit.
+fn call(question: &Question, outpos: usize, budget: usize) -> Call {
+    Call {
+        sense: question.sense,
+        ..Call::at(0, outpos, budget)
+    }
+}
