@@ -30,12 +30,13 @@ fn layout(root: &Path) -> String {
 
 fn main() {
     let root = Path::new(env!("CARGO_MANIFEST_DIR")).join("..");
+    let archive = library(&root);
     let out = std::env::var("OUT_DIR").expect("cargo says where to write");
-    std::fs::copy(library(&root), Path::new(&out).join("libnibl.a"))
-        .expect("the archive is copied");
+    std::fs::copy(&archive, Path::new(&out).join("libnibl.a")).expect("the archive is copied");
     std::fs::write(Path::new(&out).join("layout.rs"), layout(&root)).expect("the list is written");
     println!("cargo:rustc-link-search=native={out}");
     println!("cargo:rustc-link-lib=static=nibl");
+    println!("cargo:rerun-if-changed={}", archive.display());
     for source in SOURCES.into_iter().chain([LAYOUT]) {
         println!("cargo:rerun-if-changed={}", root.join(source).display());
     }

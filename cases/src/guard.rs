@@ -44,12 +44,44 @@ impl Lent {
     }
 }
 
-/// A record that is lent, with guard bytes before and behind.
+/// A record that is lent: between guard bytes, or alone.
+enum LentRecord {
+    Guarded(Box<Fenced>),
+    Exact(Box<Record>),
+}
+
 #[repr(C)]
 struct Fenced {
     before: [u8; GUARD],
     record: Record,
     after: [u8; GUARD],
+}
+
+impl LentRecord {
+    fn new(record: Record, lending: Lending) -> LentRecord {
+        match lending {
+            Lending::Guarded => LentRecord::Guarded(Box::new(Fenced {
+                before: [FILL; GUARD],
+                record,
+                after: [FILL; GUARD],
+            })),
+            Lending::Exact => LentRecord::Exact(Box::new(record)),
+        }
+    }
+
+    fn record(&mut self) -> &mut Record {
+        match self {
+            LentRecord::Guarded(fenced) => &mut fenced.record,
+            LentRecord::Exact(record) => record,
+        }
+    }
+
+    fn is_whole(&self) -> bool {
+        match self {
+            LentRecord::Guarded(fenced) => [fenced.before, fenced.after] == [[FILL; GUARD]; 2],
+            LentRecord::Exact(_) => true,
+        }
+    }
 }
 
 /// What the library's call left of a case.
@@ -68,45 +100,75 @@ pub fn made_by_library(
     record: Record,
     numbers: nibl::Call,
     lending: Lending,
-) -> Result<Left, String> {
-    let [mut page, mut memory, mut input, mut output] =
-        [&case.page, &case.memory, &case.input, &case.output]
-            .map(|bytes| Lent::new(bytes, lending));
-    let mut fenced = Box::new(Fenced {
-        before: [FILL; GUARD],
-        record,
-        after: [FILL; GUARD],
-    });
-    let mut alone = Box::new(record);
-    let lent_record = match lending {
-        Lending::Guarded => &mut fenced.record,
-        Lending::Exact => &mut *alone,
-    };
+) -> Result<Left, &'static str> {
+    let lend = |bytes: &Vec<u8>| Lent::new(bytes, lending);
+    let (mut page, mut memory) = (lend(&case.page), lend(&case.memory));
+    let (mut input, mut output) = (lend(&case.input), lend(&case.output));
+    let mut record = LentRecord::new(record, lending);
     let make = match case.call {
         Call::Line => nibl::take_line,
         Call::Continue => nibl::continue_run,
     };
-    let lent = (page.bytes(), memory.bytes(), input.bytes(), output.bytes());
-    let answer = make(lent_record, lent.0, lent.1, lent.2, lent.3, numbers);
-    let record = *lent_record;
-    let fences = [fenced.before, fenced.after];
-    if fences != [[FILL; GUARD]; 2] {
-        return Err("bytes beside the record".to_string());
+    let answer = make(
+        record.record(),
+        page.bytes(),
+        memory.bytes(),
+        input.bytes(),
+        output.bytes(),
+        numbers,
+    );
+    let kept = [
+        ("bytes beside the record", record.is_whole()),
+        ("bytes beside the page", page.is_whole()),
+        ("bytes beside the memory", memory.is_whole()),
+        ("bytes beside the input", input.is_whole()),
+        ("bytes beside the output", output.is_whole()),
+        ("the input", *input.bytes() == *case.input),
+    ];
+    match kept.into_iter().find(|(_, kept)| !kept) {
+        Some((touched, _)) => Err(touched),
+        None => Ok(Left {
+            answer,
+            record: *record.record(),
+            page: page.bytes().to_vec(),
+            memory: memory.bytes().to_vec(),
+            output: output.bytes().to_vec(),
+        }),
     }
-    let names = ["page", "memory", "input", "output"];
-    for (lent, name) in [&page, &memory, &input, &output].into_iter().zip(names) {
-        if !lent.is_whole() {
-            return Err(format!("bytes beside the {name}"));
+}
+
+#[cfg(test)]
+mod tests {
+    use super::*;
+
+    #[test]
+    fn a_byte_touched_on_either_side_shows() {
+        for at in [0, GUARD - 1, GUARD + 3, 2 * GUARD + 2] {
+            let mut lent = Lent::new(b"COW", Lending::Guarded);
+            assert!(lent.is_whole() && lent.bytes() == b"COW");
+            lent.block[at] = 0;
+            assert!(!lent.is_whole(), "{at}");
         }
     }
-    if *input.bytes() != *case.input {
-        return Err("the input".to_string());
+
+    #[test]
+    fn a_byte_touched_beside_the_record_shows() {
+        let touch: [fn(&mut Fenced); 2] = [
+            |fenced| fenced.before[GUARD - 1] = 0,
+            |fenced| fenced.after[0] = 0,
+        ];
+        for touch in touch {
+            let mut lent = LentRecord::new(Record::fresh(), Lending::Guarded);
+            assert!(lent.is_whole());
+            if let LentRecord::Guarded(fenced) = &mut lent {
+                touch(fenced);
+            }
+            assert!(!lent.is_whole());
+        }
     }
-    Ok(Left {
-        answer,
-        record,
-        page: page.bytes().to_vec(),
-        memory: memory.bytes().to_vec(),
-        output: output.bytes().to_vec(),
-    })
+
+    #[test]
+    fn an_exact_loan_has_nothing_beside_it() {
+        assert_eq!(*Lent::new(b"COW", Lending::Exact).block, *b"COW");
+    }
 }

@@ -49,6 +49,11 @@ mod layout;
 mod record;
 mod stop;
 
+/// The examples of the page for hosts.
+#[cfg(doctest)]
+#[doc = include_str!("../../docs/EMBEDDING.md")]
+struct Embedding;
+
 pub use answer::{Answer, Call, NO_LINE};
 pub use controller::{empty_page, Controller};
 pub use gate::{continue_run, take_line};
