@@ -30,3 +30,4 @@ pub mod Within
 pub mod Written
 pub mod Printing
 pub mod Left
+pub mod Valued
