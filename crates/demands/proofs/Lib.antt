@@ -31,3 +31,4 @@ pub mod Written
 pub mod Printing
 pub mod Left
 pub mod Valued
+pub mod Work

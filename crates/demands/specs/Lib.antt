@@ -8,3 +8,4 @@ pub mod Sound
 pub mod Starts
 pub mod Steps
 pub mod Valued
+pub mod Work
