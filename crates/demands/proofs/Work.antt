@@ -439,3 +439,111 @@ given-up-to e (laterValue {w = w} h m) v = rw (value-one e w h) (given-up-to e m
 none-replied : (n : ℕ) (s : List ℕ) → Unread n s → (o : Option (List Expr)) → replied n s ≡ o → o ≡ none
 none-replied n s f none h = refl
 none-replied n s f (some es) h = absurd (f es (replied-sound n s es h))
+
+module _ (w : World) (m : List ℕ) (p : ℕ) (bs : List ℕ) where
+  store-fits : p + length bs ≤ length m → keepIn w (storeAt m p bs) ≡ done on (withMemory w (sets m p bs))
+  unfolding keepIn storeAt
+  store-fits h = rw (le-leb (p + length bs) (length m) h)
+
+  store-lacks : length m < p + length bs → keepIn w (storeAt m p bs) ≡ done (stop 16) w
+  unfolding keepIn storeAt
+  store-lacks h = rw (lt-leb (p + length bs) (length m) h)
+
+top-one : {s : PlaceStack} {p : Place} → TopPlace s p → topOf s ≡ top.At p
+top-one {s} t = some-top 8 (s .depth) top.Empty (top.At (getD (s .places) (s .depth - 1) noPlace)) (t .some) (t .within) ∙ ap top.At (t .top)
+
+topfor-one : {s : ForStack} {f : ForEntry} → TopEntry s f → topFor s ≡ topf.Entry f
+topfor-one {s} t = some-top 4 (s .depth) topf.Empty (topf.Entry (getD (s .entries) (s .depth - 1) noEntry)) (t .some) (t .within) ∙ ap topf.Entry (t .top)
+
+-- what a pop leaves of a depth
+depth-one : (room depth : ℕ) → 1 ≤ depth → depth ≤ room → onTop room depth depth (depth - 1) ≡ depth - 1
+depth-one room depth h l = some-top room depth depth (depth - 1) h l
+
+module _ (e : Env) (w : World) where
+  -- to a line that is there, or not
+  line-there : {a : Expr} {n q : ℕ} (k : ℕ → Done) → ValueOf e w a (is n) → LineAt n 0 (recordsOf (e .page)) q → given (bind (eval e w a) (λ m. lineThere (find (e .page) m))) w k ≡ k q
+  unfolding find
+  line-there k h l = rw (value-one e w h, line-one l)
+
+  line-missing : {a : Expr} {n : ℕ} (k : ℕ → Done) → ValueOf e w a (is n) → NoLine n (recordsOf (e .page)) → given (bind (eval e w a) (λ m. lineThere (find (e .page) m))) w k ≡ done (stop 8) w
+  unfolding find
+  line-missing {n = n} k h l = rw (value-one e w h, line-none n 0 (recordsOf (e .page)) l)
+
+  refused-one : {q : Stmt} {n : ℕ} {u : World} → RefusedWith e w q n u → exec e q w ≡ done (stop n) u
+  unfolding exec gosubTo returnBy doHere untilBy forHere nextBy keepIn
+  refused-one (byValue {q = q} h) = value-refused e w q h
+  refused-one (noLineToGo h l) = line-missing _ h l
+  refused-one (noLineToSub h l) = line-missing _ h l
+  refused-one (fullOfGosubs h l f) = line-there (gosubTo e w) h l ∙ rw (le-ltb (w .session .gosubs .depth) 8 f)
+  refused-one (fullOfDos f) = rw (le-ltb (w .session .dos .depth) 8 f)
+  refused-one (fullOfFors h g f l) = rw (value-one e w h, value-one e w g, value-one e w f) (rw (le-ltb (w .session .fors .depth) 4 l))
+  refused-one (noGosub b) = rw (bare-top top.Empty (top.At (getD (w .session .gosubs .places) (w .session .gosubs .depth - 1) noPlace)) b)
+  refused-one (noDo h b) = rw (value-one e w h) (rw (bare-top top.Empty (top.At (getD (w .session .dos .places) (w .session .dos .depth - 1) noPlace)) b))
+  refused-one (noFor b) = rw (bare-top topf.Empty (topf.Entry (getD (w .session .fors .entries) (w .session .fors .depth - 1) noEntry)) b)
+  refused-one (otherFor {v = v} {f = f} t h) = ap (nextBy w v) (topfor-one t) ∙ rw (ne-eqb (f .var) v h)
+  refused-one (noByteThere {p = p} {x = x} h g l) = rw (value-one e w h, value-one e w g) (store-lacks w (w .memory) p (x % 256 ∷ []) (omega arith))
+  refused-one (noRoomForText {p = p} {bs = bs} h l) = rw (value-one e w h) (store-lacks w (w .memory) p (withCR bs) l)
+  refused-one (noSource {q = q} h g s) = rw (value-one e w h, value-one e w g, string-none (w .memory) q s)
+  refused-one (noRoomForCopy {p = p} {q = q} {bs = bs} h g s l) = rw (value-one e w h, value-one e w g, string-one (w .memory) q s) (store-lacks w (w .memory) p (withCR bs) l)
+  refused-one (byItem {i = i} {u = u} b m j) = up-to e (putEnd b) m (λ more. item-refused e i u _ j)
+  refused-one (noRoomForItem {i = i} {u = u} b m j r) = up-to e (putEnd b) m (λ more. item-full e i u _ j r)
+  refused-one (noRoomForEnd {u = u} m r) = all-out e (putEnd false) m ∙ sym (went-on (put (13 ∷ 10 ∷ []) u)) ∙ put-full (13 ∷ 10 ∷ []) u (λ v. done on v) r
+  refused-one (noRoomToAsk a h) = asking-one e w a (λ k. reply-unasked e w k h)
+  refused-one (noReply a h l) = asking-one e w a (λ k. reply-none e w k h l)
+  refused-one (replyTooLong {g = g} a r h) = asking-one e w a (λ k. reply-long e w g k r h)
+  refused-one (replyUnread {vs = vs} {g = g} r s f) =
+      reply-there e w g _ r s ∙ ap (assignReply e vs (afterReply w g)) (none-replied (length vs) (g .line .bytes) f (replied (length vs) (g .line .bytes)) refl)
+  refused-one (byReply {vs = vs} {g = g} r s l m v) = reply-there e w g _ r s ∙ ap (assignReply e vs (afterReply w g)) (replied-complete l) ∙ given-up-to e m v
+  refused-one (noRoomForReply {p = p} {g = g} h r s l) = rw (value-one e w h) (reply-there e w g _ r s ∙ store-lacks (afterReply w g) (w .memory) p (withCR (g .line .bytes)) l)
+  refused-one atEnd = refl
+
+  within-one : (f : ForEntry) (x : ℕ) → Within f x → goesOn (f .step) x (f .limit) ≡ true
+  within-one f x (upward s l) = rw (lt-ltb (f .step) 32768 s, le-ltb (order (f .limit)) (order x) l)
+  within-one f x (downward s l) = rw (le-ltb (f .step) 32768 s, le-ltb (order x) (order (f .limit)) l)
+
+  past-one : (f : ForEntry) (x : ℕ) → Past f x → goesOn (f .step) x (f .limit) ≡ false
+  past-one f x (above s l) = rw (lt-ltb (f .step) 32768 s, lt-ltb (order (f .limit)) (order x) l)
+  past-one f x (below s l) = rw (le-ltb (f .step) 32768 s, lt-ltb (order x) (order (f .limit)) l)
+
+  performs-one : {q : Stmt} {d : Done} → Performs e w q d → exec e q w ≡ d
+  unfolding exec gosubTo returnBy doHere untilBy forHere nextBy keepIn
+  performs-one (refuses r) = refused-one r
+  performs-one remarks = refl
+  performs-one (falseIf h) = rw (value-one e w h)
+  performs-one (assigns h) = rw (value-one e w h)
+  performs-one (assignsFlags h) = rw (value-one e w h)
+  performs-one (storesByte {p = p} {x = x} h g l) = rw (value-one e w h, value-one e w g) (store-fits w (w .memory) p (x % 256 ∷ []) (omega arith))
+  performs-one (storesText {p = p} {bs = bs} h l) = rw (value-one e w h) (store-fits w (w .memory) p (withCR bs) l)
+  performs-one (copies {p = p} {q = q} {bs = bs} h g s l) = rw (value-one e w h, value-one e w g, string-one (w .memory) q s) (store-fits w (w .memory) p (withCR bs) l)
+  performs-one (goesToLine h l) = line-there _ h l
+  performs-one (callsLine h l f) = line-there (gosubTo e w) h l ∙ rw (lt-ltb (w .session .gosubs .depth) 8 f)
+  performs-one (begins f) = rw (lt-ltb (w .session .dos .depth) 8 f)
+  performs-one (counts h g f l) = rw (value-one e w h, value-one e w g, value-one e w f) (rw (lt-ltb (w .session .fors .depth) 4 l))
+  performs-one (returns {p = p} t h) =
+      ap (returnBy w) (top-one t) ∙ rw (ne-eqb (p .0) mark h, depth-one 8 (w .session .gosubs .depth) (t .some) (t .within))
+  performs-one (returnsToMark {p = p} t h) =
+      ap (returnBy w) (top-one t) ∙ rw (eq-eqb (p .0) mark h, depth-one 8 (w .session .gosubs .depth) (t .some) (t .within))
+  performs-one (repeats h t) = rw (value-one e w h) (ap (untilBy w 0) (top-one t))
+  performs-one (leaves {x = x} h n t) =
+      rw (value-one e w h) (ap (untilBy w x) (top-one t) ∙ rw (ne-eqb x 0 n, depth-one 8 (w .session .dos .depth) (t .some) (t .within)))
+  performs-one (countsOn {v = v} {f = f} t h i) = ap (nextBy w v) (topfor-one t) ∙ rw (eq-eqb (f .var) v h, within-one f (stepped w v f) i)
+  performs-one (finishes {v = v} {f = f} t h i) =
+      ap (nextBy w v) (topfor-one t) ∙ rw (eq-eqb (f .var) v h, past-one f (stepped w v f) i, depth-one 4 (w .session .fors .depth) (t .some) (t .within))
+  performs-one (prints m) = all-out e (putEnd true) m
+  performs-one (printsEnd {u = u} m r) = all-out e (putEnd false) m ∙ sym (went-on (put (13 ∷ 10 ∷ []) u)) ∙ put-fits (13 ∷ 10 ∷ []) u (λ v. done on v) r
+  performs-one (inputs {vs = vs} {g = g} r s l m) = reply-there e w g _ r s ∙ ap (assignReply e vs (afterReply w g)) (replied-complete l) ∙ all-given e m
+  performs-one (inputsString {p = p} {g = g} h r s l) = rw (value-one e w h) (reply-there e w g _ r s ∙ store-fits (afterReply w g) (w .memory) p (withCR (g .line .bytes)) l)
+
+  pub reached-one : {s q : Stmt} → Reaches e w s q → exec e s w ≡ exec e q w
+  unfolding exec
+  reached-one itself = refl
+  reached-one (throughIf {q = q} {x = x} h z r) =
+      ap (λ (v : Value). given v w (λ y. elim (eqb y 0) [ true ↦ done skip w | false ↦ exec e q w ])) (value-one e w h)
+      ∙ ap (λ (c : Bool). elim c [ true ↦ done skip w | false ↦ exec e q w ]) (ne-eqb x 0 z) ∙ reached-one r
+
+  pub works-one : {s : Stmt} {d : Done} → Works e s w d → exec e s w ≡ d
+  works-one r = reached-one (r .reached) ∙ performs-one (r .performed)
+
+  -- the definition and the rules are one
+  pub works-exactly : (s : Stmt) (d : Done) → (exec e s w ≡ d) ↔ Works e s w d
+  works-exactly s d = (λ h. rw h at (works e s w), works-one)
