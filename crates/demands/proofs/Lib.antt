@@ -32,3 +32,4 @@ pub mod Printing
 pub mod Left
 pub mod Valued
 pub mod Work
+pub mod Refusals

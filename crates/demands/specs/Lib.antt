@@ -9,3 +9,4 @@ pub mod Starts
 pub mod Steps
 pub mod Valued
 pub mod Work
+pub mod Refusals
