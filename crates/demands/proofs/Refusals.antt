@@ -10,8 +10,8 @@ use Rattle.nibl.specs.Values.{no}
 use Rattle.nibl.specs.Page.{isAmong}
 use Rattle.nibl.specs.Meaning.{World, Env, stop, Done, done, exec}
 use Rattle.demands.specs.Valued.{ValueOf, FirstRefused, atFirst, atLater, ItemBytes, noString, noAddress, noNumber}
-use Rattle.demands.specs.Work.{RefusedWith, byValue, noLineToGo, noLineToSub, fullOfGosubs, fullOfDos, fullOfFors, noGosub, noDo, noFor, otherFor, noByteThere, noRoomForText, noSource, noRoomForCopy, byItem, noRoomForItem, noRoomForEnd, noRoomToAsk, noReply, replyTooLong, replyUnread, byReply, noRoomForReply, atEnd, Performs, refuses, returnsToMark, Reaches, Works}
-use Rattle.demands.specs.Refusals.{Comes, Unheard, overLong, notInForm, NoReplyLeft, MissesLine, byGoto, byGosub, ReturnsFromNothing, aReturn, RepeatsNothing, anUntil, FullStack, ofGosubs, ofDos, ofFors, NextOfNothing, noneToCount, NextOfAnother, anotherCounts, RefusesValue, ofStatement, ofItem, ofReply, LacksMemory, inValue, atByte, atText, atSource, atCopy, atReply, LacksOutput, forItem, forEnd, forQuestion, Refusal}
+use Rattle.demands.specs.Work.{RefusesValue, ofStatement, ofItem, ofReply, RefusedWith, byValue, noLineToGo, noLineToSub, fullOfGosubs, fullOfDos, fullOfFors, noGosub, noDo, noFor, otherFor, noByteThere, noRoomForText, noSource, noRoomForCopy, noRoomForItem, noRoomForEnd, noRoomToAsk, noReply, replyTooLong, replyUnread, noRoomForReply, atEnd, Performs, refuses, returnsToMark, Reaches, Works}
+use Rattle.demands.specs.Refusals.{Comes, Unheard, overLong, notInForm, NoReplyLeft, MissesLine, byGoto, byGosub, ReturnsFromNothing, aReturn, RepeatsNothing, anUntil, FullStack, ofGosubs, ofDos, ofFors, NextOfNothing, noneToCount, NextOfAnother, anotherCounts, LacksMemory, inValue, atByte, atText, atSource, atCopy, atReply, LacksOutput, forItem, forEnd, forQuestion, Refusal}
 use Rattle.demands.proofs.Valued.{refused-number}
 use Rattle.demands.proofs.Work.{works, works-one}
 
@@ -27,6 +27,11 @@ item-number : {e : Env} {w : World} {i : Item} {n : ℕ} → ItemBytes e w i (no
 item-number (noString h s) = inr refl
 item-number {e} {w} (noAddress h) = refused-number e w h
 item-number {e} {w} (noNumber h) = refused-number e w h
+
+value-number : {e : Env} {w u : World} {q : Stmt} {n : ℕ} → RefusesValue e w n u q → ByValue n
+value-number (ofStatement h) = first-number h
+value-number (ofItem b m j) = item-number j
+value-number {e} {u = u} (ofReply r s l m h) = refused-number e u h
 
 module _ (e : Env) (w : World) where
   -- the number is none of a value's
@@ -56,9 +61,7 @@ module _ (e : Env) (w : World) where
   pub six-exactly : (s : Stmt) (u : World) → (exec e s w ≡ done (stop 6) u) ↔ Comes e s w (Unheard e w u)
   six-exactly s u = own 6 u (λ h. omega arith) (Unheard e w u) (λ q. f) (λ q. g) s where
     f : {q : Stmt} {u : World} → RefusedWith e w q 6 u → Unheard e w u q
-    f (byValue h) = absurd (no-value refl (first-number h))
-    f (byItem b m j) = absurd (no-value refl (item-number j))
-    f (byReply {u = v} r s l m h) = absurd (no-value refl (refused-number e v h))
+    f (byValue h) = absurd (no-value refl (value-number h))
     f (replyTooLong a r h) = overLong a r h refl
     f (replyUnread r s h) = notInForm r s h refl
 
@@ -70,9 +73,7 @@ module _ (e : Env) (w : World) where
   pub seven-exactly : (s : Stmt) (u : World) → (exec e s w ≡ done (stop 7) u) ↔ Comes e s w (NoReplyLeft e w u)
   seven-exactly s u = own 7 u (λ h. omega arith) (NoReplyLeft e w u) (λ q. f) (λ q. g) s where
     f : {q : Stmt} {u : World} → RefusedWith e w q 7 u → NoReplyLeft e w u q
-    f (byValue h) = absurd (no-value refl (first-number h))
-    f (byItem b m j) = absurd (no-value refl (item-number j))
-    f (byReply {u = v} r s l m h) = absurd (no-value refl (refused-number e v h))
+    f (byValue h) = absurd (no-value refl (value-number h))
     f (noReply a h l) = record { asking = a; room = h; noCR = l; leaves = refl }
 
     g : {q : Stmt} → NoReplyLeft e w u q → RefusedWith e w q 7 u
@@ -89,9 +90,7 @@ module _ (e : Env) (w : World) where
   pub eight-exactly : (s : Stmt) (u : World) → (exec e s w ≡ done (stop 8) u) ↔ (Comes e s w (MissesLine e w) × (u ≡ w))
   eight-exactly = still 8 (λ h. omega arith) (MissesLine e w) (λ q u. f) (λ q. g) where
     f : {q : Stmt} {u : World} → RefusedWith e w q 8 u → MissesLine e w q × (u ≡ w)
-    f (byValue h) = absurd (no-value refl (first-number h))
-    f (byItem b m j) = absurd (no-value refl (item-number j))
-    f (byReply {u = v} r s l m h) = absurd (no-value refl (refused-number e v h))
+    f (byValue h) = absurd (no-value refl (value-number h))
     f (noLineToGo h l) = (byGoto h l, refl)
     f (noLineToSub h l) = (byGosub h l, refl)
 
@@ -103,9 +102,7 @@ module _ (e : Env) (w : World) where
   pub nine-exactly : (s : Stmt) (u : World) → (exec e s w ≡ done (stop 9) u) ↔ (Comes e s w (ReturnsFromNothing w) × (u ≡ w))
   nine-exactly = still 9 (λ h. omega arith) (ReturnsFromNothing w) (λ q u. f) (λ q. g) where
     f : {q : Stmt} {u : World} → RefusedWith e w q 9 u → ReturnsFromNothing w q × (u ≡ w)
-    f (byValue h) = absurd (no-value refl (first-number h))
-    f (byItem b m j) = absurd (no-value refl (item-number j))
-    f (byReply {u = v} r s l m h) = absurd (no-value refl (refused-number e v h))
+    f (byValue h) = absurd (no-value refl (value-number h))
     f (noGosub b) = (aReturn b, refl)
 
     g : {q : Stmt} → ReturnsFromNothing w q → RefusedWith e w q 9 w
@@ -115,9 +112,7 @@ module _ (e : Env) (w : World) where
   pub ten-exactly : (s : Stmt) (u : World) → (exec e s w ≡ done (stop 10) u) ↔ (Comes e s w (FullStack e w) × (u ≡ w))
   ten-exactly = still 10 (λ h. omega arith) (FullStack e w) (λ q u. f) (λ q. g) where
     f : {q : Stmt} {u : World} → RefusedWith e w q 10 u → FullStack e w q × (u ≡ w)
-    f (byValue h) = absurd (no-value refl (first-number h))
-    f (byItem b m j) = absurd (no-value refl (item-number j))
-    f (byReply {u = v} r s l m h) = absurd (no-value refl (refused-number e v h))
+    f (byValue h) = absurd (no-value refl (value-number h))
     f (fullOfGosubs h l b) = (ofGosubs h l b, refl)
     f (fullOfDos b) = (ofDos b, refl)
     f (fullOfFors h i j b) = (ofFors h i j b, refl)
@@ -131,9 +126,7 @@ module _ (e : Env) (w : World) where
   pub eleven-exactly : (s : Stmt) (u : World) → (exec e s w ≡ done (stop 11) u) ↔ (Comes e s w (NextOfNothing w) × (u ≡ w))
   eleven-exactly = still 11 (λ h. omega arith) (NextOfNothing w) (λ q u. f) (λ q. g) where
     f : {q : Stmt} {u : World} → RefusedWith e w q 11 u → NextOfNothing w q × (u ≡ w)
-    f (byValue h) = absurd (no-value refl (first-number h))
-    f (byItem b m j) = absurd (no-value refl (item-number j))
-    f (byReply {u = v} r s l m h) = absurd (no-value refl (refused-number e v h))
+    f (byValue h) = absurd (no-value refl (value-number h))
     f (noFor b) = (noneToCount b, refl)
 
     g : {q : Stmt} → NextOfNothing w q → RefusedWith e w q 11 w
@@ -143,9 +136,7 @@ module _ (e : Env) (w : World) where
   pub twelve-exactly : (s : Stmt) (u : World) → (exec e s w ≡ done (stop 12) u) ↔ (Comes e s w (NextOfAnother w) × (u ≡ w))
   twelve-exactly = still 12 (λ h. omega arith) (NextOfAnother w) (λ q u. f) (λ q. g) where
     f : {q : Stmt} {u : World} → RefusedWith e w q 12 u → NextOfAnother w q × (u ≡ w)
-    f (byValue h) = absurd (no-value refl (first-number h))
-    f (byItem b m j) = absurd (no-value refl (item-number j))
-    f (byReply {u = v} r s l m h) = absurd (no-value refl (refused-number e v h))
+    f (byValue h) = absurd (no-value refl (value-number h))
     f (otherFor t n) = (anotherCounts t n, refl)
 
     g : {q : Stmt} → NextOfAnother w q → RefusedWith e w q 12 w
@@ -155,22 +146,16 @@ module _ (e : Env) (w : World) where
   pub thirteen-exactly : (s : Stmt) (u : World) → (exec e s w ≡ done (stop 13) u) ↔ Comes e s w (RefusesValue e w 13 u)
   thirteen-exactly s u = own 13 u (λ h. omega arith) (RefusesValue e w 13 u) (λ q. f) (λ q. g) s where
     f : {q : Stmt} {u : World} → RefusedWith e w q 13 u → RefusesValue e w 13 u q
-    f (byValue h) = ofStatement h refl
-    f (byItem b m j) = ofItem b m j
-    f (byReply r s l m h) = ofReply r s l m h
+    f (byValue h) = h
 
     g : {q : Stmt} → RefusesValue e w 13 u q → RefusedWith e w q 13 u
-    g (ofStatement h i) = rw i (byValue h)
-    g (ofItem b m j) = byItem b m j
-    g (ofReply r s l m h) = byReply r s l m h
+    g h = byValue h
 
   -- "UNTIL with its stack empty"
   pub fifteen-exactly : (s : Stmt) (u : World) → (exec e s w ≡ done (stop 15) u) ↔ (Comes e s w (RepeatsNothing e w) × (u ≡ w))
   fifteen-exactly = still 15 (λ h. omega arith) (RepeatsNothing e w) (λ q u. f) (λ q. g) where
     f : {q : Stmt} {u : World} → RefusedWith e w q 15 u → RepeatsNothing e w q × (u ≡ w)
-    f (byValue h) = absurd (no-value refl (first-number h))
-    f (byItem b m j) = absurd (no-value refl (item-number j))
-    f (byReply {u = v} r s l m h) = absurd (no-value refl (refused-number e v h))
+    f (byValue h) = absurd (no-value refl (value-number h))
     f (noDo h b) = (anUntil h b, refl)
 
     g : {q : Stmt} → RepeatsNothing e w q → RefusedWith e w q 15 w
@@ -180,9 +165,7 @@ module _ (e : Env) (w : World) where
   pub sixteen-exactly : (s : Stmt) (u : World) → (exec e s w ≡ done (stop 16) u) ↔ Comes e s w (LacksMemory e w u)
   sixteen-exactly s u = own 16 u (λ h. omega arith) (LacksMemory e w u) (λ q. f) (λ q. g) s where
     f : {q : Stmt} {u : World} → RefusedWith e w q 16 u → LacksMemory e w u q
-    f (byValue h) = inValue (ofStatement h refl)
-    f (byItem b m j) = inValue (ofItem b m j)
-    f (byReply r s l m h) = inValue (ofReply r s l m h)
+    f (byValue h) = inValue h
     f (noByteThere h i l) = atByte h i l refl
     f (noRoomForText h l) = atText h l refl
     f (noSource h i s) = atSource h i s refl
@@ -190,9 +173,7 @@ module _ (e : Env) (w : World) where
     f (noRoomForReply h r s l) = atReply h r s l refl
 
     g : {q : Stmt} → LacksMemory e w u q → RefusedWith e w q 16 u
-    g (inValue (ofStatement h i)) = rw i (byValue h)
-    g (inValue (ofItem b m j)) = byItem b m j
-    g (inValue (ofReply r s l m h)) = byReply r s l m h
+    g (inValue h) = byValue h
     g (atByte h j l i) = rw i (noByteThere h j l)
     g (atText h l i) = rw i (noRoomForText h l)
     g (atSource h j s i) = rw i (noSource h j s)
@@ -203,9 +184,7 @@ module _ (e : Env) (w : World) where
   pub seventeen-exactly : (s : Stmt) (u : World) → (exec e s w ≡ done (stop 17) u) ↔ Comes e s w (LacksOutput e w u)
   seventeen-exactly s u = own 17 u (λ h. omega arith) (LacksOutput e w u) (λ q. f) (λ q. g) s where
     f : {q : Stmt} {u : World} → RefusedWith e w q 17 u → LacksOutput e w u q
-    f (byValue h) = absurd (no-value refl (first-number h))
-    f (byItem b m j) = absurd (no-value refl (item-number j))
-    f (byReply {u = v} r s l m h) = absurd (no-value refl (refused-number e v h))
+    f (byValue h) = absurd (no-value refl (value-number h))
     f (noRoomForItem b m j r) = forItem b m j r
     f (noRoomForEnd m r) = forEnd m r
     f (noRoomToAsk a r) = forQuestion a r refl
@@ -222,7 +201,5 @@ module _ (e : Env) (w : World) where
       λ r. rw (r .1) (refused-exactly s 20 w (λ i. omega arith) .1 (record { statement = end; reached = r .0; holds = atEnd })))
     where
       by : {q : Stmt} {u : World} → RefusedWith e w q 20 u → Reaches e w s q → Reaches e w s end × (u ≡ w)
-      by (byValue h) r = absurd (no-value refl (first-number h))
-      by (byItem b m j) r = absurd (no-value refl (item-number j))
-      by (byReply {u = v} i s l m h) r = absurd (no-value refl (refused-number e v h))
+      by (byValue h) r = absurd (no-value refl (value-number h))
       by atEnd r = (r, refl)

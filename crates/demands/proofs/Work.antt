@@ -35,7 +35,7 @@ use Rattle.nibl.proofs.Whole.{replied-complete}
 use Rattle.page.proofs.Walk.{by-cases}
 use Rattle.demands.specs.Items.{In, first, further, itemBytes, wroteItem, HasRoom, NoRoom}
 use Rattle.demands.specs.Valued.{order, ValueOf, FirstRefused, atFirst, atLater, StringAt, NoString, ItemBytes}
-use Rattle.demands.specs.Work.{valuesOf, LineAt, thisLine, laterLine, NoLine, Bare, empty, misfit, TopPlace, TopEntry, pushed, popped, poppedFor, stepped, Within, upward, downward, Past, above, below, withCR, HasBytes, LacksBytes, UpTo, thisItem, laterItem, AllOut, noneLeft, oneOut, Replied, afterReply, gave, GivenUpTo, thisValue, laterValue, AllGiven, noMore, oneGiven, Asking, forVariables, forString, Unread, RefusedWith, byValue, noLineToGo, noLineToSub, fullOfGosubs, fullOfDos, fullOfFors, noGosub, noDo, noFor, otherFor, noByteThere, noRoomForText, noSource, noRoomForCopy, byItem, noRoomForItem, noRoomForEnd, noRoomToAsk, noReply, replyTooLong, replyUnread, byReply, noRoomForReply, atEnd, Performs, refuses, remarks, falseIf, assigns, assignsFlags, storesByte, storesText, copies, goesToLine, callsLine, begins, counts, returns, returnsToMark, repeats, leaves, countsOn, finishes, prints, printsEnd, inputs, inputsString, Reaches, itself, throughIf, Works}
+use Rattle.demands.specs.Work.{valuesOf, LineAt, thisLine, laterLine, NoLine, Bare, empty, misfit, TopPlace, TopEntry, pushed, popped, poppedFor, stepped, Within, upward, downward, Past, above, below, withCR, HasBytes, LacksBytes, UpTo, thisItem, laterItem, AllOut, noneLeft, oneOut, Replied, afterReply, gave, GivenUpTo, thisValue, laterValue, AllGiven, noMore, oneGiven, Asking, forVariables, forString, Unread, RefusesValue, ofStatement, ofItem, ofReply, RefusedWith, byValue, noLineToGo, noLineToSub, fullOfGosubs, fullOfDos, fullOfFors, noGosub, noDo, noFor, otherFor, noByteThere, noRoomForText, noSource, noRoomForCopy, noRoomForItem, noRoomForEnd, noRoomToAsk, noReply, replyTooLong, replyUnread, noRoomForReply, atEnd, Performs, refuses, remarks, falseIf, assigns, assignsFlags, storesByte, storesText, copies, goesToLine, callsLine, begins, counts, returns, returnsToMark, repeats, leaves, countsOn, finishes, prints, printsEnd, inputs, inputsString, Reaches, itself, throughIf, Works}
 use Rattle.demands.proofs.Valued.{value-of, value-one, string-of, string-one, string-none, item-of, item-one}
 use Rattle.demands.proofs.Effects.{went-went}
 use Rattle.demands.proofs.Printing.{put-split, went-on, item-put}
@@ -110,24 +110,24 @@ module _ (e : Env) (w : World) where
 
   letVar-works : (v : ℕ) (a : Expr) → P (letVar v a) (exec e (letVar v a) w)
   unfolding exec
-  letVar-works v a = given-of (P (letVar v a)) a _ (λ x h. assigns h) (λ n h. refuses (byValue (atFirst h)))
+  letVar-works v a = given-of (P (letVar v a)) a _ (λ x h. assigns h) (λ n h. refuses (byValue (ofStatement (atFirst h))))
 
   letStat-works : (a : Expr) → P (letStat a) (exec e (letStat a) w)
   unfolding exec
-  letStat-works a = given-of (P (letStat a)) a _ (λ x h. assignsFlags h) (λ n h. refuses (byValue (atFirst h)))
+  letStat-works a = given-of (P (letStat a)) a _ (λ x h. assignsFlags h) (λ n h. refuses (byValue (ofStatement (atFirst h))))
 
   letByte-works : (a b : Expr) → P (letByte a b) (exec e (letByte a b) w)
   unfolding exec
   letByte-works a b =
       given-of (P (letByte a b)) a _ (λ p h. given-of (P (letByte a b)) b _ (λ x g.
       store-of (P (letByte a b)) (w .memory) p (x % 256 ∷ []) (λ l. storesByte h g (omega arith)) (λ l. refuses (noByteThere h g (omega arith))))
-      (λ n g. refuses (byValue (atLater h (atFirst g))))) (λ n h. refuses (byValue (atFirst h)))
+      (λ n g. refuses (byValue (ofStatement (atLater h (atFirst g)))))) (λ n h. refuses (byValue (ofStatement (atFirst h))))
 
   letText-works : (a : Expr) (bs : List ℕ) → P (letText a bs) (exec e (letText a bs) w)
   unfolding exec
   letText-works a bs =
       given-of (P (letText a bs)) a _ (λ p h. store-of (P (letText a bs)) (w .memory) p (withCR bs) (λ l. storesText h l) (λ l. refuses (noRoomForText h l)))
-      (λ n h. refuses (byValue (atFirst h)))
+      (λ n h. refuses (byValue (ofStatement (atFirst h))))
 
   letCopy-works : (a b : Expr) → P (letCopy a b) (exec e (letCopy a b) w)
   unfolding exec keepIn
@@ -136,7 +136,7 @@ module _ (e : Env) (w : World) where
       string-of (w .memory) q (λ r. P (letCopy a b) (keepIn w (bind r (λ bs. storeAt (w .memory) p (withCR bs)))))
       (λ bs s. store-of (P (letCopy a b)) (w .memory) p (withCR bs) (λ l. copies h g s l) (λ l. refuses (noRoomForCopy h g s l)))
       (λ s. refuses (noSource h g s)))
-      (λ n g. refuses (byValue (atLater h (atFirst g))))) (λ n h. refuses (byValue (atFirst h)))
+      (λ n g. refuses (byValue (ofStatement (atLater h (atFirst g)))))) (λ n h. refuses (byValue (ofStatement (atFirst h))))
 
   -- to the line of a value
   to-line : (D : Done → Type 0) (a : Expr) (k : ℕ → Done) → ((n q : ℕ) → ValueOf e w a (is n) → LineAt n 0 (recordsOf (e .page)) q → D (k q))
@@ -150,11 +150,11 @@ module _ (e : Env) (w : World) where
 
   goto-works : (a : Expr) → P (goto a) (exec e (goto a) w)
   unfolding exec
-  goto-works a = to-line (P (goto a)) a _ (λ n q h l. goesToLine h l) (λ n h l. refuses (noLineToGo h l)) (λ n h. refuses (byValue (atFirst h)))
+  goto-works a = to-line (P (goto a)) a _ (λ n q h l. goesToLine h l) (λ n h l. refuses (noLineToGo h l)) (λ n h. refuses (byValue (ofStatement (atFirst h))))
 
   gosub-works : (a : Expr) → P (gosub a) (exec e (gosub a) w)
   unfolding exec gosubTo
-  gosub-works a = to-line (P (gosub a)) a (gosubTo e w) to (λ n h l. refuses (noLineToSub h l)) (λ n h. refuses (byValue (atFirst h))) where
+  gosub-works a = to-line (P (gosub a)) a (gosubTo e w) to (λ n h l. refuses (noLineToSub h l)) (λ n h. refuses (byValue (ofStatement (atFirst h)))) where
     to : (n q : ℕ) → ValueOf e w a (is n) → LineAt n 0 (recordsOf (e .page)) q → P (gosub a) (gosubTo e w q)
     to n q h l = by-cases (ltb (w .session .gosubs .depth) 8) (λ b. rw b (callsLine h l (ltb-true _ _ b))) (λ b. rw b (refuses (fullOfGosubs h l (ltb-false _ _ b))))
 
@@ -173,7 +173,7 @@ module _ (e : Env) (w : World) where
   until-works : (a : Expr) → P (until a) (exec e (until a) w)
   unfolding exec untilBy
   until-works a =
-      given-of (P (until a)) a _ (λ x h. top-of (w .session .dos) (λ t. P (until a) (untilBy w x t)) (λ b. refuses (noDo h b)) (to x h)) (λ n h. refuses (byValue (atFirst h)))
+      given-of (P (until a)) a _ (λ x h. top-of (w .session .dos) (λ t. P (until a) (untilBy w x t)) (λ b. refuses (noDo h b)) (to x h)) (λ n h. refuses (byValue (ofStatement (atFirst h))))
     where
       to : (x : ℕ) → ValueOf e w a (is x) → (p : Place) → TopPlace (w .session .dos) p → P (until a) (untilBy w x (top.At p))
       to x h p t =
@@ -185,8 +185,8 @@ module _ (e : Env) (w : World) where
   for-works v a b c =
       given-of (P (for v a b c)) a _ (λ x h. given-of (P (for v a b c)) b _ (λ y g. given-of (P (for v a b c)) c _ (λ z f.
       by-cases (ltb (w .session .fors .depth) 4) (λ l. rw l (counts h g f (ltb-true _ _ l))) (λ l. rw l (refuses (fullOfFors h g f (ltb-false _ _ l)))))
-      (λ n f. refuses (byValue (atLater h (atLater g (atFirst f))))))
-      (λ n g. refuses (byValue (atLater h (atFirst g))))) (λ n h. refuses (byValue (atFirst h)))
+      (λ n f. refuses (byValue (ofStatement (atLater h (atLater g (atFirst f)))))))
+      (λ n g. refuses (byValue (ofStatement (atLater h (atFirst g)))))) (λ n h. refuses (byValue (ofStatement (atFirst h))))
 
   -- NEXT's test
   goes-on : (D : Bool → Type 0) (f : ForEntry) (x : ℕ) → (Within f x → D true) → (Past f x → D false) → D (goesOn (f .step) x (f .limit))
@@ -232,7 +232,7 @@ module _ (e : Env) (w : World) (items : List Item) (b : Bool) where
           → Performs e w (print items b) (went (given r u (λ bs. put bs u)) (λ v. went (putItems e more v) (putEnd b)))
       by h (is bs) j =
           put-split (Performs e w (print items b)) bs u (λ v. went (putItems e more v) (putEnd b)) (λ r. h bs j r) (λ r. refuses (noRoomForItem b (f i u thisItem) j r))
-      by h (no n) j = refuses (byItem b (f i u thisItem) j)
+      by h (no n) j = refuses (byValue (ofItem b (f i u thisItem) j))
 
   print-works : Performs e w (print items b) (exec e (print items b) w)
   unfolding exec
@@ -278,7 +278,7 @@ module _ (e : Env) (w : World) where
     assign-works g es r s l (v ∷ us) [] u n f h = absurd (omega arith)
     assign-works g es r s l (v ∷ us) (a ∷ as′) u n f h =
         given-of e u I a _ (λ x i. assign-works g es r s l us as′ (gave u v x) (omega arith) (λ b z j. f b z (laterValue i j)) (λ z j. h z (oneGiven i j)))
-        (λ m i. refuses (byReply r s l (f a u thisValue) i))
+        (λ m i. refuses (byValue (ofReply r s l (f a u thisValue) i)))
 
     reply-works : (g : Gathered) → Replied e w g → g .line .long ≡ false → (o : Option (List Expr)) → replied (length vs) (g .line .bytes) ≡ o → I (assignReply e vs (afterReply w g) o)
     reply-works g r s none h = refuses (replyUnread r s (λ es l. none-read h l))
@@ -298,7 +298,7 @@ module _ (e : Env) (w : World) where
       given-of e w T a _ (λ p h. asked-of T (inputText a) _ (λ l. refuses (noRoomToAsk (forString h) l)) (λ l g. refuses (noReply (forString h) l g))
       (λ g r l. refuses (replyTooLong (forString h) r l))
       (λ g r l. store-of e (afterReply w g) T (w .memory) p (withCR (g .line .bytes)) (λ i. inputsString h r l i) (λ i. refuses (noRoomForReply h r l i))))
-      (λ n h. refuses (byValue (atFirst h)))
+      (λ n h. refuses (byValue (ofStatement (atFirst h))))
     where
       T : Done → Type 0
       T d = Performs e w (inputText a) d
@@ -319,7 +319,7 @@ works e doLoop w = alone e w (do-works e w)
 works e remark w = alone e w remarks
 works e end w = alone e w (refuses atEnd)
 works e (print items b) w = alone e w (print-works e w items b)
-works e (ifThen a q) w = given-of e w (Works e (ifThen a q) w) a _ (λ x h. by (works e q w) x h (eqb x 0) refl) (λ n h. alone e w (refuses (byValue (atFirst h)))) where
+works e (ifThen a q) w = given-of e w (Works e (ifThen a q) w) a _ (λ x h. by (works e q w) x h (eqb x 0) refl) (λ n h. alone e w (refuses (byValue (ofStatement (atFirst h))))) where
   by : Works e q w (exec e q w) → (x : ℕ) → ValueOf e w a (is x) → (c : Bool) → eqb x 0 ≡ c → Works e (ifThen a q) w (elim c [ true ↦ done skip w | false ↦ exec e q w ])
   by f x h true c = alone e w (falseIf (subst (λ (y : ℕ). ValueOf e w a (is y)) (eqb-true x 0 c) h))
   by f x h false c = record { statement = f .statement; reached = throughIf h (eqb-false x 0 c) (f .reached); performed = f .performed }
@@ -471,7 +471,9 @@ module _ (e : Env) (w : World) where
 
   refused-one : {q : Stmt} {n : ℕ} {u : World} → RefusedWith e w q n u → exec e q w ≡ done (stop n) u
   unfolding exec gosubTo returnBy doHere untilBy forHere nextBy keepIn
-  refused-one (byValue {q = q} h) = value-refused e w q h
+  refused-one (byValue {q = q} (ofStatement h)) = value-refused e w q h
+  refused-one (byValue (ofItem {i = i} {u = u} b m j)) = up-to e (putEnd b) m (λ more. item-refused e i u _ j)
+  refused-one (byValue (ofReply {vs = vs} {g = g} r s l m v)) = reply-there e w g _ r s ∙ ap (assignReply e vs (afterReply w g)) (replied-complete l) ∙ given-up-to e m v
   refused-one (noLineToGo h l) = line-missing _ h l
   refused-one (noLineToSub h l) = line-missing _ h l
   refused-one (fullOfGosubs h l f) = line-there (gosubTo e w) h l ∙ rw (le-ltb (w .session .gosubs .depth) 8 f)
@@ -485,7 +487,6 @@ module _ (e : Env) (w : World) where
   refused-one (noRoomForText {p = p} {bs = bs} h l) = rw (value-one e w h) (store-lacks w (w .memory) p (withCR bs) l)
   refused-one (noSource {q = q} h g s) = rw (value-one e w h, value-one e w g, string-none (w .memory) q s)
   refused-one (noRoomForCopy {p = p} {q = q} {bs = bs} h g s l) = rw (value-one e w h, value-one e w g, string-one (w .memory) q s) (store-lacks w (w .memory) p (withCR bs) l)
-  refused-one (byItem {i = i} {u = u} b m j) = up-to e (putEnd b) m (λ more. item-refused e i u _ j)
   refused-one (noRoomForItem {i = i} {u = u} b m j r) = up-to e (putEnd b) m (λ more. item-full e i u _ j r)
   refused-one (noRoomForEnd {u = u} m r) = all-out e (putEnd false) m ∙ sym (went-on (put (13 ∷ 10 ∷ []) u)) ∙ put-full (13 ∷ 10 ∷ []) u (λ v. done on v) r
   refused-one (noRoomToAsk a h) = asking-one e w a (λ k. reply-unasked e w k h)
@@ -493,7 +494,6 @@ module _ (e : Env) (w : World) where
   refused-one (replyTooLong {g = g} a r h) = asking-one e w a (λ k. reply-long e w g k r h)
   refused-one (replyUnread {vs = vs} {g = g} r s f) =
       reply-there e w g _ r s ∙ ap (assignReply e vs (afterReply w g)) (none-replied (length vs) (g .line .bytes) f (replied (length vs) (g .line .bytes)) refl)
-  refused-one (byReply {vs = vs} {g = g} r s l m v) = reply-there e w g _ r s ∙ ap (assignReply e vs (afterReply w g)) (replied-complete l) ∙ given-up-to e m v
   refused-one (noRoomForReply {p = p} {g = g} h r s l) = rw (value-one e w h) (reply-there e w g _ r s ∙ store-lacks (afterReply w g) (w .memory) p (withCR (g .line .bytes)) l)
   refused-one atEnd = refl
 

@@ -7,15 +7,14 @@ use mathlib.Core.Option.{none}
 use lib.ListN.{length, drop}
 use Rattle.nibl.specs.Bytes.{bytes}
 use Rattle.nibl.specs.Tree.{Expr, Item, Stmt, letByte, letCopy, letText, goto, gosub, until, return, doLoop, end, print, for, next, input, inputText}
-use Rattle.nibl.specs.Values.{is, no}
+use Rattle.nibl.specs.Values.{is}
 use Rattle.nibl.specs.Typing.{Gathered, gather}
-use Rattle.nibl.specs.Readings.{ReplyReading}
 use Rattle.nibl.specs.Page.{recordsOf}
 use Rattle.nibl.specs.Meaning.{World, Env}
 use Rattle.nibl.specs.declared.ForEntry.{ForEntry}
 use Rattle.demands.specs.Items.{wroteItem, HasRoom, NoRoom}
-use Rattle.demands.specs.Valued.{ValueOf, FirstRefused, StringAt, NoString, ItemBytes}
-use Rattle.demands.specs.Work.{valuesOf, LineAt, NoLine, Bare, TopEntry, withCR, LacksBytes, UpTo, AllOut, Replied, afterReply, GivenUpTo, Asking, Unread, RefusedWith, Reaches}
+use Rattle.demands.specs.Valued.{ValueOf, StringAt, NoString, ItemBytes}
+use Rattle.demands.specs.Work.{LineAt, NoLine, Bare, TopEntry, withCR, LacksBytes, UpTo, AllOut, Replied, afterReply, Asking, Unread, RefusesValue, RefusedWith, Reaches}
 
 -- the statement comes, through its true IFs, to one of which P holds
 pub record Comes (e : Env) (s : Stmt) (w : World) (P : Stmt → Type 0) : Type 0 where
@@ -59,13 +58,6 @@ pub data NextOfNothing (w : World) : Stmt → Type 0 where
 
 pub data NextOfAnother (w : World) : Stmt → Type 0 where
   anotherCounts : {v : ℕ} {f : ForEntry} → TopEntry (w .session .fors) f → (f .var ≡ v → ⊥) → NextOfAnother w (next v)
-
--- a value that the statement comes to is refused with n: one of those that it asks for first, one of an item of PRINT, one of a reply
-pub data RefusesValue (e : Env) (w : World) (n : ℕ) (u : World) : Stmt → Type 0 where
-  ofStatement : {q : Stmt} → FirstRefused e w (valuesOf q) n → u ≡ w → RefusesValue e w n u q
-  ofItem : {items : List Item} {i : Item} (b : Bool) → UpTo e items w i u → ItemBytes e u i (no n) → RefusesValue e w n u (print items b)
-  ofReply : {vs : List ℕ} {g : Gathered} {es : List Expr} {a : Expr} → Replied e w g → g .line .long ≡ false → ReplyReading (length vs) (g .line .bytes) es
-      → GivenUpTo e vs es (afterReply w g) a u → ValueOf e u a (no n) → RefusesValue e w n u (input vs)
 
 -- 16: "a memory byte needed is not there, or no CR found": of "@" and "$" in a value or an item, of the store of a byte, of a string, of a copy and of a reply
 pub data LacksMemory (e : Env) (w u : World) : Stmt → Type 0 where

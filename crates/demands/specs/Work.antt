@@ -140,10 +140,17 @@ pub data Asking (e : Env) (w : World) : Stmt → Type 0 where
 abbrev pub Unread : ℕ → List ℕ → Type 0
 Unread n bs = (es : List Expr) → ReplyReading n bs es → ⊥
 
+-- a value that the statement comes to is refused with n: the first of those that it asks for, one of an item of PRINT, one of a reply
+pub data RefusesValue (e : Env) (w : World) (n : ℕ) : World → Stmt → Type 0 where
+  ofStatement : {q : Stmt} → FirstRefused e w (valuesOf q) n → RefusesValue e w n w q
+  ofItem : {items : List Item} {i : Item} {u : World} (b : Bool) → UpTo e items w i u → ItemBytes e u i (no n) → RefusesValue e w n u (print items b)
+  ofReply : {vs : List ℕ} {g : Gathered} {es : List Expr} {a : Expr} {u : World} → Replied e w g → g .line .long ≡ false → ReplyReading (length vs) (g .line .bytes) es
+      → GivenUpTo e vs es (afterReply w g) a u → ValueOf e u a (no n) → RefusesValue e w n u (input vs)
+
 -- Refusals: the statement, the number, and the world that is left
 pub data RefusedWith (e : Env) (w : World) : Stmt → ℕ → World → Type 0 where
-  -- "values first"
-  byValue : {q : Stmt} {n : ℕ} → FirstRefused e w (valuesOf q) n → RefusedWith e w q n w
+  -- "values first"; "16 before 17"
+  byValue : {q : Stmt} {n : ℕ} {u : World} → RefusesValue e w n u q → RefusedWith e w q n u
   -- "GOTO or GOSUB to a line not there"
   noLineToGo : {a : Expr} {n : ℕ} → ValueOf e w a (is n) → NoLine n (recordsOf (e .page)) → RefusedWith e w (goto a) 8 w
   noLineToSub : {a : Expr} {n : ℕ} → ValueOf e w a (is n) → NoLine n (recordsOf (e .page)) → RefusedWith e w (gosub a) 8 w
@@ -164,7 +171,6 @@ pub data RefusedWith (e : Env) (w : World) : Stmt → ℕ → World → Type 0 w
   noRoomForCopy : {a b : Expr} {p q : ℕ} {bs : List ℕ} → ValueOf e w a (is p) → ValueOf e w b (is q) → StringAt (w .memory) q bs → LacksBytes w p (withCR bs)
       → RefusedWith e w (letCopy a b) 16 w
   -- "PRINT works item by item, 16 before 17"; "PRINT items already out stay"
-  byItem : {items : List Item} {i : Item} {n : ℕ} {u : World} (b : Bool) → UpTo e items w i u → ItemBytes e u i (no n) → RefusedWith e w (print items b) n u
   noRoomForItem : {items : List Item} {i : Item} {bs : List ℕ} {u : World} (b : Bool) → UpTo e items w i u → ItemBytes e u i (is bs) → NoRoom u bs → RefusedWith e w (print items b) 17 u
   noRoomForEnd : {items : List Item} {u : World} → AllOut e items w u → NoRoom u (13 ∷ 10 ∷ []) → RefusedWith e w (print items false) 17 u
   -- "INPUT: address value, 17, 7, 6, values, 16"; "the '?' stays, a gathered reply is taken, and variables already given stay given"
@@ -172,8 +178,6 @@ pub data RefusedWith (e : Env) (w : World) : Stmt → ℕ → World → Type 0 w
   noReply : {q : Stmt} → Asking e w q → HasRoom w (bytes "?") → gather (e .lim) (drop (w .inpos) (e .input)) ≡ none → RefusedWith e w q 7 (wroteItem w (bytes "?"))
   replyTooLong : {q : Stmt} {g : Gathered} → Asking e w q → Replied e w g → g .line .long ≡ true → RefusedWith e w q 6 (afterReply w g)
   replyUnread : {vs : List ℕ} {g : Gathered} → Replied e w g → g .line .long ≡ false → Unread (length vs) (g .line .bytes) → RefusedWith e w (input vs) 6 (afterReply w g)
-  byReply : {vs : List ℕ} {g : Gathered} {es : List Expr} {a : Expr} {n : ℕ} {u : World} → Replied e w g → g .line .long ≡ false → ReplyReading (length vs) (g .line .bytes) es
-      → GivenUpTo e vs es (afterReply w g) a u → ValueOf e u a (no n) → RefusedWith e w (input vs) n u
   noRoomForReply : {a : Expr} {p : ℕ} {g : Gathered} → ValueOf e w a (is p) → Replied e w g → g .line .long ≡ false → LacksBytes w p (withCR (g .line .bytes))
       → RefusedWith e w (inputText a) 16 (afterReply w g)
   -- END
