@@ -127,7 +127,7 @@ immediate-silent k e low (jumps {w = w} {q = q}) h l = run-silent k e q w low h 
 immediate-silent k e low refusing.ends h l = omega arith
 immediate-silent k e low (refuses i g) h l = false≢true (subst (OneOf quiet) h i)
 
-obey-silent : (k : ℕ) (e : Env) (w : World) (t : Typed) → Lined (e .page) → Silent (obey k e w t)
+pub obey-silent : (k : ℕ) (e : Env) (w : World) (t : Typed) → Lined (e .page) → Silent (obey k e w t)
 unfolding obey
 obey-silent k e w blank low = λ h l. omega arith
 obey-silent k e w new low = edit-silent (e .page) w []

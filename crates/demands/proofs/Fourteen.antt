@@ -29,7 +29,7 @@ goes-once afterIt afterIt = refl
 goes-once afterRecord afterRecord = refl
 goes-once jumps jumps = refl
 
-goes-on : {p cr q n : ℕ} {how : Next} → GoesTo p cr how q → how ≡ stop n → ⊥
+pub goes-on : {p cr q n : ℕ} {how : Next} → GoesTo p cr how q → how ≡ stop n → ⊥
 goes-on afterIt e = let z : _≡_ {A = ℕ} 0 1 = cc in omega arith
 goes-on afterRecord e = let z : _≡_ {A = ℕ} 0 1 = cc in omega arith
 goes-on jumps e = let z : _≡_ {A = ℕ} 0 1 = cc in omega arith

@@ -33,3 +33,4 @@ pub mod Left
 pub mod Valued
 pub mod Work
 pub mod Refusals
+pub mod Exactly

@@ -60,7 +60,7 @@ edit-obeys e w rs = by (leb (length (programBytes rs)) (length (e .page))) where
   by true = ends refl
   by false = full
 
-immediate-numbers : (k : ℕ) (e : Env) (d : Done) → StopsWith d → OneOf runNumbers (afterImmediate k e d .answer .stop)
+pub immediate-numbers : (k : ℕ) (e : Env) (d : Done) → StopsWith d → OneOf runNumbers (afterImmediate k e d .answer .stop)
 immediate-numbers k e (done on w) s = refl
 immediate-numbers k e (done skip w) s = refl
 immediate-numbers k e (done (go q) w) s = run-numbers k e q w

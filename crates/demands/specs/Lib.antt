@@ -10,3 +10,4 @@ pub mod Steps
 pub mod Valued
 pub mod Work
 pub mod Refusals
+pub mod Stopped
