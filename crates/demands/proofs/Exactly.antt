@@ -131,7 +131,7 @@ module _ (x : Lent) where
       λ h. let e = no-cr-is-7 x (h .0) (h .1) in (ap (λ (o : Outcome). o .answer .stop) e, ap (λ (o : Outcome). o .answer .line) e))
 
 -- 3: by the statement's form
-needs-of : (s : Stmt) → needsProgram s ≡ true → NeedsProgram s
+pub needs-of : (s : Stmt) → needsProgram s ≡ true → NeedsProgram s
 needs-of (letVar v a) h = absurd (false≢true h)
 needs-of (letStat a) h = absurd (false≢true h)
 needs-of (letByte a b) h = absurd (false≢true h)
@@ -151,7 +151,7 @@ needs-of (next v) h = aNext
 needs-of (input vs) h = anInput
 needs-of (inputText a) h = anInputString
 
-needs-one : {s : Stmt} → NeedsProgram s → needsProgram s ≡ true
+pub needs-one : {s : Stmt} → NeedsProgram s → needsProgram s ≡ true
 needs-one aDo = refl
 needs-one anUntil = refl
 needs-one aFor = refl

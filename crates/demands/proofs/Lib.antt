@@ -34,3 +34,4 @@ pub mod Valued
 pub mod Work
 pub mod Refusals
 pub mod Exactly
+pub mod Stopped

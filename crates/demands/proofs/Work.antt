@@ -372,11 +372,11 @@ module _ (e : Env) (w : World) where
   value-refused (inputText a) h = one-refused _ h
 
 -- an item that fits, or not, and what follows it
-put-fits : (bs : List ℕ) (w : World) (k : World → Done) → HasRoom w bs → went (put bs w) k ≡ k (wroteItem w bs)
+pub put-fits : (bs : List ℕ) (w : World) (k : World → Done) → HasRoom w bs → went (put bs w) k ≡ k (wroteItem w bs)
 unfolding put
 put-fits bs w k h = rw (le-leb (w .outpos + length bs) (length (w .output)) h)
 
-put-full : (bs : List ℕ) (w : World) (k : World → Done) → NoRoom w bs → went (put bs w) k ≡ done (stop 17) w
+pub put-full : (bs : List ℕ) (w : World) (k : World → Done) → NoRoom w bs → went (put bs w) k ≡ done (stop 17) w
 unfolding put
 put-full bs w k h = rw (lt-leb (w .outpos + length bs) (length (w .output)) h)
 
