@@ -36,7 +36,7 @@ use Rattle.demands.proofs.Exactly.{needs-of, needs-one}
 use Rattle.demands.proofs.Numbers.{firstNumbers, first-numbers}
 use Rattle.demands.proofs.Ways.{Takes, refused, noCR, overlong, unread, reads, every-line, Continues, refused′, continues, every-continue}
 use Rattle.demands.proofs.Accepted.{accepted-of}
-use Rattle.demands.proofs.Fixed.{apart, unsaid, lines-low, run-named}
+use Rattle.demands.proofs.Fixed.{apart, unsaid, Lined, lines-low, run-named}
 use Rattle.demands.proofs.Refusing.{quiet}
 use Rattle.demands.proofs.Retyping.{line-read}
 use Rattle.demands.proofs.Settling.{an-immediate-statement-is-done, list-is-done}
@@ -114,3 +114,126 @@ module _ (x : Lent) (sized : Sized (x .session)) where
         ↔ StoppedBy (lentEnv limit x) (x .call .budget) (continueRun (budgeted (continueRun x .answer .steps - 1) x)) (continueRun x) n
     unfolding continueRun
     a-continued-statements-stop = (λ h. by-last (the-last-statement-of-continue x sized (continue-steps refl (every-continue limit x) (h .1))) (h .0), last-by)
+
+-- LIST's rules leave no choice
+list-one : {n : ℕ} {rs : List Stored} {w : World} {d : Done} → ListsLines n rs w d → listFrom n rs w ≡ d
+unfolding listFrom
+list-one over = refl
+list-one {n} (below {r = r} {rs = rs} {w = w} h l) =
+    ap (λ (b : Bool). elim b [ true ↦ went (put (listed r) w) (listFrom n rs) | false ↦ listFrom n rs w ]) (lt-leb n (r .line) h) ∙ list-one l
+list-one {n} (listsLine {r = r} {rs = rs} {w = w} h i l) =
+    ap (λ (b : Bool). elim b [ true ↦ went (put (listed r) w) (listFrom n rs) | false ↦ listFrom n rs w ]) (le-leb n (r .line) h) ∙ put-fits (listed r) w (listFrom n rs) i ∙ list-one l
+list-one {n} (noRoomForLine {r = r} {rs = rs} {w = w} h i) =
+    ap (λ (b : Bool). elim b [ true ↦ went (put (listed r) w) (listFrom n rs) | false ↦ listFrom n rs w ]) (le-leb n (r .line) h) ∙ put-full (listed r) w (listFrom n rs) i
+
+-- the numbers of a statement that may be typed: neither 0 nor 14, nor one of a line
+abbrev none-of : List ℕ
+none-of = 0 ∷ 2 ∷ 3 ∷ 5 ∷ 7 ∷ 14 ∷ []
+
+module _ (x : Lent) (n : ℕ) (q : OneOf quiet n) where
+  not-quiet : OneOf none-of n → ⊥
+  not-quiet = apart quiet none-of refl n q
+
+  -- stopped without a line
+  record Unlined (o : Outcome) : Type 0 where
+    number : o .answer .stop ≡ n
+    unlined : o .answer .line ≡ noLine
+
+  plain : (m : ℕ) → OneOf none-of m → m ≡ n → ⊥
+  plain m h e = not-quiet (subst (OneOf none-of) e h)
+
+  edit-bare : (page : List ℕ) (w : World) (rs : List Stored) → Unlined (edited page w rs) → ⊥
+  unfolding edited
+  edit-bare page w rs =
+      if-split (λ o. Unlined o → ⊥) (leb (length (programBytes rs)) (length page)) (λ _ b. plain 0 refl (b .number)) (λ _ b. plain 2 refl (b .number))
+
+  run-bare : (k : ℕ) (e : Env) (at : ℕ) (w : World) → Lined (e .page) → Unlined (runOutcome (runFrom k e at w) (e .page)) → ⊥
+  run-bare k e at w low b = by (run-named k e at w low (b .unlined)) where
+    by : OneOf unsaid (runFrom k e at w .stop) → ⊥
+    by i = apart quiet unsaid refl n q (subst (OneOf unsaid) (b .number) i)
+
+  -- a statement or LIST that left the line bare, and its stop
+  done-bare : (k : ℕ) (e : Env) → Lined (e .page) → (d : Done) → Unlined (afterImmediate k e d) → (u : World) × (d ≡ done (stop n) u)
+  done-bare k e low (done on w) b = absurd (plain 0 refl (b .number))
+  done-bare k e low (done skip w) b = absurd (plain 0 refl (b .number))
+  done-bare k e low (done (go at) w) b = absurd (run-bare k e at w low b)
+  done-bare k e low (done (stop m) w) b = (w, ap (λ (i : ℕ). done (stop i) w) (b .number))
+
+  quiet-zero : n ≡ 0 → ⊥
+  quiet-zero e = plain 0 refl (sym e)
+
+  module _ (g : Gathered) (h : Typing limit x g) where
+    abbrev w : World
+    w = begun x (g .taken)
+
+    abbrev e : Env
+    e = lentEnv limit x
+
+    low : Lined (x .page)
+    low = lines-low limit (x .page) (omega arith) (accepted-of limit x (h .sound) .good)
+
+    obey-bare : (y : Typed) → LineReading (g .line .bytes) y → Unlined (obey (x .call .budget) e w y) → LineRefused x n
+    unfolding obey
+    obey-bare blank r b = absurd (plain 0 refl (b .number))
+    obey-bare new r b = absurd (edit-bare (x .page) w [] b)
+    obey-bare clear r b = absurd (plain 0 refl (b .number))
+    obey-bare run r b = absurd (run-bare (x .call .budget) e 0 _ low b)
+    obey-bare (delete m) r b = absurd (by (hasLine m (recordsOf (x .page))) b) where
+      by : (c : Bool) → Unlined (elim c [ true ↦ edited (x .page) w (without m (recordsOf (x .page))) | false ↦ stops 0 w (x .page) ]) → ⊥
+      by true b = edit-bare (x .page) w (without m (recordsOf (x .page))) b
+      by false b = plain 0 refl (b .number)
+    obey-bare (list m) r b =
+        let s = done-bare (x .call .budget) e low (listFrom m (recordsOf (x .page)) w) b in
+        byList h r (rw (s .1) at (list-works-line-by-line m (recordsOf (x .page)) w))
+    obey-bare (store m t ms) r b = absurd (edit-bare (x .page) w (with (record { line = m; text = t }) (recordsOf (x .page))) b)
+    obey-bare (immediate s) r b = by (needsProgram s) refl b where
+      by : (c : Bool) → needsProgram s ≡ c → Unlined (elim c [ true ↦ stops 3 w (x .page) | false ↦ afterImmediate (x .call .budget) e (exec e s w) ]) → LineRefused x n
+      by true m b = absurd (plain 3 refl (b .number))
+      by false m b =
+          let d = done-bare (x .call .budget) e low (exec e s w) b in
+          byStatement h r (λ c. true≢false (sym (needs-one c) ∙ m)) (refused-exactly e w s n (d .0) quiet-zero .0 (d .1))
+
+  line-bare : {o : Outcome} → Takes limit x o → Unlined o → LineRefused x n
+  line-bare (refused {n = m} h) b = absurd (apart quiet firstNumbers refl n q (subst (OneOf firstNumbers) (b .number) (first-numbers limit x (suc m) h)))
+  line-bare (noCR z h) b = absurd (plain 7 refl (b .number))
+  line-bare (overlong g z h l) b = absurd (plain 5 refl (b .number))
+  line-bare (unread g h r) b = absurd (plain 5 refl (b .number))
+  line-bare (reads g y h r) b = obey-bare g h y (typed-sound (g .line .bytes) y r) b
+
+  bare-of : (u : World) → takeLine x ≡ stops n u (x .page) → (takeLine x .answer .stop ≡ n) × (takeLine x .answer .line ≡ noLine)
+  bare-of u h = (ap (λ (o : Outcome). o .answer .stop) h, ap (λ (o : Outcome). o .answer .line) h)
+
+  refused-bare : LineRefused x n → (takeLine x .answer .stop ≡ n) × (takeLine x .answer .line ≡ noLine)
+  refused-bare (byStatement {g = g} {s = s} {u = u} h r m f) =
+      bare-of u (an-immediate-statement-is-done x g h s (stop n) n u r (by (needsProgram s) refl) (refused-exactly (lentEnv limit x) (begun x (g .taken)) s n u quiet-zero .1 f) gives)
+    where
+      by : (c : Bool) → needsProgram s ≡ c → needsProgram s ≡ false
+      by true e = absurd (m (needs-of s e))
+      by false e = e
+  refused-bare (byList {g = g} {m = m} {u = u} h r l) = bare-of u (list-is-done x g h m (stop n) n u r (list-one l) gives)
+
+  -- a typed line stops with n and no line exactly when its own statement is refused with n, or a line of its LIST
+  pub a-typed-statements-stop : ((takeLine x .answer .stop ≡ n) × (takeLine x .answer .line ≡ noLine)) ↔ LineRefused x n
+  unfolding takeLine
+  a-typed-statements-stop = (λ h. line-bare (every-line limit x) (record { number = h .0; unlined = h .1 }), refused-bare)
+
+-- So of each of these numbers: the typed line's own statement or LIST was refused with it, or the last statement of its run
+pub a-statements-stop : (x : Lent) → Sized (x .session) → (n : ℕ) → OneOf quiet n → (takeLine x .answer .stop ≡ n)
+    ↔ (LineRefused x n ⊎ StoppedBy (lentEnv limit x) (x .call .budget) (takeLine (budgeted (takeLine x .answer .steps - 1) x)) (takeLine x) n)
+a-statements-stop x sized n q = (λ h. by-cases (eqb (takeLine x .answer .line) noLine) (λ e. inl (typed′ .0 (h, eqb-true _ _ e))) (λ e. inr (stopped .0 (h, eqb-false _ _ e))), back) where
+  z : n ≡ 0 → ⊥
+  z = quiet-zero x n q
+
+  p : n ≡ 14 → ⊥
+  p e = plain x n q 14 refl (sym e)
+
+  typed′ : ((takeLine x .answer .stop ≡ n) × (takeLine x .answer .line ≡ noLine)) ↔ LineRefused x n
+  typed′ = a-typed-statements-stop x n q
+
+  stopped : ((takeLine x .answer .stop ≡ n) × (takeLine x .answer .line ≡ noLine → ⊥))
+      ↔ StoppedBy (lentEnv limit x) (x .call .budget) (takeLine (budgeted (takeLine x .answer .steps - 1) x)) (takeLine x) n
+  stopped = a-program-statements-stop x sized n z p
+
+  back : LineRefused x n ⊎ StoppedBy (lentEnv limit x) (x .call .budget) (takeLine (budgeted (takeLine x .answer .steps - 1) x)) (takeLine x) n → takeLine x .answer .stop ≡ n
+  back (inl r) = typed′ .1 r .0
+  back (inr r) = stopped .1 r .0
