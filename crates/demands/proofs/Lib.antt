@@ -1,3 +1,4 @@
+pub mod Does
 pub mod Effects
 pub mod Runs
 pub mod Budget
@@ -35,3 +36,4 @@ pub mod Work
 pub mod Refusals
 pub mod Exactly
 pub mod Stopped
+pub mod Changed

@@ -18,7 +18,7 @@ use Rattle.nibl.specs.Calls.{Lent, Outcome, Ran, runFrom, envAt, afterStep, run
 use Rattle.nibl.proofs.Words.{if-split}
 use Rattle.nibl.proofs.Lines.{typed-sound}
 use Rattle.demands.specs.Lent.{Typing, InRange}
-use Rattle.demands.specs.Effects.{GivesVariables, gave, refused, gives, Does, writes, takes, refuses, passes, skips, assigns, assignsFlags, stores, goesTo, saves, returns, loops, repeats, leaves, begins, again, finishes, inputs}
+use Rattle.demands.proofs.Does.{GivesVariables, gave, refused, gives, Does, writes, takes, refuses, passes, skips, assigns, assignsFlags, stores, goesTo, saves, returns, loops, repeats, leaves, begins, again, finishes, inputs}
 use Rattle.demands.specs.Items.{TypedItem, ofList, ofStatement}
 use Rattle.demands.specs.Steps.{placeEnding, crOf, ProgramItem, ofMember, LineItem, ofTyped, ofProgram}
 use Rattle.demands.specs.Leaves.{WholeItems, noItem, item, WholeLines, noneTaken, line, WroteItems, WroteFrom, StaysInRange}

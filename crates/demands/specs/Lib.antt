@@ -1,5 +1,4 @@
 pub mod Items
-pub mod Effects
 pub mod Asks
 pub mod Lent
 pub mod Leaves
@@ -11,3 +10,4 @@ pub mod Valued
 pub mod Work
 pub mod Refusals
 pub mod Stopped
+pub mod Changed
