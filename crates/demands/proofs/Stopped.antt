@@ -1,6 +1,6 @@
 -- A call's stop by a statement: of the program, exactly when its last statement is refused so; of the typed line, exactly when its own statement, or LIST, is.
 -- Assumes nothing.
-use Prim.Native.Nat.{ℕ, suc, _-_, _≤_}
+use Prim.Native.Nat.{ℕ, zero, suc, _-_, _≤_}
 use mathlib.Core.Path.{_≡_, refl, sym, ap, subst, _∙_}
 use mathlib.Core.Bool.{Bool, true, false, true≢false, false≢true}
 use mathlib.Core.List.{List, [], _∷_}
@@ -17,7 +17,7 @@ use Rattle.nibl.specs.Readings.{LineReading}
 use Rattle.nibl.specs.Typing.{Gathered}
 use Rattle.nibl.specs.Page.{Stored, recordsOf, hasLine, with, without, programBytes}
 use Rattle.nibl.specs.Meaning.{World, Env, Next, on, skip, go, stop, Done, done, went, put, exec}
-use Rattle.nibl.specs.Calls.{Lent, Outcome, Ran, noLine, envAt, runFrom, runOutcome, stops, begun, lentEnv, edited, listed, listFrom, afterImmediate, needsProgram, obey, takeLine, continueRun, limit}
+use Rattle.nibl.specs.Calls.{Lent, Outcome, Ran, noLine, envAt, runFrom, runOutcome, stops, begun, lentEnv, edited, listed, listFrom, afterImmediate, needsProgram, obey, takeLine, continueFrom, continueRun, limit}
 use Rattle.nibl.proofs.Words.{if-split}
 use Rattle.nibl.proofs.Lines.{typed-sound}
 use Rattle.nibl.proofs.Whole.{typed-complete}
@@ -28,16 +28,16 @@ use Rattle.demands.specs.Items.{ListsLines, over, below, listsLine, noRo
 use Rattle.demands.specs.Starts.{gives}
 use Rattle.demands.specs.Steps.{placeEnding, crOf, worldLeft, GoesTo, Ends, halts, runsOut, pauses, OneMore}
 use Rattle.demands.specs.Sound.{Shows, without as unnamed, itsLine, Answered, byLine, byRun}
-use Rattle.demands.specs.Refusals.{Refusal}
-use Rattle.demands.specs.Stopped.{NeedsProgram, LineRefused, byStatement, byList, StoppedBy}
+use Rattle.demands.specs.Work.{Asking, forVariables, forString, Reaches, itself, throughIf}
+use Rattle.demands.specs.Refusals.{Unheard, overLong, notInForm, Refusal}
+use Rattle.demands.specs.Stopped.{NeedsProgram, underIf, anInput, anInputString, statementNumbers, ownNumbers, LineRefused, byStatement, byList, StoppedBy}
 use Rattle.demands.proofs.Work.{put-fits, put-full}
-use Rattle.demands.proofs.Refusals.{refused-exactly}
+use Rattle.demands.proofs.Refusals.{refused-exactly, six-exactly}
 use Rattle.demands.proofs.Exactly.{needs-of, needs-one}
 use Rattle.demands.proofs.Numbers.{firstNumbers, first-numbers}
 use Rattle.demands.proofs.Ways.{Takes, refused, noCR, overlong, unread, reads, every-line, Continues, refused′, continues, every-continue}
 use Rattle.demands.proofs.Accepted.{accepted-of}
 use Rattle.demands.proofs.Fixed.{apart, unsaid, Lined, lines-low, run-named}
-use Rattle.demands.proofs.Refusing.{quiet}
 use Rattle.demands.proofs.Retyping.{line-read}
 use Rattle.demands.proofs.Settling.{an-immediate-statement-is-done, list-is-done}
 use Rattle.demands.proofs.Printing.{list-works-line-by-line}
@@ -126,21 +126,21 @@ list-one {n} (listsLine {r = r} {rs = rs} {w = w} h i l) =
 list-one {n} (noRoomForLine {r = r} {rs = rs} {w = w} h i) =
     ap (λ (b : Bool). elim b [ true ↦ went (put (listed r) w) (listFrom n rs) | false ↦ listFrom n rs w ]) (le-leb n (r .line) h) ∙ put-full (listed r) w (listFrom n rs) i
 
--- the numbers of a statement that may be typed: neither 0 nor 14, nor one of a line
-abbrev none-of : List ℕ
-none-of = 0 ∷ 2 ∷ 3 ∷ 5 ∷ 7 ∷ 14 ∷ []
+-- what a typed line gives by itself
+abbrev lineNumbers : List ℕ
+lineNumbers = 0 ∷ 2 ∷ 3 ∷ 5 ∷ 7 ∷ 14 ∷ []
 
-module _ (x : Lent) (n : ℕ) (q : OneOf quiet n) where
-  not-quiet : OneOf none-of n → ⊥
-  not-quiet = apart quiet none-of refl n q
+module _ (x : Lent) (n : ℕ) (q : OneOf ownNumbers n) where
+  not-own : OneOf lineNumbers n → ⊥
+  not-own = apart ownNumbers lineNumbers refl n q
 
   -- stopped without a line
   record Unlined (o : Outcome) : Type 0 where
     number : o .answer .stop ≡ n
     unlined : o .answer .line ≡ noLine
 
-  plain : (m : ℕ) → OneOf none-of m → m ≡ n → ⊥
-  plain m h e = not-quiet (subst (OneOf none-of) e h)
+  plain : (m : ℕ) → OneOf lineNumbers m → m ≡ n → ⊥
+  plain m h e = not-own (subst (OneOf lineNumbers) e h)
 
   edit-bare : (page : List ℕ) (w : World) (rs : List Stored) → Unlined (edited page w rs) → ⊥
   unfolding edited
@@ -150,7 +150,7 @@ module _ (x : Lent) (n : ℕ) (q : OneOf quiet n) where
   run-bare : (k : ℕ) (e : Env) (at : ℕ) (w : World) → Lined (e .page) → Unlined (runOutcome (runFrom k e at w) (e .page)) → ⊥
   run-bare k e at w low b = by (run-named k e at w low (b .unlined)) where
     by : OneOf unsaid (runFrom k e at w .stop) → ⊥
-    by i = apart quiet unsaid refl n q (subst (OneOf unsaid) (b .number) i)
+    by i = apart ownNumbers unsaid refl n q (subst (OneOf unsaid) (b .number) i)
 
   -- a statement or LIST that left the line bare, and its stop
   done-bare : (k : ℕ) (e : Env) → Lined (e .page) → (d : Done) → Unlined (afterImmediate k e d) → (u : World) × (d ≡ done (stop n) u)
@@ -159,8 +159,8 @@ module _ (x : Lent) (n : ℕ) (q : OneOf quiet n) where
   done-bare k e low (done (go at) w) b = absurd (run-bare k e at w low b)
   done-bare k e low (done (stop m) w) b = (w, ap (λ (i : ℕ). done (stop i) w) (b .number))
 
-  quiet-zero : n ≡ 0 → ⊥
-  quiet-zero e = plain 0 refl (sym e)
+  own-zero : n ≡ 0 → ⊥
+  own-zero e = plain 0 refl (sym e)
 
   module _ (g : Gathered) (h : Typing limit x g) where
     abbrev w : World
@@ -191,10 +191,10 @@ module _ (x : Lent) (n : ℕ) (q : OneOf quiet n) where
       by true m b = absurd (plain 3 refl (b .number))
       by false m b =
           let d = done-bare (x .call .budget) e low (exec e s w) b in
-          byStatement h r (λ c. true≢false (sym (needs-one c) ∙ m)) (refused-exactly e w s n (d .0) quiet-zero .0 (d .1))
+          byStatement h r (λ c. true≢false (sym (needs-one c) ∙ m)) (refused-exactly e w s n (d .0) own-zero .0 (d .1))
 
   line-bare : {o : Outcome} → Takes limit x o → Unlined o → LineRefused x n
-  line-bare (refused {n = m} h) b = absurd (apart quiet firstNumbers refl n q (subst (OneOf firstNumbers) (b .number) (first-numbers limit x (suc m) h)))
+  line-bare (refused {n = m} h) b = absurd (apart ownNumbers firstNumbers refl n q (subst (OneOf firstNumbers) (b .number) (first-numbers limit x (suc m) h)))
   line-bare (noCR z h) b = absurd (plain 7 refl (b .number))
   line-bare (overlong g z h l) b = absurd (plain 5 refl (b .number))
   line-bare (unread g h r) b = absurd (plain 5 refl (b .number))
@@ -205,7 +205,7 @@ module _ (x : Lent) (n : ℕ) (q : OneOf quiet n) where
 
   refused-bare : LineRefused x n → (takeLine x .answer .stop ≡ n) × (takeLine x .answer .line ≡ noLine)
   refused-bare (byStatement {g = g} {s = s} {u = u} h r m f) =
-      bare-of u (an-immediate-statement-is-done x g h s (stop n) n u r (by (needsProgram s) refl) (refused-exactly (lentEnv limit x) (begun x (g .taken)) s n u quiet-zero .1 f) gives)
+      bare-of u (an-immediate-statement-is-done x g h s (stop n) n u r (by (needsProgram s) refl) (refused-exactly (lentEnv limit x) (begun x (g .taken)) s n u own-zero .1 f) gives)
     where
       by : (c : Bool) → needsProgram s ≡ c → needsProgram s ≡ false
       by true e = absurd (m (needs-of s e))
@@ -218,11 +218,11 @@ module _ (x : Lent) (n : ℕ) (q : OneOf quiet n) where
   a-typed-statements-stop = (λ h. line-bare (every-line limit x) (record { number = h .0; unlined = h .1 }), refused-bare)
 
 -- So of each of these numbers: the typed line's own statement or LIST was refused with it, or the last statement of its run
-pub a-statements-stop : (x : Lent) → Sized (x .session) → (n : ℕ) → OneOf quiet n → (takeLine x .answer .stop ≡ n)
+pub a-statements-stop : (x : Lent) → Sized (x .session) → (n : ℕ) → OneOf ownNumbers n → (takeLine x .answer .stop ≡ n)
     ↔ (LineRefused x n ⊎ StoppedBy (lentEnv limit x) (x .call .budget) (takeLine (budgeted (takeLine x .answer .steps - 1) x)) (takeLine x) n)
 a-statements-stop x sized n q = (λ h. by-cases (eqb (takeLine x .answer .line) noLine) (λ e. inl (typed′ .0 (h, eqb-true _ _ e))) (λ e. inr (stopped .0 (h, eqb-false _ _ e))), back) where
   z : n ≡ 0 → ⊥
-  z = quiet-zero x n q
+  z = own-zero x n q
 
   p : n ≡ 14 → ⊥
   p e = plain x n q 14 refl (sym e)
@@ -237,3 +237,59 @@ a-statements-stop x sized n q = (λ h. by-cases (eqb (takeLine x .answer .line) 
   back : LineRefused x n ⊎ StoppedBy (lentEnv limit x) (x .call .budget) (takeLine (budgeted (takeLine x .answer .steps - 1) x)) (takeLine x) n → takeLine x .answer .stop ≡ n
   back (inl r) = typed′ .1 r .0
   back (inr r) = stopped .1 r .0
+
+-- 6 is never a typed line's own: INPUT needs a program
+asking-needs : {e : Env} {w : World} {q : Stmt} → Asking e w q → NeedsProgram q
+asking-needs forVariables = anInput
+asking-needs (forString h) = anInputString
+
+unheard-needs : {e : Env} {w u : World} {q : Stmt} → Unheard e w u q → NeedsProgram q
+unheard-needs (overLong a r h i) = asking-needs a
+unheard-needs (notInForm r s h i) = anInput
+
+reached-needs : {e : Env} {w : World} {s q : Stmt} → Reaches e w s q → NeedsProgram q → NeedsProgram s
+reached-needs itself n = n
+reached-needs (throughIf h z r) n = underIf (reached-needs r n)
+
+no-typed-six : (x : Lent) → LineRefused x 6 → ⊥
+no-typed-six x (byStatement {g = g} {s = s} {u = u} h r n f) =
+    let e = lentEnv limit x in
+    let c = six-exactly e (begun x (g .taken)) s u .0 (refused-exactly e (begun x (g .taken)) s 6 u (λ i. omega arith) .1 f) in
+    n (reached-needs (c .reached) (unheard-needs (c .holds)))
+no-typed-six x (byList h r l) = list-stops l refl where
+  list-stops : {m : ℕ} {rs : List Stored} {w : World} {d : Done} {u : World} → ListsLines m rs w d → d ≡ done (stop 6) u → ⊥
+  list-stops over i = let z : _≡_ {A = ℕ} 0 1 = cc in omega arith
+  list-stops (below h l) i = list-stops l i
+  list-stops (listsLine h r l) i = list-stops l i
+  list-stops (noRoomForLine h r) i = let z : _≡_ {A = ℕ} 17 6 = cc in omega arith
+
+-- "reply over-long or not in its form": 6 is the stop of the last statement of a run, and of no other
+pub a-replys-stop : (x : Lent) → Sized (x .session) → (takeLine x .answer .stop ≡ 6)
+    ↔ StoppedBy (lentEnv limit x) (x .call .budget) (takeLine (budgeted (takeLine x .answer .steps - 1) x)) (takeLine x) 6
+a-replys-stop x sized = (λ h. by (s .0 h), λ r. s .1 (inr r)) where
+  s : (takeLine x .answer .stop ≡ 6)
+      ↔ (LineRefused x 6 ⊎ StoppedBy (lentEnv limit x) (x .call .budget) (takeLine (budgeted (takeLine x .answer .steps - 1) x)) (takeLine x) 6)
+  s = a-statements-stop x sized 6 refl
+
+  by : LineRefused x 6 ⊎ StoppedBy (lentEnv limit x) (x .call .budget) (takeLine (budgeted (takeLine x .answer .steps - 1) x)) (takeLine x) 6
+      → StoppedBy (lentEnv limit x) (x .call .budget) (takeLine (budgeted (takeLine x .answer .steps - 1) x)) (takeLine x) 6
+  by (inl r) = absurd (no-typed-six x r)
+  by (inr r) = r
+
+-- A continued run has no statement but the program's: all of these numbers, INPUT's 7 too, are its last statement's
+module _ (x : Lent) (n : ℕ) (q : OneOf statementNumbers n) where
+  paused-lined : (p : ℕ) → Lined (x .page) → continueFrom limit x p .answer .stop ≡ n → continueFrom limit x p .answer .line ≡ noLine → ⊥
+  paused-lined zero low h l = apart statementNumbers (0 ∷ []) refl n q (subst (OneOf (0 ∷ [])) h refl)
+  paused-lined (suc at) low h l =
+      apart statementNumbers unsaid refl n q (subst (OneOf unsaid) h (run-named (x .call .budget) (lentEnv limit x) at (begun x 0) low l))
+
+  continue-lined : {o : Outcome} → Continues limit x o → o .answer .stop ≡ n → o .answer .line ≡ noLine → ⊥
+  continue-lined (refused′ {n = m} h) i l = apart statementNumbers firstNumbers refl n q (subst (OneOf firstNumbers) i (first-numbers limit x (suc m) h))
+  continue-lined (continues h) i l = paused-lined (x .session .paused) (lines-low limit (x .page) (omega arith) (accepted-of limit x h .good)) i l
+
+  pub a-continued-stop : Sized (x .session) → (continueRun x .answer .stop ≡ n)
+      ↔ StoppedBy (lentEnv limit x) (x .call .budget) (continueRun (budgeted (continueRun x .answer .steps - 1) x)) (continueRun x) n
+  unfolding continueRun
+  a-continued-stop sized =
+      let c = a-continued-statements-stop x sized n (λ e. apart statementNumbers unsaid refl n q (subst (OneOf unsaid) (sym e) refl)) (λ e. apart statementNumbers unsaid refl n q (subst (OneOf unsaid) (sym e) refl)) in
+      (λ h. c .0 (h, λ l. continue-lined (every-continue limit x) h l), λ r. c .1 r .0)

@@ -1,10 +1,10 @@
 -- An expression is worth what document 01 says, and nothing else. Assumes nothing.
-use Prim.Native.Nat.{ℕ, _+_, _-_, _*_, _/_, _%_, _≤_, _<_}
-use mathlib.Core.Path.{_≡_, refl, sym, ap, _∙_}
+use Prim.Native.Nat.{ℕ, zero, suc, _+_, _-_, _*_, _/_, _%_, _^_, _≤_, _<_}
+use mathlib.Core.Path.{_≡_, refl, sym, ap, subst}
 use mathlib.Core.Bool.{Bool, true, false, not, _&&_, true≢false}
 use mathlib.Core.List.{List, [], _∷_, _++_}
 use mathlib.Core.Logic.{_↔_, _⊎_, inl, inr}
-use native.Mathlib.Nat.{zero-add}
+use native.Mathlib.Nat.{zero-add, pow-suc}
 use native.Mathlib.Omega.{arith}
 use lib.ListN.{length, getD, drop}
 use lib.Dec.{ltb, eqb}
@@ -13,14 +13,15 @@ use Rattle.nibl.specs.Bytes.{if_then_else_, All, none, each, notCR, front, all}
 use Rattle.nibl.specs.Tree.{Op, times, dividedBy, andBits, plus, minus, orBits, equal, less, greater, atMost, atLeast, unequal}
 use Rattle.nibl.specs.Tree.{Expr, var, const, stat, top, byteAt, invert, negate, modulo, two}
 use Rattle.nibl.specs.Tree.{Item, text, stored, value}
-use Rattle.nibl.specs.Values.{Result, is, no, Value, isNegative, magnitude, less16, bit, differ, quotient16, remainder16, sub16, unlessZero, mod16, apply, digits, printed}
+use Rattle.nibl.specs.Values.{Result, is, no, Value, isNegative, magnitude, less16, bit, differ, quotient16, remainder16, sub16, unlessZero, mod16, apply, digitsN, digits, printed}
 use Rattle.nibl.specs.Page.{recordsOf, used}
 use Rattle.nibl.specs.Meaning.{World, Env, bind, byteOf, stringAt, eval}
 use Rattle.nibl.proofs.Words.{if-split, and-left, and-right}
+use Rattle.value.proofs.Digits.{digits-before}
 use Rattle.page.proofs.Walk.{by-cases}
 use Rattle.page.proofs.Program.{program-length}
 use Rattle.demands.specs.Items.{itemBytes}
-use Rattle.demands.specs.Valued.{Signed, fromZero, belowZero, order, Related, same, notSame, below, notBelow, above, notAbove, upTo, notUpTo, fromOn, notFromOn, other, notOther, Operated, sums, differences, products, quotients, quotientsBelow, noQuotient, both, either, relates, Remains, remainders, noRemainder, ValueOf, ofVariable, ofConstant, ofStat, ofTop, ofByte, noByte, ofNot, ofMinus, ofMod, ofTwo, inByte, inNot, inMinus, leftOfMod, rightOfMod, leftOfTwo, rightOfTwo, StringAt, NoString, Shown, shown, shownBelow, ItemBytes, ofText, ofString, ofNumber, noString, noAddress, noNumber}
+use Rattle.demands.specs.Valued.{Signed, fromZero, belowZero, order, Below, acrossZero, aboveZero, underZero, Related, same, notSame, below, notBelow, above, notAbove, upTo, notUpTo, fromOn, notFromOn, other, notOther, Operated, sums, differences, products, quotients, quotientsBelow, noQuotient, both, either, relates, Remains, remainders, noRemainder, ValueOf, ofVariable, ofConstant, ofStat, ofTop, ofByte, noByte, ofNot, ofMinus, ofMod, ofTwo, inByte, inNot, inMinus, leftOfMod, rightOfMod, leftOfTwo, rightOfTwo, StringAt, NoString, Decimal, oneDigit, moreDigits, Shown, shown, shownBelow, ItemBytes, ofText, ofString, ofNumber, noString, noAddress, noNumber}
 
 -- Sign and size
 pub signed-of : (x : ℕ) → Signed x (isNegative x) (magnitude x)
@@ -29,6 +30,20 @@ signed-of x = by-cases (ltb x 32768) (λ h. rw h (fromZero (ltb-true x 32768 h))
 pub signed-one : {x m : ℕ} {s : Bool} → Signed x s m → (isNegative x ≡ s) × (magnitude x ≡ m)
 signed-one (fromZero {x = x} h) = (rw (lt-ltb x 32768 h), rw (lt-ltb x 32768 h))
 signed-one (belowZero {x = x} h) = (rw (le-ltb x 32768 h), rw (le-ltb x 32768 h))
+
+-- the order by sign and size
+pub the-signed-order : (x y : ℕ) → x < 65536 → y < 65536 → (order x < order y) ↔ Below x y
+the-signed-order x y a b = (λ h. by h (ltb x 32768) refl (ltb y 32768) refl, back) where
+  by : order x < order y → (s : Bool) → ltb x 32768 ≡ s → (t : Bool) → ltb y 32768 ≡ t → Below x y
+  by h true s true t = aboveZero (fromZero (ltb-true _ _ s)) (fromZero (ltb-true _ _ t)) (omega (arith, ltb-true x 32768 s, ltb-true y 32768 t))
+  by h true s false t = absurd (omega (arith, ltb-true x 32768 s, ltb-false y 32768 t))
+  by h false s true t = acrossZero (belowZero (ltb-false _ _ s)) (fromZero (ltb-true _ _ t))
+  by h false s false t = underZero (belowZero (ltb-false _ _ s)) (belowZero (ltb-false _ _ t)) (omega (arith, ltb-false x 32768 s, ltb-false y 32768 t))
+
+  back : Below x y → order x < order y
+  back (acrossZero (belowZero h) (fromZero g)) = omega arith
+  back (aboveZero (fromZero h) (fromZero g) l) = omega arith
+  back (underZero (belowZero h) (belowZero g) l) = omega arith
 
 -- A test's bit
 bit-of : (P : ℕ → Type 0) (t : Bool) → (t ≡ true → P 1) → (t ≡ false → P 0) → P (bit t)
@@ -218,18 +233,41 @@ module _ (memory : List ℕ) (p : ℕ) where
   unfolding stringAt
   string-none h = rw (no-cr-all h)
 
+-- Digits
+decimal-of : (k n : ℕ) → n < 10 ^ suc k → Decimal n (digitsN (suc k) n [])
+decimal-of zero n h = let l : n < 10 = omega arith in rw (lt-ltb n 10 l, digitsN) (oneDigit l)
+decimal-of (suc k) n h = by (decimal-of k (n / 10)) (ltb n 10) refl where
+  p : 10 ^ suc (suc k) ≡ 10 ^ suc k * 10
+  p = pow-suc 10 (suc k)
+
+  by : (n / 10 < 10 ^ suc k → Decimal (n / 10) (digitsN (suc k) (n / 10) [])) → (t : Bool) → ltb n 10 ≡ t
+      → Decimal n (elim t [ true ↦ (48 + n) ∷ [] | false ↦ digitsN (suc k) (n / 10) ((48 + n % 10) ∷ []) ])
+  by f true t = oneDigit (ltb-true n 10 t)
+  by f false t =
+      subst (Decimal n) (sym (digits-before (suc k) (n / 10) [] ((48 + n % 10) ∷ []))) (moreDigits (ltb-false n 10 t) (f (omega (arith, p))))
+
+decimal-unique : {n : ℕ} {ds es : List ℕ} → Decimal n ds → Decimal n es → ds ≡ es
+decimal-unique (oneDigit h) (oneDigit g) = refl
+decimal-unique (oneDigit h) (moreDigits g e) = absurd (omega arith)
+decimal-unique (moreDigits h d) (oneDigit g) = absurd (omega arith)
+decimal-unique (moreDigits {n = n} h d) (moreDigits g e) = ap (λ (l : List ℕ). l ++ ((48 + n % 10) ∷ [])) (decimal-unique d e)
+
+signed-small : {x m : ℕ} {s : Bool} → Signed x s m → m < 10 ^ 5
+signed-small (fromZero h) = omega arith
+signed-small (belowZero h) = omega arith
+
 -- Items
 shown-of : (x : ℕ) → Shown x (printed x)
-unfolding printed
+unfolding printed digits
 shown-of x = by (isNegative x) (signed-of x) where
   by : (s : Bool) → Signed x s (magnitude x) → Shown x ((if s then 45 else 32) ∷ (digits (magnitude x) ++ (32 ∷ [])))
-  by true h = shownBelow h
-  by false h = shown h
+  by true h = shownBelow h (decimal-of 4 (magnitude x) (signed-small h))
+  by false h = shown h (decimal-of 4 (magnitude x) (signed-small h))
 
 shown-one : {x : ℕ} {bs : List ℕ} → Shown x bs → printed x ≡ bs
-unfolding printed
-shown-one (shown h) = rw (signed-one h .1, signed-one h .0)
-shown-one (shownBelow h) = rw (signed-one h .1, signed-one h .0)
+unfolding printed digits
+shown-one (shown {m = m} h d) = rw (signed-one h .1, signed-one h .0, decimal-unique (decimal-of 4 m (signed-small h)) d)
+shown-one (shownBelow {m = m} h d) = rw (signed-one h .1, signed-one h .0, decimal-unique (decimal-of 4 m (signed-small h)) d)
 
 module _ (e : Env) (w : World) where
   pub item-of : (i : Item) → ItemBytes e w i (itemBytes e w i)

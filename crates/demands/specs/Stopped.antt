@@ -2,7 +2,7 @@
 use Prim.Native.Nat.{ℕ, _+_, _<_}
 use mathlib.Core.Path.{_≡_}
 use mathlib.Core.Bool.{false}
-use mathlib.Core.List.{List}
+use mathlib.Core.List.{List, [], _∷_}
 use lib.ListN.{length}
 use Rattle.nibl.specs.Tree.{Expr, Stmt, until, doLoop, ifThen, for, next, input, inputText, Member, list, store, immediate}
 use Rattle.nibl.specs.Readings.{LineReading}
@@ -43,6 +43,13 @@ pub record DoesNotFit (x : Lent) : Type 0 where
   pub members : List Member
   pub reading : LineReading (gathered .line .bytes) (store line text members)
   pub full : length (x .page) < usedBy (others line (recordsOf (x .page))) + (length text + 4)
+
+-- the numbers that a statement is refused with, and END's; and those of them that a typed line gives for nothing else, which is all but 7
+abbrev pub statementNumbers : List ℕ
+statementNumbers = 6 ∷ 7 ∷ 8 ∷ 9 ∷ 10 ∷ 11 ∷ 12 ∷ 13 ∷ 15 ∷ 16 ∷ 17 ∷ 20 ∷ []
+
+abbrev pub ownNumbers : List ℕ
+ownNumbers = 6 ∷ 8 ∷ 9 ∷ 10 ∷ 11 ∷ 12 ∷ 13 ∷ 15 ∷ 16 ∷ 17 ∷ 20 ∷ []
 
 -- A typed line's own refusal past its reading: an immediate statement is refused, or a line of LIST does not fit
 pub data LineRefused (x : Lent) (n : ℕ) : Type 0 where

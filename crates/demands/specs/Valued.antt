@@ -10,7 +10,7 @@ use Rattle.nibl.specs.Bytes.{All, notCR}
 use Rattle.nibl.specs.Tree.{Op, times, dividedBy, andBits, plus, minus, orBits, equal, less, greater, atMost, atLeast, unequal}
 use Rattle.nibl.specs.Tree.{Expr, var, const, stat, top, byteAt, invert, negate, modulo, two}
 use Rattle.nibl.specs.Tree.{Item, text, stored, value}
-use Rattle.nibl.specs.Values.{Result, is, no, digits}
+use Rattle.nibl.specs.Values.{Result, is, no}
 use Rattle.nibl.specs.Page.{recordsOf, programBytes}
 use Rattle.nibl.specs.Meaning.{World, Env}
 
@@ -19,9 +19,14 @@ pub data Signed : ℕ → Bool → ℕ → Type 0 where
   fromZero : {x : ℕ} → x < 32768 → Signed x false x
   belowZero : {x : ℕ} → 32768 ≤ x → Signed x true (65536 - x)
 
--- the signed order: what is below 0 comes first
+-- the signed order of 16-bit values: what is below 0 comes first. By sign and size it is `Below` (`the-signed-order`)
 abbrev pub order : ℕ → ℕ
 order x = (x + 32768) % 65536
+
+pub data Below (x y : ℕ) : Type 0 where
+  acrossZero : {m n : ℕ} → Signed x true m → Signed y false n → Below x y
+  aboveZero : {m n : ℕ} → Signed x false m → Signed y false n → m < n → Below x y
+  underZero : {m n : ℕ} → Signed x true m → Signed y true n → n < m → Below x y
 
 -- "Relations are signed and give 1 or 0"
 pub data Related : Op → ℕ → ℕ → ℕ → Type 0 where
@@ -97,10 +102,15 @@ pub record StringAt (memory : List ℕ) (p : ℕ) (bs : List ℕ) : Type 0 where
 abbrev pub NoString : List ℕ → ℕ → Type 0
 NoString memory p = All notCR (drop p memory)
 
+-- decimal digits: one of a number below 10; of another those of its tenth part, and then its last
+pub data Decimal : ℕ → List ℕ → Type 0 where
+  oneDigit : {n : ℕ} → n < 10 → Decimal n ((48 + n) ∷ [])
+  moreDigits : {n : ℕ} {ds : List ℕ} → 10 ≤ n → Decimal (n / 10) ds → Decimal n (ds ++ ((48 + n % 10) ∷ []))
+
 -- "A number prints as a space or '-', digits, a space"
 pub data Shown : ℕ → List ℕ → Type 0 where
-  shown : {x m : ℕ} → Signed x false m → Shown x (32 ∷ (digits m ++ (32 ∷ [])))
-  shownBelow : {x m : ℕ} → Signed x true m → Shown x (45 ∷ (digits m ++ (32 ∷ [])))
+  shown : {x m : ℕ} {ds : List ℕ} → Signed x false m → Decimal m ds → Shown x (32 ∷ (ds ++ (32 ∷ [])))
+  shownBelow : {x m : ℕ} {ds : List ℕ} → Signed x true m → Decimal m ds → Shown x (45 ∷ (ds ++ (32 ∷ [])))
 
 -- the bytes of one of PRINT's items, or its refusal
 pub data ItemBytes (e : Env) (w : World) : Item → Result (List ℕ) → Type 0 where
