@@ -1,21 +1,21 @@
 -- What assignments, stores, PRINT and INPUT change, with their values; and that they change nothing else. Assumes nothing.
-use Prim.Native.Nat.{ℕ, _+_, _%_, _≤_, _<_}
+use Prim.Native.Nat.{ℕ, _+_, _%_, _≤_}
 use mathlib.Core.Path.{_≡_, refl, sym, ap, subst, _∙_}
 use mathlib.Core.Bool.{Bool, true, false}
 use mathlib.Core.List.{List, [], _∷_, _++_, append-nil}
 use mathlib.Core.Logic.{_↔_}
 use native.Mathlib.Nat.{add-zero}
 use native.Mathlib.Omega.{arith}
-use lib.ListN.{length, getD, set, length-append}
+use lib.ListN.{length, length-append}
 use lib.Seq.{sets, sets-eq, length-sets, getD-set-same, getD-set-other}
 use Rattle.nibl.specs.Tree.{Expr, Item, Stmt, letVar, letByte, letText, letCopy, print, input}
 use Rattle.nibl.specs.Values.{Result, is, no}
 use Rattle.nibl.specs.Record.{withVar}
-use Rattle.nibl.specs.Meaning.{World, Env, on, Done, done, withSession, withMemory, withOutput, exec}
+use Rattle.nibl.specs.Meaning.{World, Env, on, done, withSession, withMemory, withOutput, exec}
 use Rattle.demands.specs.Items.{wroteItem, HasRoom}
 use Rattle.demands.specs.Valued.{ValueOf, ofVariable, ofConstant, ofStat, ofTop, ofByte, noByte, ofNot, ofMinus, ofMod, ofTwo, inByte, inNot, inMinus, leftOfMod, rightOfMod, leftOfTwo, rightOfTwo, ItemBytes, ofText, ofString, ofNumber, noString, noAddress, noNumber}
-use Rattle.demands.specs.Work.{withCR, AllOut, noneLeft, oneOut, Performs, assigns, storesByte, storesText, copies, prints, printsEnd, inputs, Reaches, itself, Works}
-use Rattle.demands.specs.Changed.{OnlyVariable, OnlyBytes, OnlyOutput, replaced, Assigns, StoresByte, StoresText, Copies, ItemsBytes, noItems, nextItem, lineEnd, Prints, Hears}
+use Rattle.demands.specs.Work.{withCR, AllOut, noneLeft, oneOut, Performs, assigns, storesByte, storesText, copies, prints, printsEnd, inputs, Reaches, itself}
+use Rattle.demands.specs.Changed.{OnlyVariable, OnlyBytes, OnlyOutput, Assigns, StoresByte, StoresText, Copies, ItemsBytes, noItems, nextItem, Prints, Hears}
 use Rattle.demands.proofs.Listing.{wrote-more}
 use Rattle.demands.proofs.Work.{works, works-one}
 
@@ -90,7 +90,8 @@ out-alone w room o =
     let f = only-output w (o .bytes) (o .room room) in
     record { bytes = o .bytes; shown = o .shown; only = subst (OnlyOutput w (o .bytes ++ [])) (sym (o .left)) (rw (append-nil (o .bytes)) f) }
 
-out-ended : {e : Env} (w : World) {items : List Item} {u : World} → Out e w items u → HasRoom u (13 ∷ 10 ∷ []) → Prints e w items false (wroteItem u (13 ∷ 10 ∷ []))
+out-ended : {e : Env} (w : World) {items : List Item} {u : World} → Out e w items u → HasRoom u (13 ∷ 10 ∷ [])
+    → Prints e w items false (wroteItem u (13 ∷ 10 ∷ []))
 out-ended w {u = u} o r =
     let end : List ℕ = 13 ∷ 10 ∷ [] in
     let a = ap (λ (z : World). z .outpos) (o .left) in
@@ -126,7 +127,8 @@ module _ (e : Env) (w u : World) where
         record { source = q; from = j; string = bs; stands = s; stored = record { address = p; at = i; only = only-bytes w p (withCR bs) l } }
 
   -- PRINT writes its items one behind the other, each by what was before the statement, and its end
-  pub a-print-writes-its-items : (items : List Item) (b : Bool) → w .outpos ≤ length (w .output) → exec e (print items b) w ≡ done on u → Prints e w items b u
+  pub a-print-writes-its-items : (items : List Item) (b : Bool) → w .outpos ≤ length (w .output) → exec e (print items b) w ≡ done on u
+      → Prints e w items b u
   a-print-writes-its-items items b room h = let r = rw h at (works e (print items b) w) in by (r .reached) (r .performed) where
     by : {q : Stmt} {u : World} {b : Bool} → Reaches e w (print items b) q → Performs e w q (done on u) → Prints e w items b u
     by itself (prints m) = out-alone w room (all-out m)

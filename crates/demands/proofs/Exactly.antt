@@ -1,6 +1,6 @@
 -- Each stop of a call exactly when document 01 says so: 1, 18, 19, a typed line's 7, 3 and 2; the refusals of an immediate statement and of LIST; and those of
 -- the statement that ends a run. Assumes nothing.
-use Prim.Native.Nat.{ℕ, zero, suc, _+_, _-_, _≤_, _<_}
+use Prim.Native.Nat.{ℕ, suc, _+_}
 use mathlib.Core.Path.{_≡_, refl, sym, ap, subst, _∙_}
 use mathlib.Core.Bool.{Bool, true, false, not, true≢false, false≢true}
 use mathlib.Core.List.{List, [], _∷_}
@@ -16,9 +16,9 @@ use Rattle.nibl.specs.Tree.{Typed, blank, new, clear, run, delete, list, store,
 use Rattle.nibl.specs.Read.{typed}
 use Rattle.nibl.specs.Readings.{LineReading}
 use Rattle.nibl.specs.Typing.{Gathered}
-use Rattle.nibl.specs.Page.{Stored, isGood, fits, recordsOf, usedBy, hasLine, with, without, programBytes, onto}
-use Rattle.nibl.specs.Meaning.{World, Env, Next, on, skip, go, stop, Done, done, withSession, exec}
-use Rattle.nibl.specs.Calls.{Lent, Outcome, noLine, runFrom, runOutcome, stops, inRange, firstRefusal, lentWorld, begun, lentEnv, edited, listFrom, afterImmediate, needsProgram, obey, takeLine, continueFrom, continueRun, limit}
+use Rattle.nibl.specs.Page.{Stored, isGood, fits, recordsOf, usedBy, hasLine, with, without, programBytes}
+use Rattle.nibl.specs.Meaning.{World, Env, stop, exec}
+use Rattle.nibl.specs.Calls.{Lent, Outcome, noLine, stops, inRange, firstRefusal, begun, lentEnv, edited, listFrom, afterImmediate, needsProgram, obey, takeLine, continueFrom, continueRun, limit}
 use Rattle.nibl.specs.declared.Answer.{Answer}
 use Rattle.nibl.proofs.Words.{if-split}
 use Rattle.nibl.proofs.Lines.{typed-sound}
@@ -78,7 +78,8 @@ module _ (x : Lent) where
   eighteen-says : firstRefusal limit x ≡ 18 → InRange x × (isGood limit (x .page) ≡ false)
   unfolding firstRefusal
   eighteen-says = by (inRange x) refl (isGood limit (x .page)) refl (fits (x .page) (x .session)) where
-    by : (a : Bool) → inRange x ≡ a → (b : Bool) → isGood limit (x .page) ≡ b → (c : Bool) → _≡_ {A = ℕ} (if not a then 1 else if not b then 18 else if not c then 19 else 0) 18
+    by : (a : Bool) → inRange x ≡ a → (b : Bool) → isGood limit (x .page) ≡ b → (c : Bool)
+        → _≡_ {A = ℕ} (if not a then 1 else if not b then 18 else if not c then 19 else 0) 18
         → InRange x × (isGood limit (x .page) ≡ false)
     by true p false q c h = (in-range-of x p, q)
     by false p b q c h = absurd (omega arith)
@@ -97,26 +98,30 @@ module _ (x : Lent) where
 
   -- "a length, position or budget outside the above"
   pub one-exactly : ((takeLine x .answer .stop ≡ 1) ↔ (InRange x → ⊥)) × ((continueRun x .answer .stop ≡ 1) ↔ (InRange x → ⊥))
-  one-exactly =
-      ((λ h. one-says (first-of-line 1 refl h), λ h. ap (λ (o : Outcome). o .answer .stop) (out-of-range-is-1 x h .0)),
-      (λ h. one-says (first-of-continue 1 refl h), λ h. ap (λ (o : Outcome). o .answer .stop) (out-of-range-is-1 x h .1)))
+  one-exactly = (
+    (λ h. one-says (first-of-line 1 refl h), λ h. ap (λ (o : Outcome). o .answer .stop) (out-of-range-is-1 x h .0)),
+    (λ h. one-says (first-of-continue 1 refl h), λ h. ap (λ (o : Outcome). o .answer .stop) (out-of-range-is-1 x h .1)),
+  )
 
   -- "bad page"
   pub eighteen-exactly : ((takeLine x .answer .stop ≡ 18) ↔ (InRange x × (isGood limit (x .page) ≡ false)))
       × ((continueRun x .answer .stop ≡ 18) ↔ (InRange x × (isGood limit (x .page) ≡ false)))
-  eighteen-exactly =
-      ((λ h. eighteen-says (first-of-line 18 refl h), λ h. ap (λ (o : Outcome). o .answer .stop) (a-bad-page-is-18 x (h .0) (h .1) .0)),
-      (λ h. eighteen-says (first-of-continue 18 refl h), λ h. ap (λ (o : Outcome). o .answer .stop) (a-bad-page-is-18 x (h .0) (h .1) .1)))
+  eighteen-exactly = (
+    (λ h. eighteen-says (first-of-line 18 refl h), λ h. ap (λ (o : Outcome). o .answer .stop) (a-bad-page-is-18 x (h .0) (h .1) .0)),
+    (λ h. eighteen-says (first-of-continue 18 refl h), λ h. ap (λ (o : Outcome). o .answer .stop) (a-bad-page-is-18 x (h .0) (h .1) .1)),
+  )
 
   -- "session record does not fit"
   pub nineteen-exactly : ((takeLine x .answer .stop ≡ 19) ↔ (InRange x × (isGood limit (x .page) ≡ true) × (fits (x .page) (x .session) ≡ false)))
       × ((continueRun x .answer .stop ≡ 19) ↔ (InRange x × (isGood limit (x .page) ≡ true) × (fits (x .page) (x .session) ≡ false)))
-  nineteen-exactly =
-      ((λ h. nineteen-says (first-of-line 19 refl h), λ h. ap (λ (o : Outcome). o .answer .stop) (a-record-that-does-not-fit-is-19 x (h .0) (h .1) (h .2) .0)),
-      (λ h. nineteen-says (first-of-continue 19 refl h), λ h. ap (λ (o : Outcome). o .answer .stop) (a-record-that-does-not-fit-is-19 x (h .0) (h .1) (h .2) .1)))
+  nineteen-exactly = (
+    (λ h. nineteen-says (first-of-line 19 refl h), λ h. ap (λ (o : Outcome). o .answer .stop) (a-record-that-does-not-fit-is-19 x (h .0) (h .1) (h .2) .0)),
+    (λ h. nineteen-says (first-of-continue 19 refl h), λ h. ap (λ (o : Outcome). o .answer .stop) (a-record-that-does-not-fit-is-19 x (h .0) (h .1) (h .2) .1)),
+  )
 
   -- "no CR left in the input", of a typed line: its 7 is the one with no line
-  no-cr-left : {o : Outcome} → Takes limit x o → o .answer .stop ≡ 7 → o .answer .line ≡ noLine → (firstRefusal limit x ≡ 0) × (gatheredLine limit x ≡ none)
+  no-cr-left : {o : Outcome} → Takes limit x o → o .answer .stop ≡ 7 → o .answer .line ≡ noLine
+      → (firstRefusal limit x ≡ 0) × (gatheredLine limit x ≡ none)
   no-cr-left (refused {n} h) i l = absurd (apart (7 ∷ []) firstNumbers refl (suc n) (rw i refl) (first-numbers limit x (suc n) h))
   no-cr-left (noCR z h) i l = (z, h)
   no-cr-left (overlong g z h l) i n = absurd (omega arith)
@@ -126,9 +131,10 @@ module _ (x : Lent) where
 
   pub typed-seven-exactly : ((takeLine x .answer .stop ≡ 7) × (takeLine x .answer .line ≡ noLine)) ↔ ((firstRefusal limit x ≡ 0) × (gatheredLine limit x ≡ none))
   unfolding takeLine
-  typed-seven-exactly =
-      (λ h. no-cr-left (every-line limit x) (h .0) (h .1),
-      λ h. let e = no-cr-is-7 x (h .0) (h .1) in (ap (λ (o : Outcome). o .answer .stop) e, ap (λ (o : Outcome). o .answer .line) e))
+  typed-seven-exactly = (
+    λ h. no-cr-left (every-line limit x) (h .0) (h .1),
+    λ h. let e = no-cr-is-7 x (h .0) (h .1) in (ap (λ (o : Outcome). o .answer .stop) e, ap (λ (o : Outcome). o .answer .line) e),
+  )
 
 -- 3: by the statement's form
 pub needs-of : (s : Stmt) → needsProgram s ≡ true → NeedsProgram s
@@ -197,9 +203,10 @@ module _ (x : Lent) where
   -- "DO, UNTIL, FOR, NEXT or INPUT in an immediate line"
   pub three-exactly : (takeLine x .answer .stop ≡ 3) ↔ NeedsOne x
   unfolding takeLine
-  three-exactly =
-      (λ h. three-of (every-line limit x) h,
-      λ n. ap (λ (o : Outcome). o .answer .stop) (needing-a-program-is-3 x (n .gathered) (n .typing) (n .statement) (n .reading) (needs-one (n .needs))))
+  three-exactly = (
+    λ h. three-of (every-line limit x) h,
+    λ n. ap (λ (o : Outcome). o .answer .stop) (needing-a-program-is-3 x (n .gathered) (n .typing) (n .statement) (n .reading) (needs-one (n .needs))),
+  )
 
 -- 2: of a line that is stored alone
 module _ (x : Lent) (g : Gathered) (h : Typing limit x g) where
@@ -241,6 +248,7 @@ module _ (x : Lent) where
   -- "the edited program would not fit the page"
   pub two-exactly : (takeLine x .answer .stop ≡ 2) ↔ DoesNotFit x
   unfolding takeLine
-  two-exactly =
-      (λ h. two-of refl (every-line limit x) h,
-      λ n. ap (λ (o : Outcome). o .answer .stop) (no-room x (n .gathered) (n .typing) (n .line) (n .text) (n .members) (n .reading) (n .full)))
+  two-exactly = (
+    λ h. two-of refl (every-line limit x) h,
+    λ n. ap (λ (o : Outcome). o .answer .stop) (no-room x (n .gathered) (n .typing) (n .line) (n .text) (n .members) (n .reading) (n .full)),
+  )

@@ -1,15 +1,15 @@
 -- Each refusal of a statement, with its number, exactly when document 01 says so. Assumes nothing.
 use Prim.Native.Nat.{ℕ}
-use mathlib.Core.Path.{_≡_, refl, sym, subst, _∙_}
-use mathlib.Core.Bool.{true, false, true≢false}
+use mathlib.Core.Path.{_≡_, refl, subst}
+use mathlib.Core.Bool.{false, true≢false}
 use mathlib.Core.List.{List, [], _∷_}
 use mathlib.Core.Logic.{_↔_, _⊎_, inl, inr}
 use native.Mathlib.Omega.{arith}
-use Rattle.nibl.specs.Tree.{Expr, Item, Stmt, return, end}
+use Rattle.nibl.specs.Tree.{Expr, Item, Stmt, end}
 use Rattle.nibl.specs.Values.{no}
 use Rattle.nibl.specs.Page.{isAmong}
-use Rattle.nibl.specs.Meaning.{World, Env, stop, Done, done, exec}
-use Rattle.demands.specs.Valued.{ValueOf, FirstRefused, atFirst, atLater, ItemBytes, noString, noAddress, noNumber}
+use Rattle.nibl.specs.Meaning.{World, Env, stop, done, exec}
+use Rattle.demands.specs.Valued.{FirstRefused, atFirst, atLater, ItemBytes, noString, noAddress, noNumber}
 use Rattle.demands.specs.Work.{RefusesValue, ofStatement, ofItem, ofReply, RefusedWith, byValue, noLineToGo, noLineToSub, fullOfGosubs, fullOfDos, fullOfFors, noGosub, noDo, noFor, otherFor, noByteThere, noRoomForText, noSource, noRoomForCopy, noRoomForItem, noRoomForEnd, noRoomToAsk, noReply, replyTooLong, replyUnread, noRoomForReply, atEnd, Performs, refuses, returnsToMark, Reaches, Works}
 use Rattle.demands.specs.Refusals.{Comes, Unheard, overLong, notInForm, NoReplyLeft, MissesLine, byGoto, byGosub, ReturnsFromNothing, aReturn, RepeatsNothing, anUntil, FullStack, ofGosubs, ofDos, ofFors, NextOfNothing, noneToCount, NextOfAnother, anotherCounts, LacksMemory, inValue, atByte, atText, atSource, atCopy, atReply, LacksOutput, forItem, forEnd, forQuestion, Refusal}
 use Rattle.demands.proofs.Valued.{refused-number}
@@ -53,9 +53,10 @@ module _ (e : Env) (w : World) where
   -- one number's own sentence
   module _ (n : ℕ) (u : World) (z : n ≡ 0 → ⊥) (P : Stmt → Type 0) (f : (q : Stmt) → RefusedWith e w q n u → P q) (g : (q : Stmt) → P q → RefusedWith e w q n u) where
     own : (s : Stmt) → (exec e s w ≡ done (stop n) u) ↔ Comes e s w P
-    own s =
-        (λ h. let r = refused-exactly s n u z .0 h in record { statement = r .statement; reached = r .reached; holds = f (r .statement) (r .holds) },
-        λ r. refused-exactly s n u z .1 (record { statement = r .statement; reached = r .reached; holds = g (r .statement) (r .holds) }))
+    own s = (
+      λ h. let r = refused-exactly s n u z .0 h in record { statement = r .statement; reached = r .reached; holds = f (r .statement) (r .holds) },
+      λ r. refused-exactly s n u z .1 (record { statement = r .statement; reached = r .reached; holds = g (r .statement) (r .holds) }),
+    )
 
   -- "reply over-long or not in its form"
   pub six-exactly : (s : Stmt) (u : World) → (exec e s w ≡ done (stop 6) u) ↔ Comes e s w (Unheard e w u)
@@ -82,9 +83,10 @@ module _ (e : Env) (w : World) where
   -- the numbers that leave all as it was
   module _ (n : ℕ) (z : n ≡ 0 → ⊥) (P : Stmt → Type 0) (f : (q : Stmt) (u : World) → RefusedWith e w q n u → P q × (u ≡ w)) (g : (q : Stmt) → P q → RefusedWith e w q n w) where
     still : (s : Stmt) (u : World) → (exec e s w ≡ done (stop n) u) ↔ (Comes e s w P × (u ≡ w))
-    still s u =
-        (λ h. let r = refused-exactly s n u z .0 h in let i = f (r .statement) u (r .holds) in (record { statement = r .statement; reached = r .reached; holds = i .0 }, i .1),
-        λ r. rw (r .1) (refused-exactly s n w z .1 (record { statement = r .0 .statement; reached = r .0 .reached; holds = g (r .0 .statement) (r .0 .holds) })))
+    still s u = (
+      λ h. let r = refused-exactly s n u z .0 h in let i = f (r .statement) u (r .holds) in (record { statement = r .statement; reached = r .reached; holds = i .0 }, i .1),
+      λ r. rw (r .1) (refused-exactly s n w z .1 (record { statement = r .0 .statement; reached = r .0 .reached; holds = g (r .0 .statement) (r .0 .holds) })),
+    )
 
   -- "GOTO or GOSUB to a line not there"
   pub eight-exactly : (s : Stmt) (u : World) → (exec e s w ≡ done (stop 8) u) ↔ (Comes e s w (MissesLine e w) × (u ≡ w))
@@ -196,9 +198,10 @@ module _ (e : Env) (w : World) where
 
   -- END
   pub twenty-exactly : (s : Stmt) (u : World) → (exec e s w ≡ done (stop 20) u) ↔ (Reaches e w s end × (u ≡ w))
-  twenty-exactly s u =
-      (λ h. let r = refused-exactly s 20 u (λ i. omega arith) .0 h in by (r .holds) (r .reached),
-      λ r. rw (r .1) (refused-exactly s 20 w (λ i. omega arith) .1 (record { statement = end; reached = r .0; holds = atEnd })))
+  twenty-exactly s u = (
+    λ h. let r = refused-exactly s 20 u (λ i. omega arith) .0 h in by (r .holds) (r .reached),
+    λ r. rw (r .1) (refused-exactly s 20 w (λ i. omega arith) .1 (record { statement = end; reached = r .0; holds = atEnd })),
+  )
     where
       by : {q : Stmt} {u : World} → RefusedWith e w q 20 u → Reaches e w s q → Reaches e w s end × (u ≡ w)
       by (byValue h) r = absurd (no-value refl (value-number h))

@@ -2,15 +2,13 @@
 -- Assumes nothing.
 use Prim.Native.Nat.{ℕ, zero, suc, _-_, _≤_}
 use mathlib.Core.Path.{_≡_, refl, sym, ap, subst, _∙_}
-use mathlib.Core.Bool.{Bool, true, false, true≢false, false≢true}
+use mathlib.Core.Bool.{Bool, true, false, true≢false}
 use mathlib.Core.List.{List, [], _∷_}
 use mathlib.Core.Logic.{_↔_, _⊎_, inl, inr}
-use mathlib.Core.Option.{some}
 use native.Mathlib.Omega.{arith}
 use lib.ListN.{length}
 use lib.Dec.{leb, eqb}
 use borrow.Author.Tests.{le-leb, lt-leb, eqb-true, eqb-false}
-use Rattle.nibl.specs.Bytes.{if_then_else_}
 use Rattle.nibl.specs.Tree.{Stmt, Typed, blank, new, clear, run, delete, list, store, immediate}
 use Rattle.nibl.specs.Read.{typed}
 use Rattle.nibl.specs.Readings.{LineReading}
@@ -20,25 +18,23 @@ use Rattle.nibl.specs.Meaning.{World, Env, Next, on, skip, go, stop, Done, done
 use Rattle.nibl.specs.Calls.{Lent, Outcome, Ran, noLine, envAt, runFrom, runOutcome, stops, begun, lentEnv, edited, listed, listFrom, afterImmediate, needsProgram, obey, takeLine, continueFrom, continueRun, limit}
 use Rattle.nibl.proofs.Words.{if-split}
 use Rattle.nibl.proofs.Lines.{typed-sound}
-use Rattle.nibl.proofs.Whole.{typed-complete}
 use Rattle.page.proofs.Walk.{by-cases}
 use Rattle.record.specs.Sound.{Sized}
 use Rattle.demands.specs.Lent.{budgeted, Typing, OneOf}
 use Rattle.demands.specs.Items.{ListsLines, over, below, listsLine, noRoomForLine}
 use Rattle.demands.specs.Starts.{gives}
-use Rattle.demands.specs.Steps.{placeEnding, crOf, worldLeft, GoesTo, Ends, halts, runsOut, pauses, OneMore}
+use Rattle.demands.specs.Steps.{placeEnding, crOf, worldLeft, Ends, halts, runsOut, pauses, OneMore}
 use Rattle.demands.specs.Sound.{Shows, without as unnamed, itsLine, Answered, byLine, byRun}
-use Rattle.demands.specs.Work.{Asking, forVariables, forString, Reaches, itself, throughIf}
+use Rattle.demands.specs.Work.{Asking, forVariables, forString, Reaches, itself, throughIf, Works}
 use Rattle.demands.specs.Refusals.{Unheard, overLong, notInForm, Refusal}
 use Rattle.demands.specs.Stopped.{NeedsProgram, underIf, anInput, anInputString, statementNumbers, ownNumbers, LineRefused, byStatement, byList, StoppedBy}
-use Rattle.demands.proofs.Work.{put-fits, put-full}
+use Rattle.demands.proofs.Work.{put-fits, put-full, works-exactly}
 use Rattle.demands.proofs.Refusals.{refused-exactly, six-exactly}
 use Rattle.demands.proofs.Exactly.{needs-of, needs-one}
 use Rattle.demands.proofs.Numbers.{firstNumbers, first-numbers}
 use Rattle.demands.proofs.Ways.{Takes, refused, noCR, overlong, unread, reads, every-line, Continues, refused′, continues, every-continue}
 use Rattle.demands.proofs.Accepted.{accepted-of}
 use Rattle.demands.proofs.Fixed.{apart, unsaid, Lined, lines-low, run-named}
-use Rattle.demands.proofs.Retyping.{line-read}
 use Rattle.demands.proofs.Settling.{an-immediate-statement-is-done, list-is-done}
 use Rattle.demands.proofs.Printing.{list-works-line-by-line}
 use Rattle.demands.proofs.Sound.{unrefused}
@@ -46,7 +42,12 @@ use Rattle.demands.proofs.Line.{the-answers-line}
 use Rattle.demands.proofs.Steps.{the-last-statement, the-last-statement-of-continue}
 use Rattle.demands.proofs.Fourteen.{goes-on}
 
--- One statement more: it gave the stop n exactly when it was refused with n
+-- One statement more did what the rules say
+pub the-last-statement-works : {e : Env} {k : ℕ} {o' o : Outcome} (m : OneMore e k o' o)
+    → Works (envAt e (placeEnding e (m .start) (m .last))) (m .last .statement) (worldLeft o') (done (m .how) (m .after))
+the-last-statement-works {e} {o' = o'} m = works-exactly (envAt e (placeEnding e (m .start) (m .last))) (worldLeft o') (m .last .statement) (done (m .how) (m .after)) .0 (m .runs)
+
+-- and it gave the stop n exactly when it was refused with n
 module _ {e : Env} {k : ℕ} {o' o : Outcome} (m : OneMore e k o' o) (n : ℕ) (z : n ≡ 0 → ⊥) (p : n ≡ 14 → ⊥) where
   abbrev here : Env
   here = envAt e (placeEnding e (m .start) (m .last))
@@ -187,7 +188,8 @@ module _ (x : Lent) (n : ℕ) (q : OneOf ownNumbers n) where
         byList h r (rw (s .1) at (list-works-line-by-line m (recordsOf (x .page)) w))
     obey-bare (store m t ms) r b = absurd (edit-bare (x .page) w (with (record { line = m; text = t }) (recordsOf (x .page))) b)
     obey-bare (immediate s) r b = by (needsProgram s) refl b where
-      by : (c : Bool) → needsProgram s ≡ c → Unlined (elim c [ true ↦ stops 3 w (x .page) | false ↦ afterImmediate (x .call .budget) e (exec e s w) ]) → LineRefused x n
+      by : (c : Bool) → needsProgram s ≡ c
+          → Unlined (elim c [ true ↦ stops 3 w (x .page) | false ↦ afterImmediate (x .call .budget) e (exec e s w) ]) → LineRefused x n
       by true m b = absurd (plain 3 refl (b .number))
       by false m b =
           let d = done-bare (x .call .budget) e low (exec e s w) b in
@@ -234,7 +236,8 @@ a-statements-stop x sized n q = (λ h. by-cases (eqb (takeLine x .answer .line) 
       ↔ StoppedBy (lentEnv limit x) (x .call .budget) (takeLine (budgeted (takeLine x .answer .steps - 1) x)) (takeLine x) n
   stopped = a-program-statements-stop x sized n z p
 
-  back : LineRefused x n ⊎ StoppedBy (lentEnv limit x) (x .call .budget) (takeLine (budgeted (takeLine x .answer .steps - 1) x)) (takeLine x) n → takeLine x .answer .stop ≡ n
+  back : LineRefused x n ⊎ StoppedBy (lentEnv limit x) (x .call .budget) (takeLine (budgeted (takeLine x .answer .steps - 1) x)) (takeLine x) n
+      → takeLine x .answer .stop ≡ n
   back (inl r) = typed′ .1 r .0
   back (inr r) = stopped .1 r .0
 

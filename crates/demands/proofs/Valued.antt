@@ -1,19 +1,19 @@
 -- An expression is worth what document 01 says, and nothing else. Assumes nothing.
-use Prim.Native.Nat.{ℕ, zero, suc, _+_, _-_, _*_, _/_, _%_, _^_, _≤_, _<_}
+use Prim.Native.Nat.{ℕ, zero, suc, _+_, _-_, _*_, _/_, _%_, _^_, _<_}
 use mathlib.Core.Path.{_≡_, refl, sym, ap, subst}
 use mathlib.Core.Bool.{Bool, true, false, not, _&&_, true≢false}
 use mathlib.Core.List.{List, [], _∷_, _++_}
 use mathlib.Core.Logic.{_↔_, _⊎_, inl, inr}
 use native.Mathlib.Nat.{zero-add, pow-suc}
 use native.Mathlib.Omega.{arith}
-use lib.ListN.{length, getD, drop}
+use lib.ListN.{length, drop}
 use lib.Dec.{ltb, eqb}
 use borrow.Author.Tests.{ltb-true, ltb-false, lt-ltb, le-ltb, eqb-true, eqb-false, eq-eqb, ne-eqb}
 use Rattle.nibl.specs.Bytes.{if_then_else_, All, none, each, notCR, front, all}
 use Rattle.nibl.specs.Tree.{Op, times, dividedBy, andBits, plus, minus, orBits, equal, less, greater, atMost, atLeast, unequal}
 use Rattle.nibl.specs.Tree.{Expr, var, const, stat, top, byteAt, invert, negate, modulo, two}
 use Rattle.nibl.specs.Tree.{Item, text, stored, value}
-use Rattle.nibl.specs.Values.{Result, is, no, Value, isNegative, magnitude, less16, bit, differ, quotient16, remainder16, sub16, unlessZero, mod16, apply, digitsN, digits, printed}
+use Rattle.nibl.specs.Values.{Result, is, no, Value, isNegative, magnitude, less16, bit, differ, sub16, mod16, apply, digitsN, digits, printed}
 use Rattle.nibl.specs.Page.{recordsOf, used}
 use Rattle.nibl.specs.Meaning.{World, Env, bind, byteOf, stringAt, eval}
 use Rattle.nibl.proofs.Words.{if-split, and-left, and-right}
@@ -54,7 +54,8 @@ not-bit : (P : ℕ → Type 0) (t : Bool) → (t ≡ false → P 1) → (t ≡ t
 not-bit P true f g = g refl
 not-bit P false f g = f refl
 
-quotient-of : (x y : ℕ) (s t : Bool) {m n : ℕ} → (y ≡ 0 → ⊥) → Signed x s m → Signed y t n → Operated dividedBy x y (is (if differ s t then sub16 0 (m / n) else m / n))
+quotient-of : (x y : ℕ) (s t : Bool) {m n : ℕ} → (y ≡ 0 → ⊥) → Signed x s m → Signed y t n
+    → Operated dividedBy x y (is (if differ s t then sub16 0 (m / n) else m / n))
 quotient-of x y true true z a b = quotients z a b
 quotient-of x y true false {m} {n} z a b = rw (zero-add (65536 - m / n)) (quotientsBelow z a b (λ e. let c : _≡_ {A = ℕ} 0 1 = cc in omega arith))
 quotient-of x y false true {m} {n} z a b = rw (zero-add (65536 - m / n)) (quotientsBelow z a b (λ e. let c : _≡_ {A = ℕ} 0 1 = cc in omega arith))
@@ -209,7 +210,8 @@ no-cr-all (each h m) = rw h (no-cr-all m)
 to-cr : (s : List ℕ) → all notCR s ≡ false → (rest : List ℕ) × (s ≡ front notCR s ++ (13 ∷ rest)) × All notCR (front notCR s)
 to-cr [] h = absurd (true≢false h)
 to-cr (b ∷ s) h = by (to-cr s) (eqb b 13) refl h where
-  by : (all notCR s ≡ false → (rest : List ℕ) × (s ≡ front notCR s ++ (13 ∷ rest)) × All notCR (front notCR s)) → (t : Bool) → eqb b 13 ≡ t → (not t && all notCR s) ≡ false
+  by : (all notCR s ≡ false → (rest : List ℕ) × (s ≡ front notCR s ++ (13 ∷ rest)) × All notCR (front notCR s)) → (t : Bool) → eqb b 13 ≡ t
+      → (not t && all notCR s) ≡ false
       → (rest : List ℕ) × (b ∷ s ≡ (if not t then b ∷ front notCR s else []) ++ (13 ∷ rest)) × All notCR (if not t then b ∷ front notCR s else [])
   by f true c h = (s, ap (λ (x : ℕ). x ∷ s) (eqb-true b 13 c), none)
   by f false c h = let r = f h in let g : notCR b ≡ true = rw c in (r .0, ap (λ (l : List ℕ). b ∷ l) (r .1), each g (r .2))
@@ -219,7 +221,8 @@ front-cr rest none = (refl, refl)
 front-cr rest (each {b = b} h m) = let r = front-cr rest m in (rw h (r .0), rw h (ap (λ (l : List ℕ). b ∷ l) (r .1)))
 
 module _ (memory : List ℕ) (p : ℕ) where
-  pub string-of : (P : Result (List ℕ) → Type 0) → ((bs : List ℕ) → StringAt memory p bs → P (is bs)) → (NoString memory p → P (no 16)) → P (stringAt memory p)
+  pub string-of : (P : Result (List ℕ) → Type 0) → ((bs : List ℕ) → StringAt memory p bs → P (is bs)) → (NoString memory p → P (no 16))
+      → P (stringAt memory p)
   unfolding stringAt
   string-of P f g =
       if-split P (all notCR (drop p memory)) (λ h. g (no-cr (drop p memory) h))

@@ -2,11 +2,11 @@
 use Prim.Native.Nat.{ℕ, suc, _+_, _-_, _%_, _≤_, _<_}
 use mathlib.Core.Path.{_≡_, refl, sym, ap, subst, _∙_}
 use mathlib.Core.Bool.{Bool, true, false, not, true≢false, false≢true}
-use mathlib.Core.List.{List, [], _∷_, _++_}
+use mathlib.Core.List.{List, [], _∷_}
 use mathlib.Core.Logic.{_↔_}
 use mathlib.Core.Option.{Option, none, some}
 use native.Mathlib.Omega.{arith}
-use lib.ListN.{length, getD, drop, set}
+use lib.ListN.{length, getD, drop}
 use lib.Seq.{sets}
 use lib.Dec.{ltb, leb, eqb}
 use borrow.Author.Tests.{ltb-true, ltb-false, leb-true, leb-false, lt-ltb, le-ltb, le-leb, lt-leb, eqb-true, eqb-false, eq-eqb, ne-eqb}
@@ -15,12 +15,12 @@ use Rattle.nibl.specs.Tree.{Expr, Item, Stmt, letVar, letStat, letByte, letCopy
 use Rattle.nibl.specs.Read.{replied}
 use Rattle.nibl.specs.Readings.{ReplyReading}
 use Rattle.nibl.specs.Grammar.{lastReply, enough, moreReply}
-use Rattle.nibl.specs.Values.{Result, is, no, Value, isNegative, less16}
+use Rattle.nibl.specs.Values.{Result, is, no, Value}
 use Rattle.nibl.specs.Stack.{noPlace, noEntry, onTop, topOf, topFor}
 use Rattle.nibl.specs.Typing.{Gathered, gather}
 use Rattle.nibl.specs.Page.{Stored, recordsOf, size, positionIn, find}
-use Rattle.nibl.specs.Record.{place, mark, withVar, withGosubs, withDos, withFors}
-use Rattle.nibl.specs.Meaning.{World, Env, Next, on, skip, go, stop, Done, done, withSession, withMemory, withInpos, bind, given, went, stringAt, storeAt, eval, put, putItem, putItems, putEnd, keepIn, lineThere, after, gosubTo, returnBy, doHere, untilBy, forHere, goesOn, nextBy, gathered, asked, assign, assignReply, exec}
+use Rattle.nibl.specs.Record.{mark}
+use Rattle.nibl.specs.Meaning.{World, Env, on, skip, stop, Done, done, withMemory, bind, given, went, storeAt, eval, put, putItem, putItems, putEnd, keepIn, lineThere, after, gosubTo, returnBy, doHere, untilBy, forHere, goesOn, nextBy, gathered, asked, assign, assignReply, exec}
 use Rattle.nibl.specs.declared.Place.{Place}
 use Rattle.nibl.specs.declared.PlaceStack.{PlaceStack}
 use Rattle.nibl.specs.declared.ForEntry.{ForEntry}
@@ -34,8 +34,8 @@ use Rattle.nibl.proofs.Lines.{replied-sound}
 use Rattle.nibl.proofs.Whole.{replied-complete}
 use Rattle.page.proofs.Walk.{by-cases}
 use Rattle.demands.specs.Items.{In, first, further, itemBytes, wroteItem, HasRoom, NoRoom}
-use Rattle.demands.specs.Valued.{order, ValueOf, FirstRefused, atFirst, atLater, StringAt, NoString, ItemBytes}
-use Rattle.demands.specs.Work.{valuesOf, LineAt, thisLine, laterLine, NoLine, Bare, empty, misfit, TopPlace, TopEntry, pushed, popped, poppedFor, stepped, Within, upward, downward, Past, above, below, withCR, HasBytes, LacksBytes, UpTo, thisItem, laterItem, AllOut, noneLeft, oneOut, Replied, afterReply, gave, GivenUpTo, thisValue, laterValue, AllGiven, noMore, oneGiven, Asking, forVariables, forString, Unread, RefusesValue, ofStatement, ofItem, ofReply, RefusedWith, byValue, noLineToGo, noLineToSub, fullOfGosubs, fullOfDos, fullOfFors, noGosub, noDo, noFor, otherFor, noByteThere, noRoomForText, noSource, noRoomForCopy, noRoomForItem, noRoomForEnd, noRoomToAsk, noReply, replyTooLong, replyUnread, noRoomForReply, atEnd, Performs, refuses, remarks, falseIf, assigns, assignsFlags, storesByte, storesText, copies, goesToLine, callsLine, begins, counts, returns, returnsToMark, repeats, leaves, countsOn, finishes, prints, printsEnd, inputs, inputsString, Reaches, itself, throughIf, Works}
+use Rattle.demands.specs.Valued.{order, ValueOf, FirstRefused, atFirst, atLater, ItemBytes}
+use Rattle.demands.specs.Work.{valuesOf, LineAt, thisLine, laterLine, NoLine, Bare, empty, misfit, TopPlace, TopEntry, stepped, Within, upward, downward, Past, above, below, withCR, UpTo, thisItem, laterItem, AllOut, noneLeft, oneOut, Replied, afterReply, gave, GivenUpTo, thisValue, laterValue, AllGiven, noMore, oneGiven, Asking, forVariables, forString, Unread, ofStatement, ofItem, ofReply, RefusedWith, byValue, noLineToGo, noLineToSub, fullOfGosubs, fullOfDos, fullOfFors, noGosub, noDo, noFor, otherFor, noByteThere, noRoomForText, noSource, noRoomForCopy, noRoomForItem, noRoomForEnd, noRoomToAsk, noReply, replyTooLong, replyUnread, noRoomForReply, atEnd, Performs, refuses, remarks, falseIf, assigns, assignsFlags, storesByte, storesText, copies, goesToLine, callsLine, begins, counts, returns, returnsToMark, repeats, leaves, countsOn, finishes, prints, printsEnd, inputs, inputsString, Reaches, itself, throughIf, Works}
 use Rattle.demands.proofs.Valued.{value-of, value-one, string-of, string-one, string-none, item-of, item-one}
 use Rattle.demands.proofs.Effects.{went-went}
 use Rattle.demands.proofs.Printing.{put-split, went-on, item-put}
@@ -45,7 +45,8 @@ none-in first e = let z : _≡_ {A = ℕ} 0 1 = cc in omega arith
 none-in (further i) e = let z : _≡_ {A = ℕ} 0 1 = cc in omega arith
 
 -- Lines
-line-at : (P : Option ℕ → Type 0) (n at : ℕ) (rs : List Stored) → ((q : ℕ) → LineAt n at rs q → P (some q)) → (NoLine n rs → P none) → P (positionIn n at rs)
+line-at : (P : Option ℕ → Type 0) (n at : ℕ) (rs : List Stored) → ((q : ℕ) → LineAt n at rs q → P (some q)) → (NoLine n rs → P none)
+    → P (positionIn n at rs)
 line-at P n at [] f g = g (λ r i e. none-in i refl)
 line-at P n at (r ∷ rs) f g =
     if-split P (eqb (r .line) n) (λ h. f at (thisLine (eqb-true (r .line) n h)))
@@ -89,14 +90,16 @@ some-top room depth e s h l = rw (le-ltb depth 1 h, le-ltb room depth l)
 
 -- what follows a value that is there, and its refusal
 module _ (e : Env) (w : World) where
-  given-of : (P : Done → Type 0) (a : Expr) (k : ℕ → Done) → ((x : ℕ) → ValueOf e w a (is x) → P (k x)) → ((n : ℕ) → ValueOf e w a (no n) → P (done (stop n) w))
+  given-of : (P : Done → Type 0) (a : Expr) (k : ℕ → Done) → ((x : ℕ) → ValueOf e w a (is x) → P (k x))
+      → ((n : ℕ) → ValueOf e w a (no n) → P (done (stop n) w))
       → P (given (eval e w a) w k)
   given-of P a k f g = by (eval e w a) (value-of e w a) where
     by : (r : Value) → ValueOf e w a r → P (given r w k)
     by (is x) h = f x h
     by (no n) h = g n h
 
-  store-of : (P : Done → Type 0) (m : List ℕ) (p : ℕ) (bs : List ℕ) → (p + length bs ≤ length m → P (done on (withMemory w (sets m p bs)))) → (length m < p + length bs → P (done (stop 16) w))
+  store-of : (P : Done → Type 0) (m : List ℕ) (p : ℕ) (bs : List ℕ) → (p + length bs ≤ length m → P (done on (withMemory w (sets m p bs))))
+      → (length m < p + length bs → P (done (stop 16) w))
       → P (keepIn w (storeAt m p bs))
   unfolding keepIn storeAt
   store-of P m p bs f g =
@@ -220,7 +223,8 @@ module _ (e : Env) (w : World) (items : List Item) (b : Bool) where
       rw (h, ← went-on (put (13 ∷ 10 ∷ []) u)) (put-split (Performs e w (print items false)) (13 ∷ 10 ∷ []) u (λ v. done on v) (λ r. printsEnd a r) (λ r. refuses (noRoomForEnd a r)))
 
   -- the items from here on: what is behind them is out
-  items-work : (more : List Item) (u : World) → ((i : Item) (v : World) → UpTo e more u i v → UpTo e items w i v) → ((v : World) → AllOut e more u v → AllOut e items w v)
+  items-work : (more : List Item) (u : World) → ((i : Item) (v : World) → UpTo e more u i v → UpTo e items w i v)
+      → ((v : World) → AllOut e more u v → AllOut e items w v)
       → Performs e w (print items b) (went (putItems e more u) (putEnd b))
   unfolding putItems
   items-work [] u f g = end-works b refl (g u noneLeft)
@@ -256,7 +260,8 @@ module _ (e : Env) (w : World) where
   asked-of D q k no-room no-line too-long f =
       put-split D (bytes "?") w (λ u. gathered u (gather (e .lim) (drop (u .inpos) (e .input))) k) (λ r. line r (gather (e .lim) (drop (w .inpos) (e .input))) refl) no-room
     where
-      long : (g : Gathered) → Replied e w g → (b : Bool) → g .line .long ≡ b → D (elim b [ true ↦ done (stop 6) (afterReply w g) | false ↦ k (afterReply w g) (g .line .bytes) ])
+      long : (g : Gathered) → Replied e w g → (b : Bool) → g .line .long ≡ b
+          → D (elim b [ true ↦ done (stop 6) (afterReply w g) | false ↦ k (afterReply w g) (g .line .bytes) ])
       long g r true h = too-long g r h
       long g r false h = f g r h
 
@@ -280,7 +285,8 @@ module _ (e : Env) (w : World) where
         given-of e u I a _ (λ x i. assign-works g es r s l us as′ (gave u v x) (omega arith) (λ b z j. f b z (laterValue i j)) (λ z j. h z (oneGiven i j)))
         (λ m i. refuses (byValue (ofReply r s l (f a u thisValue) i)))
 
-    reply-works : (g : Gathered) → Replied e w g → g .line .long ≡ false → (o : Option (List Expr)) → replied (length vs) (g .line .bytes) ≡ o → I (assignReply e vs (afterReply w g) o)
+    reply-works : (g : Gathered) → Replied e w g → g .line .long ≡ false → (o : Option (List Expr)) → replied (length vs) (g .line .bytes) ≡ o
+        → I (assignReply e vs (afterReply w g) o)
     reply-works g r s none h = refuses (replyUnread r s (λ es l. none-read h l))
     reply-works g r s (some es) h =
         let l = replied-sound (length vs) (g .line .bytes) es h in
@@ -320,7 +326,8 @@ works e remark w = alone e w remarks
 works e end w = alone e w (refuses atEnd)
 works e (print items b) w = alone e w (print-works e w items b)
 works e (ifThen a q) w = given-of e w (Works e (ifThen a q) w) a _ (λ x h. by (works e q w) x h (eqb x 0) refl) (λ n h. alone e w (refuses (byValue (ofStatement (atFirst h))))) where
-  by : Works e q w (exec e q w) → (x : ℕ) → ValueOf e w a (is x) → (c : Bool) → eqb x 0 ≡ c → Works e (ifThen a q) w (elim c [ true ↦ done skip w | false ↦ exec e q w ])
+  by : Works e q w (exec e q w) → (x : ℕ) → ValueOf e w a (is x) → (c : Bool) → eqb x 0 ≡ c
+      → Works e (ifThen a q) w (elim c [ true ↦ done skip w | false ↦ exec e q w ])
   by f x h true c = alone e w (falseIf (subst (λ (y : ℕ). ValueOf e w a (is y)) (eqb-true x 0 c) h))
   by f x h false c = record { statement = f .statement; reached = throughIf h (eqb-false x 0 c) (f .reached); performed = f .performed }
 works e (for v a b c) w = alone e w (for-works e w v a b c)
@@ -334,7 +341,8 @@ module _ (e : Env) (w : World) where
   one-refused : {a : Expr} {n : ℕ} (k : ℕ → Done) → FirstRefused e w (a ∷ []) n → given (eval e w a) w k ≡ done (stop n) w
   one-refused k (atFirst h) = rw (value-one e w h)
 
-  two-refused : {a b : Expr} {n : ℕ} (k : ℕ → ℕ → Done) → FirstRefused e w (a ∷ b ∷ []) n → given (eval e w a) w (λ x. given (eval e w b) w (k x)) ≡ done (stop n) w
+  two-refused : {a b : Expr} {n : ℕ} (k : ℕ → ℕ → Done) → FirstRefused e w (a ∷ b ∷ []) n
+      → given (eval e w a) w (λ x. given (eval e w b) w (k x)) ≡ done (stop n) w
   two-refused k (atFirst h) = rw (value-one e w h)
   two-refused k (atLater {x = x} h g) = rw (value-one e w h) (one-refused (k x) g)
 
@@ -343,7 +351,8 @@ module _ (e : Env) (w : World) where
   three-refused k (atFirst h) = rw (value-one e w h)
   three-refused k (atLater {x = x} h g) = rw (value-one e w h) (two-refused (k x) g)
 
-  line-refused : {a : Expr} {n : ℕ} (k : ℕ → Done) → FirstRefused e w (a ∷ []) n → given (bind (eval e w a) (λ m. lineThere (find (e .page) m))) w k ≡ done (stop n) w
+  line-refused : {a : Expr} {n : ℕ} (k : ℕ → Done) → FirstRefused e w (a ∷ []) n
+      → given (bind (eval e w a) (λ m. lineThere (find (e .page) m))) w k ≡ done (stop n) w
   line-refused k (atFirst h) = rw (value-one e w h)
 
   no-values : {as′ : List Expr} {n : ℕ} → as′ ≡ [] → FirstRefused e w as′ n → ⊥
@@ -380,10 +389,12 @@ pub put-full : (bs : List ℕ) (w : World) (k : World → Done) → NoRoom w bs 
 unfolding put
 put-full bs w k h = rw (lt-leb (w .outpos + length bs) (length (w .output)) h)
 
-item-fits : (e : Env) (i : Item) (w : World) (k : World → Done) {bs : List ℕ} → ItemBytes e w i (is bs) → HasRoom w bs → went (putItem e i w) k ≡ k (wroteItem w bs)
+item-fits : (e : Env) (i : Item) (w : World) (k : World → Done) {bs : List ℕ} → ItemBytes e w i (is bs) → HasRoom w bs
+    → went (putItem e i w) k ≡ k (wroteItem w bs)
 item-fits e i w k {bs} j h = rw (item-put e i w, item-one e w j) (put-fits bs w k h)
 
-item-full : (e : Env) (i : Item) (w : World) (k : World → Done) {bs : List ℕ} → ItemBytes e w i (is bs) → NoRoom w bs → went (putItem e i w) k ≡ done (stop 17) w
+item-full : (e : Env) (i : Item) (w : World) (k : World → Done) {bs : List ℕ} → ItemBytes e w i (is bs) → NoRoom w bs
+    → went (putItem e i w) k ≡ done (stop 17) w
 item-full e i w k {bs} j h = rw (item-put e i w, item-one e w j) (put-full bs w k h)
 
 item-refused : (e : Env) (i : Item) (w : World) (k : World → Done) {n : ℕ} → ItemBytes e w i (no n) → went (putItem e i w) k ≡ done (stop n) w
@@ -396,7 +407,8 @@ module _ (e : Env) (k : World → Done) where
   all-out (oneOut {i = i} {items = items} {w = w} j h m) = went-went (putItem e i w) (putItems e items) k ∙ item-fits e i w (λ v. went (putItems e items v) k) j h ∙ all-out m
 
   -- up to an item at which all ends
-  up-to : {items : List Item} {i : Item} {w u : World} {d : Done} → UpTo e items w i u → ((more : List Item) → went (putItem e i u) (λ v. went (putItems e more v) k) ≡ d)
+  up-to : {items : List Item} {i : Item} {w u : World} {d : Done} → UpTo e items w i u
+      → ((more : List Item) → went (putItem e i u) (λ v. went (putItems e more v) k) ≡ d)
       → went (putItems e items w) k ≡ d
   unfolding putItems
   up-to (thisItem {i = i} {items = items} {w = w}) f = went-went (putItem e i w) (putItems e items) k ∙ f items
@@ -412,7 +424,8 @@ module _ (e : Env) (w : World) where
   unfolding asked gathered
   reply-long g k r s = put-fits (bytes "?") w _ (r .room) ∙ rw (r .line, s)
 
-  reply-none : (k : World → List ℕ → Done) → HasRoom w (bytes "?") → gather (e .lim) (drop (w .inpos) (e .input)) ≡ none → asked e w k ≡ done (stop 7) (wroteItem w (bytes "?"))
+  reply-none : (k : World → List ℕ → Done) → HasRoom w (bytes "?") → gather (e .lim) (drop (w .inpos) (e .input)) ≡ none
+      → asked e w k ≡ done (stop 7) (wroteItem w (bytes "?"))
   unfolding asked gathered
   reply-none k h l = put-fits (bytes "?") w _ h ∙ rw l
 
@@ -431,7 +444,8 @@ unfolding assign
 all-given e noMore = refl
 all-given e (oneGiven {w = w} h m) = rw (value-one e w h) (all-given e m)
 
-given-up-to : (e : Env) {vs : List ℕ} {es : List Expr} {a : Expr} {n : ℕ} {w u : World} → GivenUpTo e vs es w a u → ValueOf e u a (no n) → assign e vs es w ≡ done (stop n) u
+given-up-to : (e : Env) {vs : List ℕ} {es : List Expr} {a : Expr} {n : ℕ} {w u : World} → GivenUpTo e vs es w a u → ValueOf e u a (no n)
+    → assign e vs es w ≡ done (stop n) u
 unfolding assign
 given-up-to e (thisValue {w = w}) v = rw (value-one e w v)
 given-up-to e (laterValue {w = w} h m) v = rw (value-one e w h) (given-up-to e m v)
@@ -461,11 +475,13 @@ depth-one room depth h l = some-top room depth depth (depth - 1) h l
 
 module _ (e : Env) (w : World) where
   -- to a line that is there, or not
-  line-there : {a : Expr} {n q : ℕ} (k : ℕ → Done) → ValueOf e w a (is n) → LineAt n 0 (recordsOf (e .page)) q → given (bind (eval e w a) (λ m. lineThere (find (e .page) m))) w k ≡ k q
+  line-there : {a : Expr} {n q : ℕ} (k : ℕ → Done) → ValueOf e w a (is n) → LineAt n 0 (recordsOf (e .page)) q
+      → given (bind (eval e w a) (λ m. lineThere (find (e .page) m))) w k ≡ k q
   unfolding find
   line-there k h l = rw (value-one e w h, line-one l)
 
-  line-missing : {a : Expr} {n : ℕ} (k : ℕ → Done) → ValueOf e w a (is n) → NoLine n (recordsOf (e .page)) → given (bind (eval e w a) (λ m. lineThere (find (e .page) m))) w k ≡ done (stop 8) w
+  line-missing : {a : Expr} {n : ℕ} (k : ℕ → Done) → ValueOf e w a (is n) → NoLine n (recordsOf (e .page))
+      → given (bind (eval e w a) (λ m. lineThere (find (e .page) m))) w k ≡ done (stop 8) w
   unfolding find
   line-missing {n = n} k h l = rw (value-one e w h, line-none n 0 (recordsOf (e .page)) l)
 

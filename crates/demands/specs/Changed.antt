@@ -78,7 +78,8 @@ pub record Copies (e : Env) (w : World) (a b : Expr) (u : World) : Type 0 where
 -- PRINT's items one behind the other, each by what was before the first
 pub data ItemsBytes (e : Env) (w : World) : List Item → List ℕ → Type 0 where
   noItems : ItemsBytes e w [] []
-  nextItem : {i : Item} {items : List Item} {bs more : List ℕ} → ItemBytes e w i (is bs) → ItemsBytes e w items more → ItemsBytes e w (i ∷ items) (bs ++ more)
+  nextItem : {i : Item} {items : List Item} {bs more : List ℕ} → ItemBytes e w i (is bs) → ItemsBytes e w items more
+      → ItemsBytes e w (i ∷ items) (bs ++ more)
 
 -- "PRINT ends with CR LF unless ';'"
 abbrev pub lineEnd : Bool → List ℕ

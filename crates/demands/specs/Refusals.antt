@@ -6,7 +6,7 @@ use mathlib.Core.List.{List, [], _∷_}
 use mathlib.Core.Option.{none}
 use lib.ListN.{length, drop}
 use Rattle.nibl.specs.Bytes.{bytes}
-use Rattle.nibl.specs.Tree.{Expr, Item, Stmt, letByte, letCopy, letText, goto, gosub, until, return, doLoop, end, print, for, next, input, inputText}
+use Rattle.nibl.specs.Tree.{Expr, Item, Stmt, letByte, letCopy, letText, goto, gosub, until, return, doLoop, print, for, next, input, inputText}
 use Rattle.nibl.specs.Values.{is}
 use Rattle.nibl.specs.Typing.{Gathered, gather}
 use Rattle.nibl.specs.Page.{recordsOf}
@@ -25,7 +25,8 @@ pub record Comes (e : Env) (s : Stmt) (w : World) (P : Stmt → Type 0) : Type 0
 -- 6: "reply over-long or not in its form"; the "?" is out, and the reply taken
 pub data Unheard (e : Env) (w u : World) : Stmt → Type 0 where
   overLong : {q : Stmt} {g : Gathered} → Asking e w q → Replied e w g → g .line .long ≡ true → u ≡ afterReply w g → Unheard e w u q
-  notInForm : {vs : List ℕ} {g : Gathered} → Replied e w g → g .line .long ≡ false → Unread (length vs) (g .line .bytes) → u ≡ afterReply w g → Unheard e w u (input vs)
+  notInForm : {vs : List ℕ} {g : Gathered} → Replied e w g → g .line .long ≡ false → Unread (length vs) (g .line .bytes) → u ≡ afterReply w g
+      → Unheard e w u (input vs)
 
 -- 7: "no CR left in the input; no byte is taken", and the "?" is out
 pub record NoReplyLeft (e : Env) (w u : World) (q : Stmt) : Type 0 where
@@ -50,7 +51,8 @@ pub data RepeatsNothing (e : Env) (w : World) : Stmt → Type 0 where
 pub data FullStack (e : Env) (w : World) : Stmt → Type 0 where
   ofGosubs : {a : Expr} {n q : ℕ} → ValueOf e w a (is n) → LineAt n 0 (recordsOf (e .page)) q → 8 ≤ w .session .gosubs .depth → FullStack e w (gosub a)
   ofDos : 8 ≤ w .session .dos .depth → FullStack e w doLoop
-  ofFors : {a b c : Expr} {v x y z : ℕ} → ValueOf e w a (is x) → ValueOf e w b (is y) → ValueOf e w c (is z) → 4 ≤ w .session .fors .depth → FullStack e w (for v a b c)
+  ofFors : {a b c : Expr} {v x y z : ℕ} → ValueOf e w a (is x) → ValueOf e w b (is y) → ValueOf e w c (is z) → 4 ≤ w .session .fors .depth
+      → FullStack e w (for v a b c)
 
 -- 11, 12: "NEXT with no FOR; with another variable"
 pub data NextOfNothing (w : World) : Stmt → Type 0 where
@@ -65,13 +67,16 @@ pub data LacksMemory (e : Env) (w u : World) : Stmt → Type 0 where
   atByte : {a b : Expr} {p x : ℕ} → ValueOf e w a (is p) → ValueOf e w b (is x) → length (w .memory) ≤ p → u ≡ w → LacksMemory e w u (letByte a b)
   atText : {a : Expr} {p : ℕ} {bs : List ℕ} → ValueOf e w a (is p) → LacksBytes w p (withCR bs) → u ≡ w → LacksMemory e w u (letText a bs)
   atSource : {a b : Expr} {p q : ℕ} → ValueOf e w a (is p) → ValueOf e w b (is q) → NoString (w .memory) q → u ≡ w → LacksMemory e w u (letCopy a b)
-  atCopy : {a b : Expr} {p q : ℕ} {bs : List ℕ} → ValueOf e w a (is p) → ValueOf e w b (is q) → StringAt (w .memory) q bs → LacksBytes w p (withCR bs) → u ≡ w → LacksMemory e w u (letCopy a b)
-  atReply : {a : Expr} {p : ℕ} {g : Gathered} → ValueOf e w a (is p) → Replied e w g → g .line .long ≡ false → LacksBytes w p (withCR (g .line .bytes)) → u ≡ afterReply w g
+  atCopy : {a b : Expr} {p q : ℕ} {bs : List ℕ} → ValueOf e w a (is p) → ValueOf e w b (is q) → StringAt (w .memory) q bs
+      → LacksBytes w p (withCR bs) → u ≡ w → LacksMemory e w u (letCopy a b)
+  atReply : {a : Expr} {p : ℕ} {g : Gathered} → ValueOf e w a (is p) → Replied e w g → g .line .long ≡ false
+      → LacksBytes w p (withCR (g .line .bytes)) → u ≡ afterReply w g
       → LacksMemory e w u (inputText a)
 
 -- 17: "an output item does not fit whole; PRINT's CR LF, the '?' .. are each one item"
 pub data LacksOutput (e : Env) (w u : World) : Stmt → Type 0 where
-  forItem : {items : List Item} {i : Item} {bs : List ℕ} (b : Bool) → UpTo e items w i u → ItemBytes e u i (is bs) → NoRoom u bs → LacksOutput e w u (print items b)
+  forItem : {items : List Item} {i : Item} {bs : List ℕ} (b : Bool) → UpTo e items w i u → ItemBytes e u i (is bs) → NoRoom u bs
+      → LacksOutput e w u (print items b)
   forEnd : {items : List Item} → AllOut e items w u → NoRoom u (13 ∷ 10 ∷ []) → LacksOutput e w u (print items false)
   forQuestion : {q : Stmt} → Asking e w q → NoRoom w (bytes "?") → u ≡ w → LacksOutput e w u q
 

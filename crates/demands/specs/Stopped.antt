@@ -1,7 +1,5 @@
 -- When a call stops, number by number: the refusals of a typed line, and those of the statement that ended a run.
 use Prim.Native.Nat.{ℕ, _+_, _<_}
-use mathlib.Core.Path.{_≡_}
-use mathlib.Core.Bool.{false}
 use mathlib.Core.List.{List, [], _∷_}
 use lib.ListN.{length}
 use Rattle.nibl.specs.Tree.{Expr, Stmt, until, doLoop, ifThen, for, next, input, inputText, Member, list, store, immediate}
@@ -55,7 +53,8 @@ ownNumbers = 6 ∷ 8 ∷ 9 ∷ 10 ∷ 11 ∷ 12 ∷ 13 ∷ 15 ∷ 16 ∷ 17 ∷ 
 pub data LineRefused (x : Lent) (n : ℕ) : Type 0 where
   byStatement : {g : Gathered} {s : Stmt} {u : World} → Typing limit x g → LineReading (g .line .bytes) (immediate s) → (NeedsProgram s → ⊥)
       → Refusal (lentEnv limit x) s (begun x (g .taken)) n u → LineRefused x n
-  byList : {g : Gathered} {m : ℕ} {u : World} → Typing limit x g → LineReading (g .line .bytes) (list m) → ListsLines m (recordsOf (x .page)) (begun x (g .taken)) (done (stop n) u) → LineRefused x n
+  byList : {g : Gathered} {m : ℕ} {u : World} → Typing limit x g → LineReading (g .line .bytes) (list m)
+      → ListsLines m (recordsOf (x .page)) (begun x (g .taken)) (done (stop n) u) → LineRefused x n
 
 -- the last statement of a run was refused with n: o' is what the same call with one step less leaves
 pub record StoppedBy (e : Env) (budget : ℕ) (o' o : Outcome) (n : ℕ) : Type 0 where

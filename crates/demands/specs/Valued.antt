@@ -51,7 +51,8 @@ pub data Operated : Op → ℕ → ℕ → Result ℕ → Type 0 where
   products : {x y : ℕ} → Operated times x y (is (x * y % 65536))
   -- "Quotients truncate toward zero"; "division or MOD by 0" is 13
   quotients : {x y m n : ℕ} {s : Bool} → (y ≡ 0 → ⊥) → Signed x s m → Signed y s n → Operated dividedBy x y (is (m / n))
-  quotientsBelow : {x y m n : ℕ} {s t : Bool} → (y ≡ 0 → ⊥) → Signed x s m → Signed y t n → (s ≡ t → ⊥) → Operated dividedBy x y (is ((65536 - m / n) % 65536))
+  quotientsBelow : {x y m n : ℕ} {s t : Bool} → (y ≡ 0 → ⊥) → Signed x s m → Signed y t n → (s ≡ t → ⊥)
+      → Operated dividedBy x y (is ((65536 - m / n) % 65536))
   noQuotient : {x y : ℕ} → y ≡ 0 → Operated dividedBy x y (no 13)
   -- "AND, OR .. work on all 16 bits"
   both : {x y : ℕ} → Operated andBits x y (is (bitAnd x y))

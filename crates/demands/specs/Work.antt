@@ -15,7 +15,7 @@ use Rattle.nibl.specs.Typing.{Gathered, gather}
 use Rattle.nibl.specs.Readings.{ReplyReading}
 use Rattle.nibl.specs.Page.{Stored, recordsOf, size}
 use Rattle.nibl.specs.Record.{place, mark, withVar, withFlags, withGosubs, withDos, withFors}
-use Rattle.nibl.specs.Meaning.{World, Env, Next, on, skip, go, stop, Done, done, withSession, withMemory, withInpos}
+use Rattle.nibl.specs.Meaning.{World, Env, on, skip, go, stop, Done, done, withSession, withMemory, withInpos}
 use Rattle.nibl.specs.declared.Place.{Place}
 use Rattle.nibl.specs.declared.PlaceStack.{PlaceStack}
 use Rattle.nibl.specs.declared.ForEntry.{ForEntry}
@@ -105,11 +105,13 @@ LacksBytes w p bs = length (w .memory) < p + length bs
 -- PRINT: the items before one, or all of them, are written whole, each by what the ones before it left
 pub data UpTo (e : Env) : List Item → World → Item → World → Type 0 where
   thisItem : {i : Item} {items : List Item} {w : World} → UpTo e (i ∷ items) w i w
-  laterItem : {i j : Item} {items : List Item} {w u : World} {bs : List ℕ} → ItemBytes e w j (is bs) → HasRoom w bs → UpTo e items (wroteItem w bs) i u → UpTo e (j ∷ items) w i u
+  laterItem : {i j : Item} {items : List Item} {w u : World} {bs : List ℕ} → ItemBytes e w j (is bs) → HasRoom w bs
+      → UpTo e items (wroteItem w bs) i u → UpTo e (j ∷ items) w i u
 
 pub data AllOut (e : Env) : List Item → World → World → Type 0 where
   noneLeft : {w : World} → AllOut e [] w w
-  oneOut : {i : Item} {items : List Item} {w u : World} {bs : List ℕ} → ItemBytes e w i (is bs) → HasRoom w bs → AllOut e items (wroteItem w bs) u → AllOut e (i ∷ items) w u
+  oneOut : {i : Item} {items : List Item} {w u : World} {bs : List ℕ} → ItemBytes e w i (is bs) → HasRoom w bs → AllOut e items (wroteItem w bs) u
+      → AllOut e (i ∷ items) w u
 
 -- INPUT: "writes '?', gathers a line"; what that leaves
 pub record Replied (e : Env) (w : World) (g : Gathered) : Type 0 where
@@ -125,11 +127,13 @@ gave w v x = withSession w (withVar (w .session) v x)
 
 pub data GivenUpTo (e : Env) : List ℕ → List Expr → World → Expr → World → Type 0 where
   thisValue : {v : ℕ} {vs : List ℕ} {a : Expr} {es : List Expr} {w : World} → GivenUpTo e (v ∷ vs) (a ∷ es) w a w
-  laterValue : {v x : ℕ} {vs : List ℕ} {a b : Expr} {es : List Expr} {w u : World} → ValueOf e w b (is x) → GivenUpTo e vs es (gave w v x) a u → GivenUpTo e (v ∷ vs) (b ∷ es) w a u
+  laterValue : {v x : ℕ} {vs : List ℕ} {a b : Expr} {es : List Expr} {w u : World} → ValueOf e w b (is x) → GivenUpTo e vs es (gave w v x) a u
+      → GivenUpTo e (v ∷ vs) (b ∷ es) w a u
 
 pub data AllGiven (e : Env) : List ℕ → List Expr → World → World → Type 0 where
   noMore : {w : World} → AllGiven e [] [] w w
-  oneGiven : {v x : ℕ} {vs : List ℕ} {a : Expr} {es : List Expr} {w u : World} → ValueOf e w a (is x) → AllGiven e vs es (gave w v x) u → AllGiven e (v ∷ vs) (a ∷ es) w u
+  oneGiven : {v x : ℕ} {vs : List ℕ} {a : Expr} {es : List Expr} {w u : World} → ValueOf e w a (is x) → AllGiven e vs es (gave w v x) u
+      → AllGiven e (v ∷ vs) (a ∷ es) w u
 
 -- an INPUT that is come to its "?": of "$" the address value is there
 pub data Asking (e : Env) (w : World) : Stmt → Type 0 where
@@ -144,7 +148,8 @@ Unread n bs = (es : List Expr) → ReplyReading n bs es → ⊥
 pub data RefusesValue (e : Env) (w : World) (n : ℕ) : World → Stmt → Type 0 where
   ofStatement : {q : Stmt} → FirstRefused e w (valuesOf q) n → RefusesValue e w n w q
   ofItem : {items : List Item} {i : Item} {u : World} (b : Bool) → UpTo e items w i u → ItemBytes e u i (no n) → RefusesValue e w n u (print items b)
-  ofReply : {vs : List ℕ} {g : Gathered} {es : List Expr} {a : Expr} {u : World} → Replied e w g → g .line .long ≡ false → ReplyReading (length vs) (g .line .bytes) es
+  ofReply : {vs : List ℕ} {g : Gathered} {es : List Expr} {a : Expr} {u : World} → Replied e w g → g .line .long ≡ false
+      → ReplyReading (length vs) (g .line .bytes) es
       → GivenUpTo e vs es (afterReply w g) a u → ValueOf e u a (no n) → RefusesValue e w n u (input vs)
 
 -- Refusals: the statement, the number, and the world that is left
@@ -155,9 +160,11 @@ pub data RefusedWith (e : Env) (w : World) : Stmt → ℕ → World → Type 0 w
   noLineToGo : {a : Expr} {n : ℕ} → ValueOf e w a (is n) → NoLine n (recordsOf (e .page)) → RefusedWith e w (goto a) 8 w
   noLineToSub : {a : Expr} {n : ℕ} → ValueOf e w a (is n) → NoLine n (recordsOf (e .page)) → RefusedWith e w (gosub a) 8 w
   -- "past 8 GOSUBs, 8 DOs or 4 FORs"; "8 before 10"
-  fullOfGosubs : {a : Expr} {n q : ℕ} → ValueOf e w a (is n) → LineAt n 0 (recordsOf (e .page)) q → 8 ≤ w .session .gosubs .depth → RefusedWith e w (gosub a) 10 w
+  fullOfGosubs : {a : Expr} {n q : ℕ} → ValueOf e w a (is n) → LineAt n 0 (recordsOf (e .page)) q → 8 ≤ w .session .gosubs .depth
+      → RefusedWith e w (gosub a) 10 w
   fullOfDos : 8 ≤ w .session .dos .depth → RefusedWith e w doLoop 10 w
-  fullOfFors : {a b c : Expr} {v x y z : ℕ} → ValueOf e w a (is x) → ValueOf e w b (is y) → ValueOf e w c (is z) → 4 ≤ w .session .fors .depth → RefusedWith e w (for v a b c) 10 w
+  fullOfFors : {a b c : Expr} {v x y z : ℕ} → ValueOf e w a (is x) → ValueOf e w b (is y) → ValueOf e w c (is z) → 4 ≤ w .session .fors .depth
+      → RefusedWith e w (for v a b c) 10 w
   -- "RETURN, UNTIL with its stack empty"
   noGosub : Bare 8 (w .session .gosubs .depth) → RefusedWith e w return 9 w
   noDo : {a : Expr} {x : ℕ} → ValueOf e w a (is x) → Bare 8 (w .session .dos .depth) → RefusedWith e w (until a) 15 w
@@ -168,17 +175,22 @@ pub data RefusedWith (e : Env) (w : World) : Stmt → ℕ → World → Type 0 w
   noByteThere : {a b : Expr} {p x : ℕ} → ValueOf e w a (is p) → ValueOf e w b (is x) → length (w .memory) ≤ p → RefusedWith e w (letByte a b) 16 w
   noRoomForText : {a : Expr} {p : ℕ} {bs : List ℕ} → ValueOf e w a (is p) → LacksBytes w p (withCR bs) → RefusedWith e w (letText a bs) 16 w
   noSource : {a b : Expr} {p q : ℕ} → ValueOf e w a (is p) → ValueOf e w b (is q) → NoString (w .memory) q → RefusedWith e w (letCopy a b) 16 w
-  noRoomForCopy : {a b : Expr} {p q : ℕ} {bs : List ℕ} → ValueOf e w a (is p) → ValueOf e w b (is q) → StringAt (w .memory) q bs → LacksBytes w p (withCR bs)
+  noRoomForCopy : {a b : Expr} {p q : ℕ} {bs : List ℕ} → ValueOf e w a (is p) → ValueOf e w b (is q) → StringAt (w .memory) q bs
+      → LacksBytes w p (withCR bs)
       → RefusedWith e w (letCopy a b) 16 w
   -- "PRINT works item by item, 16 before 17"; "PRINT items already out stay"
-  noRoomForItem : {items : List Item} {i : Item} {bs : List ℕ} {u : World} (b : Bool) → UpTo e items w i u → ItemBytes e u i (is bs) → NoRoom u bs → RefusedWith e w (print items b) 17 u
+  noRoomForItem : {items : List Item} {i : Item} {bs : List ℕ} {u : World} (b : Bool) → UpTo e items w i u → ItemBytes e u i (is bs) → NoRoom u bs
+      → RefusedWith e w (print items b) 17 u
   noRoomForEnd : {items : List Item} {u : World} → AllOut e items w u → NoRoom u (13 ∷ 10 ∷ []) → RefusedWith e w (print items false) 17 u
   -- "INPUT: address value, 17, 7, 6, values, 16"; "the '?' stays, a gathered reply is taken, and variables already given stay given"
   noRoomToAsk : {q : Stmt} → Asking e w q → NoRoom w (bytes "?") → RefusedWith e w q 17 w
-  noReply : {q : Stmt} → Asking e w q → HasRoom w (bytes "?") → gather (e .lim) (drop (w .inpos) (e .input)) ≡ none → RefusedWith e w q 7 (wroteItem w (bytes "?"))
+  noReply : {q : Stmt} → Asking e w q → HasRoom w (bytes "?") → gather (e .lim) (drop (w .inpos) (e .input)) ≡ none
+      → RefusedWith e w q 7 (wroteItem w (bytes "?"))
   replyTooLong : {q : Stmt} {g : Gathered} → Asking e w q → Replied e w g → g .line .long ≡ true → RefusedWith e w q 6 (afterReply w g)
-  replyUnread : {vs : List ℕ} {g : Gathered} → Replied e w g → g .line .long ≡ false → Unread (length vs) (g .line .bytes) → RefusedWith e w (input vs) 6 (afterReply w g)
-  noRoomForReply : {a : Expr} {p : ℕ} {g : Gathered} → ValueOf e w a (is p) → Replied e w g → g .line .long ≡ false → LacksBytes w p (withCR (g .line .bytes))
+  replyUnread : {vs : List ℕ} {g : Gathered} → Replied e w g → g .line .long ≡ false → Unread (length vs) (g .line .bytes)
+      → RefusedWith e w (input vs) 6 (afterReply w g)
+  noRoomForReply : {a : Expr} {p : ℕ} {g : Gathered} → ValueOf e w a (is p) → Replied e w g → g .line .long ≡ false
+      → LacksBytes w p (withCR (g .line .bytes))
       → RefusedWith e w (inputText a) 16 (afterReply w g)
   -- END
   atEnd : RefusedWith e w end 20 w
@@ -193,8 +205,10 @@ pub data Performs (e : Env) (w : World) : Stmt → Done → Type 0 where
   -- STAT: "assigning keeps bits 0 to 2"
   assignsFlags : {x : ℕ} {a : Expr} → ValueOf e w a (is x) → Performs e w (letStat a) (done on (withSession w (withFlags (w .session) (x % 8))))
   -- "A store writes the low byte only"; "copies behave as if the source were taken whole first"
-  storesByte : {a b : Expr} {p x : ℕ} → ValueOf e w a (is p) → ValueOf e w b (is x) → p < length (w .memory) → Performs e w (letByte a b) (done on (withMemory w (set (w .memory) p (x % 256))))
-  storesText : {a : Expr} {p : ℕ} {bs : List ℕ} → ValueOf e w a (is p) → HasBytes w p (withCR bs) → Performs e w (letText a bs) (done on (withMemory w (sets (w .memory) p (withCR bs))))
+  storesByte : {a b : Expr} {p x : ℕ} → ValueOf e w a (is p) → ValueOf e w b (is x) → p < length (w .memory)
+      → Performs e w (letByte a b) (done on (withMemory w (set (w .memory) p (x % 256))))
+  storesText : {a : Expr} {p : ℕ} {bs : List ℕ} → ValueOf e w a (is p) → HasBytes w p (withCR bs)
+      → Performs e w (letText a bs) (done on (withMemory w (sets (w .memory) p (withCR bs))))
   copies : {a b : Expr} {p q : ℕ} {bs : List ℕ} → ValueOf e w a (is p) → ValueOf e w b (is q) → StringAt (w .memory) q bs → HasBytes w p (withCR bs)
       → Performs e w (letCopy a b) (done on (withMemory w (sets (w .memory) p (withCR bs))))
   goesToLine : {a : Expr} {n q : ℕ} → ValueOf e w a (is n) → LineAt n 0 (recordsOf (e .page)) q → Performs e w (goto a) (done (go q) w)
@@ -209,7 +223,8 @@ pub data Performs (e : Env) (w : World) : Stmt → Done → Type 0 where
   -- back to the saved place; "RETURN to the immediate mark" is 0
   returns : {p : Place} → TopPlace (w .session .gosubs) p → (p .0 ≡ mark → ⊥)
       → Performs e w return (done (go (suc (p .0))) (withSession w (withGosubs (w .session) (popped (w .session .gosubs)))))
-  returnsToMark : {p : Place} → TopPlace (w .session .gosubs) p → p .0 ≡ mark → Performs e w return (done (stop 0) (withSession w (withGosubs (w .session) (popped (w .session .gosubs)))))
+  returnsToMark : {p : Place} → TopPlace (w .session .gosubs) p → p .0 ≡ mark
+      → Performs e w return (done (stop 0) (withSession w (withGosubs (w .session) (popped (w .session .gosubs)))))
   -- "UNTIL returns to its DO's place on 0 and pops otherwise"
   repeats : {a : Expr} {p : Place} → ValueOf e w a (is 0) → TopPlace (w .session .dos) p → Performs e w (until a) (done (go (suc (p .0))) w)
   leaves : {a : Expr} {x : ℕ} {p : Place} → ValueOf e w a (is x) → (x ≡ 0 → ⊥) → TopPlace (w .session .dos) p
@@ -221,7 +236,8 @@ pub data Performs (e : Env) (w : World) : Stmt → Done → Type 0 where
       → Performs e w (next v) (done on (withSession w (withFors (withVar (w .session) v (stepped w v f)) (poppedFor (w .session .fors)))))
   -- "PRINT ends with CR LF unless ';'"
   prints : {items : List Item} {u : World} → AllOut e items w u → Performs e w (print items true) (done on u)
-  printsEnd : {items : List Item} {u : World} → AllOut e items w u → HasRoom u (13 ∷ 10 ∷ []) → Performs e w (print items false) (done on (wroteItem u (13 ∷ 10 ∷ [])))
+  printsEnd : {items : List Item} {u : World} → AllOut e items w u → HasRoom u (13 ∷ 10 ∷ [])
+      → Performs e w (print items false) (done on (wroteItem u (13 ∷ 10 ∷ [])))
   inputs : {vs : List ℕ} {g : Gathered} {es : List Expr} {u : World} → Replied e w g → g .line .long ≡ false → ReplyReading (length vs) (g .line .bytes) es
       → AllGiven e vs es (afterReply w g) u → Performs e w (input vs) (done on u)
   -- "INPUT '$' stores the gathered line, any kept bytes, and CR"
