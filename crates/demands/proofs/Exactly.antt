@@ -5,9 +5,9 @@ use mathlib.Core.Path.{_≡_, refl, sym, ap, subst, _∙_}
 use mathlib.Core.Bool.{Bool, true, false, not, true≢false, false≢true}
 use mathlib.Core.List.{List, [], _∷_}
 use mathlib.Core.Logic.{_↔_}
-use mathlib.Core.Option.{none, some}
+use mathlib.Core.Option.{some}
 use native.Mathlib.Omega.{arith}
-use lib.ListN.{length}
+use lib.ListN.{length, drop}
 use lib.Dec.{leb}
 use borrow.Author.Tests.{leb-true, leb-false}
 use Rattle.nibl.specs.Bytes.{if_then_else_}
@@ -23,15 +23,17 @@ use Rattle.nibl.specs.declared.Answer.{Answer}
 use Rattle.nibl.proofs.Words.{if-split}
 use Rattle.nibl.proofs.Lines.{typed-sound}
 use Rattle.nibl.proofs.Whole.{typed-complete}
+use Rattle.letter.proofs.Typed.{no-cr, no-cr-left}
 use Rattle.page.proofs.Walk.{by-cases}
-use Rattle.demands.specs.Lent.{InRange, gatheredLine, Typing, OneOf, firstRefusals}
+use Rattle.demands.specs.Lent.{InRange, Typing, OneOf, firstRefusals}
 use Rattle.demands.specs.Leaves.{others}
+use Rattle.demands.specs.Valued.{NoCR}
 use Rattle.demands.specs.Stopped.{NeedsProgram, aDo, anUntil, aFor, aNext, anInput, anInputString, underIf, NeedsOne, DoesNotFit}
 use Rattle.demands.proofs.Numbers.{runNumbers, Obeys, full, unfit, ends, obey-obeys, run-numbers, immediate-numbers, firstNumbers, first-numbers, paused-numbers}
 use Rattle.demands.proofs.Budget.{does-stops, exec-stops}
 use Rattle.demands.proofs.Effects.{list-does}
 use Rattle.demands.proofs.Ways.{Takes, refused, noCR, overlong, unread, reads, every-line, Continues, refused′, continues, every-continue}
-use Rattle.demands.proofs.Accepted.{in-range-of, in-range-is, accepted-of}
+use Rattle.demands.proofs.Accepted.{in-range-of, in-range-is, accepted-of, accepted-is}
 use Rattle.demands.proofs.Forced.{out-of-range-is-1, a-bad-page-is-18, a-record-that-does-not-fit-is-19, no-cr-is-7}
 use Rattle.demands.proofs.Fixed.{apart, lines-low, obey-silent}
 use Rattle.demands.proofs.Retyping.{line-read, absent-none, none-absent, retyping-replaces, no-room, new-empties, deleting-removes, absent-kept}
@@ -119,21 +121,26 @@ module _ (x : Lent) where
     (λ h. nineteen-says (first-of-continue 19 refl h), λ h. ap (λ (o : Outcome). o .answer .stop) (a-record-that-does-not-fit-is-19 x (h .0) (h .1) (h .2) .1)),
   )
 
+  -- past the first refusals
+  pub unrefused-exactly : (firstRefusal limit x ≡ 0) ↔ (InRange x × (isGood limit (x .page) ≡ true) × (fits (x .page) (x .session) ≡ true))
+  unrefused-exactly =
+      (λ h. let a = accepted-of limit x h in (a .range, a .good, a .fit), λ h. accepted-is {lim = limit} (record { range = h .0; good = h .1; fit = h .2 }))
+
   -- "no CR left in the input", of a typed line: its 7 is the one with no line
-  no-cr-left : {o : Outcome} → Takes limit x o → o .answer .stop ≡ 7 → o .answer .line ≡ noLine
-      → (firstRefusal limit x ≡ 0) × (gatheredLine limit x ≡ none)
-  no-cr-left (refused {n} h) i l = absurd (apart (7 ∷ []) firstNumbers refl (suc n) (rw i refl) (first-numbers limit x (suc n) h))
-  no-cr-left (noCR z h) i l = (z, h)
-  no-cr-left (overlong g z h l) i n = absurd (omega arith)
-  no-cr-left (unread g h r) i l = absurd (omega arith)
-  no-cr-left (reads g t h r) i l =
+  no-line-left : {o : Outcome} → Takes limit x o → o .answer .stop ≡ 7 → o .answer .line ≡ noLine → (firstRefusal limit x ≡ 0) × NoCR (x .input) (x .call .inpos)
+  no-line-left (refused {n} h) i l = absurd (apart (7 ∷ []) firstNumbers refl (suc n) (rw i refl) (first-numbers limit x (suc n) h))
+  no-line-left (noCR z h) i l = (z, no-cr-left limit (drop (x .call .inpos) (x .input)) h)
+  no-line-left (overlong g z h l) i n = absurd (omega arith)
+  no-line-left (unread g h r) i l = absurd (omega arith)
+  no-line-left (reads g t h r) i l =
       absurd (obey-silent (x .call .budget) (lentEnv limit x) (begun x (g .taken)) t (lines-low limit (x .page) (omega arith) (accepted-of limit x (h .sound) .good)) i l)
 
-  pub typed-seven-exactly : ((takeLine x .answer .stop ≡ 7) × (takeLine x .answer .line ≡ noLine)) ↔ ((firstRefusal limit x ≡ 0) × (gatheredLine limit x ≡ none))
+  pub typed-seven-exactly : ((takeLine x .answer .stop ≡ 7) × (takeLine x .answer .line ≡ noLine)) ↔ ((firstRefusal limit x ≡ 0) × NoCR (x .input) (x .call .inpos))
   unfolding takeLine
   typed-seven-exactly = (
-    λ h. no-cr-left (every-line limit x) (h .0) (h .1),
-    λ h. let e = no-cr-is-7 x (h .0) (h .1) in (ap (λ (o : Outcome). o .answer .stop) e, ap (λ (o : Outcome). o .answer .line) e),
+    λ h. no-line-left (every-line limit x) (h .0) (h .1),
+    λ h. let e = no-cr-is-7 x (h .0) (no-cr limit (drop (x .call .inpos) (x .input)) (h .1)) in
+        (ap (λ (o : Outcome). o .answer .stop) e, ap (λ (o : Outcome). o .answer .line) e),
   )
 
 -- 3: by the statement's form

@@ -21,7 +21,7 @@ use Rattle.value.proofs.Digits.{digits-before}
 use Rattle.page.proofs.Walk.{by-cases}
 use Rattle.page.proofs.Program.{program-length}
 use Rattle.demands.specs.Items.{itemBytes}
-use Rattle.demands.specs.Valued.{Signed, fromZero, belowZero, order, Below, acrossZero, aboveZero, underZero, Related, same, notSame, below, notBelow, above, notAbove, upTo, notUpTo, fromOn, notFromOn, other, notOther, Operated, sums, differences, products, quotients, quotientsBelow, noQuotient, both, either, relates, Remains, remainders, noRemainder, ValueOf, ofVariable, ofConstant, ofStat, ofTop, ofByte, noByte, ofNot, ofMinus, ofMod, ofTwo, inByte, inNot, inMinus, leftOfMod, rightOfMod, leftOfTwo, rightOfTwo, StringAt, NoString, Decimal, oneDigit, moreDigits, Shown, shown, shownBelow, ItemBytes, ofText, ofString, ofNumber, noString, noAddress, noNumber}
+use Rattle.demands.specs.Valued.{Signed, fromZero, belowZero, order, Below, acrossZero, aboveZero, underZero, Related, same, notSame, below, notBelow, above, notAbove, upTo, notUpTo, fromOn, notFromOn, other, notOther, Operated, sums, differences, products, quotients, quotientsBelow, noQuotient, both, either, relates, Remains, remainders, noRemainder, ValueOf, ofVariable, ofConstant, ofStat, ofTop, ofByte, noByte, ofNot, ofMinus, ofMod, ofTwo, inByte, inNot, inMinus, leftOfMod, rightOfMod, leftOfTwo, rightOfTwo, StringAt, NoCR, Decimal, oneDigit, moreDigits, Shown, shown, shownBelow, ItemBytes, ofText, ofString, ofNumber, noString, noAddress, noNumber}
 
 -- Sign and size
 pub signed-of : (x : ℕ) → Signed x (isNegative x) (magnitude x)
@@ -221,7 +221,7 @@ front-cr rest none = (refl, refl)
 front-cr rest (each {b = b} h m) = let r = front-cr rest m in (rw h (r .0), rw h (ap (λ (l : List ℕ). b ∷ l) (r .1)))
 
 module _ (memory : List ℕ) (p : ℕ) where
-  pub string-of : (P : Result (List ℕ) → Type 0) → ((bs : List ℕ) → StringAt memory p bs → P (is bs)) → (NoString memory p → P (no 16))
+  pub string-of : (P : Result (List ℕ) → Type 0) → ((bs : List ℕ) → StringAt memory p bs → P (is bs)) → (NoCR memory p → P (no 16))
       → P (stringAt memory p)
   unfolding stringAt
   string-of P f g =
@@ -232,7 +232,7 @@ module _ (memory : List ℕ) (p : ℕ) where
   unfolding stringAt
   string-one s = rw (s .stands, front-cr (s .rest) (s .first) .0, front-cr (s .rest) (s .first) .1)
 
-  pub string-none : NoString memory p → stringAt memory p ≡ no 16
+  pub string-none : NoCR memory p → stringAt memory p ≡ no 16
   unfolding stringAt
   string-none h = rw (no-cr-all h)
 

@@ -32,9 +32,10 @@ use Rattle.nibl.specs.declared.TopFor.the-variants as topf
 use Rattle.nibl.proofs.Words.{if-split}
 use Rattle.nibl.proofs.Lines.{replied-sound}
 use Rattle.nibl.proofs.Whole.{replied-complete}
+use Rattle.letter.proofs.Typed.{no-cr, no-cr-left}
 use Rattle.page.proofs.Walk.{by-cases}
 use Rattle.demands.specs.Items.{In, first, further, itemBytes, wroteItem, HasRoom, NoRoom}
-use Rattle.demands.specs.Valued.{order, ValueOf, FirstRefused, atFirst, atLater, ItemBytes}
+use Rattle.demands.specs.Valued.{order, ValueOf, FirstRefused, atFirst, atLater, NoCR, ItemBytes}
 use Rattle.demands.specs.Work.{valuesOf, LineAt, thisLine, laterLine, NoLine, Bare, empty, misfit, TopPlace, TopEntry, stepped, Within, upward, downward, Past, above, below, withCR, UpTo, thisItem, laterItem, AllOut, noneLeft, oneOut, Replied, afterReply, gave, GivenUpTo, thisValue, laterValue, AllGiven, noMore, oneGiven, Asking, forVariables, forString, Unread, ofStatement, ofItem, ofReply, RefusedWith, byValue, noLineToGo, noLineToSub, fullOfGosubs, fullOfDos, fullOfFors, noGosub, noDo, noFor, otherFor, noByteThere, noRoomForText, noSource, noRoomForCopy, noRoomForItem, noRoomForEnd, noRoomToAsk, noReply, replyTooLong, replyUnread, noRoomForReply, atEnd, Performs, refuses, remarks, falseIf, assigns, assignsFlags, storesByte, storesText, copies, goesToLine, callsLine, begins, counts, returns, returnsToMark, repeats, leaves, countsOn, finishes, prints, printsEnd, inputs, inputsString, Reaches, itself, throughIf, Works}
 use Rattle.demands.proofs.Valued.{value-of, value-one, string-of, string-one, string-none, item-of, item-one}
 use Rattle.demands.proofs.Effects.{went-went}
@@ -253,7 +254,7 @@ none-read h l = let i = replied-complete l in let z : _≡_ {A = ℕ} 0 1 = cc i
 
 module _ (e : Env) (w : World) where
   asked-of : (D : Done → Type 0) (q : Stmt) (k : World → List ℕ → Done) → (NoRoom w (bytes "?") → D (done (stop 17) w))
-      → (HasRoom w (bytes "?") → gather (e .lim) (drop (w .inpos) (e .input)) ≡ none → D (done (stop 7) (wroteItem w (bytes "?"))))
+      → (HasRoom w (bytes "?") → NoCR (e .input) (w .inpos) → D (done (stop 7) (wroteItem w (bytes "?"))))
       → ((g : Gathered) → Replied e w g → g .line .long ≡ true → D (done (stop 6) (afterReply w g)))
       → ((g : Gathered) → Replied e w g → g .line .long ≡ false → D (k (afterReply w g) (g .line .bytes))) → D (asked e w k)
   unfolding asked gathered
@@ -266,7 +267,7 @@ module _ (e : Env) (w : World) where
       long g r false h = f g r h
 
       line : HasRoom w (bytes "?") → (o : Option Gathered) → gather (e .lim) (drop (w .inpos) (e .input)) ≡ o → D (gathered (wroteItem w (bytes "?")) o k)
-      line r none h = no-line r h
+      line r none h = no-line r (no-cr-left (e .lim) (drop (w .inpos) (e .input)) h)
       line r (some g) h = long g (record { room = r; line = h }) (g .line .long) refl
 
   module _ (vs : List ℕ) where
@@ -424,10 +425,9 @@ module _ (e : Env) (w : World) where
   unfolding asked gathered
   reply-long g k r s = put-fits (bytes "?") w _ (r .room) ∙ rw (r .line, s)
 
-  reply-none : (k : World → List ℕ → Done) → HasRoom w (bytes "?") → gather (e .lim) (drop (w .inpos) (e .input)) ≡ none
-      → asked e w k ≡ done (stop 7) (wroteItem w (bytes "?"))
+  reply-none : (k : World → List ℕ → Done) → HasRoom w (bytes "?") → NoCR (e .input) (w .inpos) → asked e w k ≡ done (stop 7) (wroteItem w (bytes "?"))
   unfolding asked gathered
-  reply-none k h l = put-fits (bytes "?") w _ h ∙ rw l
+  reply-none k h l = put-fits (bytes "?") w _ h ∙ rw (no-cr (e .lim) (drop (w .inpos) (e .input)) l)
 
   reply-unasked : (k : World → List ℕ → Done) → NoRoom w (bytes "?") → asked e w k ≡ done (stop 17) w
   unfolding asked

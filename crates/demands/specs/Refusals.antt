@@ -3,17 +3,16 @@ use Prim.Native.Nat.{ℕ, _≤_}
 use mathlib.Core.Path.{_≡_}
 use mathlib.Core.Bool.{Bool, true, false}
 use mathlib.Core.List.{List, [], _∷_}
-use mathlib.Core.Option.{none}
-use lib.ListN.{length, drop}
+use lib.ListN.{length}
 use Rattle.nibl.specs.Bytes.{bytes}
 use Rattle.nibl.specs.Tree.{Expr, Item, Stmt, letByte, letCopy, letText, goto, gosub, until, return, doLoop, print, for, next, input, inputText}
 use Rattle.nibl.specs.Values.{is}
-use Rattle.nibl.specs.Typing.{Gathered, gather}
+use Rattle.nibl.specs.Typing.{Gathered}
 use Rattle.nibl.specs.Page.{recordsOf}
 use Rattle.nibl.specs.Meaning.{World, Env}
 use Rattle.nibl.specs.declared.ForEntry.{ForEntry}
 use Rattle.demands.specs.Items.{wroteItem, HasRoom, NoRoom}
-use Rattle.demands.specs.Valued.{ValueOf, StringAt, NoString, ItemBytes}
+use Rattle.demands.specs.Valued.{ValueOf, StringAt, NoCR, ItemBytes}
 use Rattle.demands.specs.Work.{LineAt, NoLine, Bare, TopEntry, withCR, LacksBytes, UpTo, AllOut, Replied, afterReply, Asking, Unread, RefusesValue, RefusedWith, Reaches}
 
 -- the statement comes, through its true IFs, to one of which P holds
@@ -32,7 +31,7 @@ pub data Unheard (e : Env) (w u : World) : Stmt → Type 0 where
 pub record NoReplyLeft (e : Env) (w u : World) (q : Stmt) : Type 0 where
   pub asking : Asking e w q
   pub room : HasRoom w (bytes "?")
-  pub noCR : gather (e .lim) (drop (w .inpos) (e .input)) ≡ none
+  pub noCR : NoCR (e .input) (w .inpos)
   pub leaves : u ≡ wroteItem w (bytes "?")
 
 -- 8: "GOTO or GOSUB to a line not there"
@@ -66,12 +65,11 @@ pub data LacksMemory (e : Env) (w u : World) : Stmt → Type 0 where
   inValue : {q : Stmt} → RefusesValue e w 16 u q → LacksMemory e w u q
   atByte : {a b : Expr} {p x : ℕ} → ValueOf e w a (is p) → ValueOf e w b (is x) → length (w .memory) ≤ p → u ≡ w → LacksMemory e w u (letByte a b)
   atText : {a : Expr} {p : ℕ} {bs : List ℕ} → ValueOf e w a (is p) → LacksBytes w p (withCR bs) → u ≡ w → LacksMemory e w u (letText a bs)
-  atSource : {a b : Expr} {p q : ℕ} → ValueOf e w a (is p) → ValueOf e w b (is q) → NoString (w .memory) q → u ≡ w → LacksMemory e w u (letCopy a b)
+  atSource : {a b : Expr} {p q : ℕ} → ValueOf e w a (is p) → ValueOf e w b (is q) → NoCR (w .memory) q → u ≡ w → LacksMemory e w u (letCopy a b)
   atCopy : {a b : Expr} {p q : ℕ} {bs : List ℕ} → ValueOf e w a (is p) → ValueOf e w b (is q) → StringAt (w .memory) q bs
       → LacksBytes w p (withCR bs) → u ≡ w → LacksMemory e w u (letCopy a b)
   atReply : {a : Expr} {p : ℕ} {g : Gathered} → ValueOf e w a (is p) → Replied e w g → g .line .long ≡ false
-      → LacksBytes w p (withCR (g .line .bytes)) → u ≡ afterReply w g
-      → LacksMemory e w u (inputText a)
+      → LacksBytes w p (withCR (g .line .bytes)) → u ≡ afterReply w g → LacksMemory e w u (inputText a)
 
 -- 17: "an output item does not fit whole; PRINT's CR LF, the '?' .. are each one item"
 pub data LacksOutput (e : Env) (w u : World) : Stmt → Type 0 where

@@ -99,9 +99,9 @@ pub record StringAt (memory : List ℕ) (p : ℕ) (bs : List ℕ) : Type 0 where
   pub stands : drop p memory ≡ bs ++ (13 ∷ rest)
   pub first : All notCR bs
 
--- "no CR found"
-abbrev pub NoString : List ℕ → ℕ → Type 0
-NoString memory p = All notCR (drop p memory)
+-- "no CR found", in memory or input, from a position on
+abbrev pub NoCR : List ℕ → ℕ → Type 0
+NoCR l p = All notCR (drop p l)
 
 -- decimal digits: one of a number below 10; of another those of its tenth part, and then its last
 pub data Decimal : ℕ → List ℕ → Type 0 where
@@ -118,6 +118,6 @@ pub data ItemBytes (e : Env) (w : World) : Item → Result (List ℕ) → Type 0
   ofText : {bs : List ℕ} → ItemBytes e w (text bs) (is bs)
   ofString : {a : Expr} {p : ℕ} {bs : List ℕ} → ValueOf e w a (is p) → StringAt (w .memory) p bs → ItemBytes e w (stored a) (is bs)
   ofNumber : {a : Expr} {x : ℕ} {bs : List ℕ} → ValueOf e w a (is x) → Shown x bs → ItemBytes e w (value a) (is bs)
-  noString : {a : Expr} {p : ℕ} → ValueOf e w a (is p) → NoString (w .memory) p → ItemBytes e w (stored a) (no 16)
+  noString : {a : Expr} {p : ℕ} → ValueOf e w a (is p) → NoCR (w .memory) p → ItemBytes e w (stored a) (no 16)
   noAddress : {a : Expr} {n : ℕ} → ValueOf e w a (no n) → ItemBytes e w (stored a) (no n)
   noNumber : {a : Expr} {n : ℕ} → ValueOf e w a (no n) → ItemBytes e w (value a) (no n)

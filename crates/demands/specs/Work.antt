@@ -4,7 +4,7 @@ use Prim.Native.Nat.{ℕ, suc, _+_, _-_, _%_, _≤_, _<_}
 use mathlib.Core.Path.{_≡_}
 use mathlib.Core.Bool.{Bool, true, false}
 use mathlib.Core.List.{List, [], _∷_, _++_}
-use mathlib.Core.Option.{none, some}
+use mathlib.Core.Option.{some}
 use lib.ListN.{length, getD, drop, set}
 use lib.Seq.{sets}
 use Rattle.nibl.specs.Bytes.{bytes}
@@ -21,7 +21,7 @@ use Rattle.nibl.specs.declared.PlaceStack.{PlaceStack}
 use Rattle.nibl.specs.declared.ForEntry.{ForEntry}
 use Rattle.nibl.specs.declared.ForStack.{ForStack}
 use Rattle.demands.specs.Items.{In, wroteItem, HasRoom, NoRoom}
-use Rattle.demands.specs.Valued.{order, ValueOf, FirstRefused, StringAt, NoString, ItemBytes}
+use Rattle.demands.specs.Valued.{order, ValueOf, FirstRefused, StringAt, NoCR, ItemBytes}
 
 -- "values first": what a statement asks for before it does anything. PRINT and a reply go value by value
 abbrev pub valuesOf : Stmt → List Expr
@@ -149,8 +149,7 @@ pub data RefusesValue (e : Env) (w : World) (n : ℕ) : World → Stmt → Type 
   ofStatement : {q : Stmt} → FirstRefused e w (valuesOf q) n → RefusesValue e w n w q
   ofItem : {items : List Item} {i : Item} {u : World} (b : Bool) → UpTo e items w i u → ItemBytes e u i (no n) → RefusesValue e w n u (print items b)
   ofReply : {vs : List ℕ} {g : Gathered} {es : List Expr} {a : Expr} {u : World} → Replied e w g → g .line .long ≡ false
-      → ReplyReading (length vs) (g .line .bytes) es
-      → GivenUpTo e vs es (afterReply w g) a u → ValueOf e u a (no n) → RefusesValue e w n u (input vs)
+      → ReplyReading (length vs) (g .line .bytes) es → GivenUpTo e vs es (afterReply w g) a u → ValueOf e u a (no n) → RefusesValue e w n u (input vs)
 
 -- Refusals: the statement, the number, and the world that is left
 pub data RefusedWith (e : Env) (w : World) : Stmt → ℕ → World → Type 0 where
@@ -174,24 +173,21 @@ pub data RefusedWith (e : Env) (w : World) : Stmt → ℕ → World → Type 0 w
   -- "a memory byte needed is not there, or no CR found"; "'@' and string stores check addresses last"
   noByteThere : {a b : Expr} {p x : ℕ} → ValueOf e w a (is p) → ValueOf e w b (is x) → length (w .memory) ≤ p → RefusedWith e w (letByte a b) 16 w
   noRoomForText : {a : Expr} {p : ℕ} {bs : List ℕ} → ValueOf e w a (is p) → LacksBytes w p (withCR bs) → RefusedWith e w (letText a bs) 16 w
-  noSource : {a b : Expr} {p q : ℕ} → ValueOf e w a (is p) → ValueOf e w b (is q) → NoString (w .memory) q → RefusedWith e w (letCopy a b) 16 w
+  noSource : {a b : Expr} {p q : ℕ} → ValueOf e w a (is p) → ValueOf e w b (is q) → NoCR (w .memory) q → RefusedWith e w (letCopy a b) 16 w
   noRoomForCopy : {a b : Expr} {p q : ℕ} {bs : List ℕ} → ValueOf e w a (is p) → ValueOf e w b (is q) → StringAt (w .memory) q bs
-      → LacksBytes w p (withCR bs)
-      → RefusedWith e w (letCopy a b) 16 w
+      → LacksBytes w p (withCR bs) → RefusedWith e w (letCopy a b) 16 w
   -- "PRINT works item by item, 16 before 17"; "PRINT items already out stay"
   noRoomForItem : {items : List Item} {i : Item} {bs : List ℕ} {u : World} (b : Bool) → UpTo e items w i u → ItemBytes e u i (is bs) → NoRoom u bs
       → RefusedWith e w (print items b) 17 u
   noRoomForEnd : {items : List Item} {u : World} → AllOut e items w u → NoRoom u (13 ∷ 10 ∷ []) → RefusedWith e w (print items false) 17 u
   -- "INPUT: address value, 17, 7, 6, values, 16"; "the '?' stays, a gathered reply is taken, and variables already given stay given"
   noRoomToAsk : {q : Stmt} → Asking e w q → NoRoom w (bytes "?") → RefusedWith e w q 17 w
-  noReply : {q : Stmt} → Asking e w q → HasRoom w (bytes "?") → gather (e .lim) (drop (w .inpos) (e .input)) ≡ none
-      → RefusedWith e w q 7 (wroteItem w (bytes "?"))
+  noReply : {q : Stmt} → Asking e w q → HasRoom w (bytes "?") → NoCR (e .input) (w .inpos) → RefusedWith e w q 7 (wroteItem w (bytes "?"))
   replyTooLong : {q : Stmt} {g : Gathered} → Asking e w q → Replied e w g → g .line .long ≡ true → RefusedWith e w q 6 (afterReply w g)
   replyUnread : {vs : List ℕ} {g : Gathered} → Replied e w g → g .line .long ≡ false → Unread (length vs) (g .line .bytes)
       → RefusedWith e w (input vs) 6 (afterReply w g)
   noRoomForReply : {a : Expr} {p : ℕ} {g : Gathered} → ValueOf e w a (is p) → Replied e w g → g .line .long ≡ false
-      → LacksBytes w p (withCR (g .line .bytes))
-      → RefusedWith e w (inputText a) 16 (afterReply w g)
+      → LacksBytes w p (withCR (g .line .bytes)) → RefusedWith e w (inputText a) 16 (afterReply w g)
   -- END
   atEnd : RefusedWith e w end 20 w
 
