@@ -11,7 +11,7 @@ use Rattle.nibl.specs.Page.{isAmong}
 use Rattle.nibl.specs.Meaning.{World, Env, stop, done, exec}
 use Rattle.demands.specs.Valued.{FirstRefused, atFirst, atLater, ItemBytes, noString, noAddress, noNumber}
 use Rattle.demands.specs.Work.{RefusesValue, ofStatement, ofItem, ofReply, RefusedWith, byValue, noLineToGo, noLineToSub, fullOfGosubs, fullOfDos, fullOfFors, noGosub, noDo, noFor, otherFor, noByteThere, noRoomForText, noSource, noRoomForCopy, noRoomForItem, noRoomForEnd, noRoomToAsk, noReply, replyTooLong, replyUnread, noRoomForReply, atEnd, Performs, refuses, returnsToMark, Reaches, Works}
-use Rattle.demands.specs.Refusals.{Comes, Unheard, overLong, notInForm, NoReplyLeft, MissesLine, byGoto, byGosub, ReturnsFromNothing, aReturn, RepeatsNothing, anUntil, FullStack, ofGosubs, ofDos, ofFors, NextOfNothing, noneToCount, NextOfAnother, anotherCounts, LacksMemory, inValue, atByte, atText, atSource, atCopy, atReply, LacksOutput, forItem, forEnd, forQuestion, Refusal}
+use Rattle.demands.specs.Refusals.{ComesTo, Unheard, overLong, notInForm, NoReplyLeft, MissesLine, byGoto, byGosub, ReturnsFromNothing, aReturn, RepeatsNothing, anUntil, FullStack, ofGosubs, ofDos, ofFors, NextOfNothing, noneToCount, NextOfAnother, anotherCounts, LacksMemory, inValue, atByte, atText, atSource, atCopy, atReply, LacksOutput, forItem, forEnd, forQuestion, Refusal}
 use Rattle.demands.proofs.Valued.{refused-number}
 use Rattle.demands.proofs.Work.{works, works-one}
 
@@ -52,14 +52,14 @@ module _ (e : Env) (w : World) where
 
   -- one number's own sentence
   module _ (n : ℕ) (u : World) (z : n ≡ 0 → ⊥) (P : Stmt → Type 0) (f : (q : Stmt) → RefusedWith e w q n u → P q) (g : (q : Stmt) → P q → RefusedWith e w q n u) where
-    own : (s : Stmt) → (exec e s w ≡ done (stop n) u) ↔ Comes e s w P
+    own : (s : Stmt) → (exec e s w ≡ done (stop n) u) ↔ ComesTo e s w P
     own s = (
       λ h. let r = refused-exactly s n u z .0 h in record { statement = r .statement; reached = r .reached; holds = f (r .statement) (r .holds) },
       λ r. refused-exactly s n u z .1 (record { statement = r .statement; reached = r .reached; holds = g (r .statement) (r .holds) }),
     )
 
   -- "reply over-long or not in its form"
-  pub six-exactly : (s : Stmt) (u : World) → (exec e s w ≡ done (stop 6) u) ↔ Comes e s w (Unheard e w u)
+  pub six-exactly : (s : Stmt) (u : World) → (exec e s w ≡ done (stop 6) u) ↔ ComesTo e s w (Unheard e w u)
   six-exactly s u = own 6 u (λ h. omega arith) (Unheard e w u) (λ q. f) (λ q. g) s where
     f : {q : Stmt} {u : World} → RefusedWith e w q 6 u → Unheard e w u q
     f (byValue h) = absurd (no-value refl (value-number h))
@@ -71,7 +71,7 @@ module _ (e : Env) (w : World) where
     g (notInForm r s h i) = rw i (replyUnread r s h)
 
   -- "no CR left in the input; no byte is taken"
-  pub seven-exactly : (s : Stmt) (u : World) → (exec e s w ≡ done (stop 7) u) ↔ Comes e s w (NoReplyLeft e w u)
+  pub seven-exactly : (s : Stmt) (u : World) → (exec e s w ≡ done (stop 7) u) ↔ ComesTo e s w (NoReplyLeft e w u)
   seven-exactly s u = own 7 u (λ h. omega arith) (NoReplyLeft e w u) (λ q. f) (λ q. g) s where
     f : {q : Stmt} {u : World} → RefusedWith e w q 7 u → NoReplyLeft e w u q
     f (byValue h) = absurd (no-value refl (value-number h))
@@ -82,14 +82,14 @@ module _ (e : Env) (w : World) where
 
   -- the numbers that leave all as it was
   module _ (n : ℕ) (z : n ≡ 0 → ⊥) (P : Stmt → Type 0) (f : (q : Stmt) (u : World) → RefusedWith e w q n u → P q × (u ≡ w)) (g : (q : Stmt) → P q → RefusedWith e w q n w) where
-    still : (s : Stmt) (u : World) → (exec e s w ≡ done (stop n) u) ↔ (Comes e s w P × (u ≡ w))
+    still : (s : Stmt) (u : World) → (exec e s w ≡ done (stop n) u) ↔ (ComesTo e s w P × (u ≡ w))
     still s u = (
       λ h. let r = refused-exactly s n u z .0 h in let i = f (r .statement) u (r .holds) in (record { statement = r .statement; reached = r .reached; holds = i .0 }, i .1),
       λ r. rw (r .1) (refused-exactly s n w z .1 (record { statement = r .0 .statement; reached = r .0 .reached; holds = g (r .0 .statement) (r .0 .holds) })),
     )
 
   -- "GOTO or GOSUB to a line not there"
-  pub eight-exactly : (s : Stmt) (u : World) → (exec e s w ≡ done (stop 8) u) ↔ (Comes e s w (MissesLine e w) × (u ≡ w))
+  pub eight-exactly : (s : Stmt) (u : World) → (exec e s w ≡ done (stop 8) u) ↔ (ComesTo e s w (MissesLine e w) × (u ≡ w))
   eight-exactly = still 8 (λ h. omega arith) (MissesLine e w) (λ q u. f) (λ q. g) where
     f : {q : Stmt} {u : World} → RefusedWith e w q 8 u → MissesLine e w q × (u ≡ w)
     f (byValue h) = absurd (no-value refl (value-number h))
@@ -101,7 +101,7 @@ module _ (e : Env) (w : World) where
     g (byGosub h l) = noLineToSub h l
 
   -- "RETURN with its stack empty"
-  pub nine-exactly : (s : Stmt) (u : World) → (exec e s w ≡ done (stop 9) u) ↔ (Comes e s w (ReturnsFromNothing w) × (u ≡ w))
+  pub nine-exactly : (s : Stmt) (u : World) → (exec e s w ≡ done (stop 9) u) ↔ (ComesTo e s w (ReturnsFromNothing w) × (u ≡ w))
   nine-exactly = still 9 (λ h. omega arith) (ReturnsFromNothing w) (λ q u. f) (λ q. g) where
     f : {q : Stmt} {u : World} → RefusedWith e w q 9 u → ReturnsFromNothing w q × (u ≡ w)
     f (byValue h) = absurd (no-value refl (value-number h))
@@ -111,7 +111,7 @@ module _ (e : Env) (w : World) where
     g (aReturn b) = noGosub b
 
   -- "past 8 GOSUBs, 8 DOs or 4 FORs"
-  pub ten-exactly : (s : Stmt) (u : World) → (exec e s w ≡ done (stop 10) u) ↔ (Comes e s w (FullStack e w) × (u ≡ w))
+  pub ten-exactly : (s : Stmt) (u : World) → (exec e s w ≡ done (stop 10) u) ↔ (ComesTo e s w (FullStack e w) × (u ≡ w))
   ten-exactly = still 10 (λ h. omega arith) (FullStack e w) (λ q u. f) (λ q. g) where
     f : {q : Stmt} {u : World} → RefusedWith e w q 10 u → FullStack e w q × (u ≡ w)
     f (byValue h) = absurd (no-value refl (value-number h))
@@ -125,7 +125,7 @@ module _ (e : Env) (w : World) where
     g (ofFors h i j b) = fullOfFors h i j b
 
   -- "NEXT with no FOR"
-  pub eleven-exactly : (s : Stmt) (u : World) → (exec e s w ≡ done (stop 11) u) ↔ (Comes e s w (NextOfNothing w) × (u ≡ w))
+  pub eleven-exactly : (s : Stmt) (u : World) → (exec e s w ≡ done (stop 11) u) ↔ (ComesTo e s w (NextOfNothing w) × (u ≡ w))
   eleven-exactly = still 11 (λ h. omega arith) (NextOfNothing w) (λ q u. f) (λ q. g) where
     f : {q : Stmt} {u : World} → RefusedWith e w q 11 u → NextOfNothing w q × (u ≡ w)
     f (byValue h) = absurd (no-value refl (value-number h))
@@ -135,7 +135,7 @@ module _ (e : Env) (w : World) where
     g (noneToCount b) = noFor b
 
   -- "NEXT .. with another variable"
-  pub twelve-exactly : (s : Stmt) (u : World) → (exec e s w ≡ done (stop 12) u) ↔ (Comes e s w (NextOfAnother w) × (u ≡ w))
+  pub twelve-exactly : (s : Stmt) (u : World) → (exec e s w ≡ done (stop 12) u) ↔ (ComesTo e s w (NextOfAnother w) × (u ≡ w))
   twelve-exactly = still 12 (λ h. omega arith) (NextOfAnother w) (λ q u. f) (λ q. g) where
     f : {q : Stmt} {u : World} → RefusedWith e w q 12 u → NextOfAnother w q × (u ≡ w)
     f (byValue h) = absurd (no-value refl (value-number h))
@@ -145,7 +145,7 @@ module _ (e : Env) (w : World) where
     g (anotherCounts t n) = otherFor t n
 
   -- "division or MOD by 0": a value is refused so by these two alone
-  pub thirteen-exactly : (s : Stmt) (u : World) → (exec e s w ≡ done (stop 13) u) ↔ Comes e s w (RefusesValue e w 13 u)
+  pub thirteen-exactly : (s : Stmt) (u : World) → (exec e s w ≡ done (stop 13) u) ↔ ComesTo e s w (RefusesValue e w 13 u)
   thirteen-exactly s u = own 13 u (λ h. omega arith) (RefusesValue e w 13 u) (λ q. f) (λ q. g) s where
     f : {q : Stmt} {u : World} → RefusedWith e w q 13 u → RefusesValue e w 13 u q
     f (byValue h) = h
@@ -154,7 +154,7 @@ module _ (e : Env) (w : World) where
     g h = byValue h
 
   -- "UNTIL with its stack empty"
-  pub fifteen-exactly : (s : Stmt) (u : World) → (exec e s w ≡ done (stop 15) u) ↔ (Comes e s w (RepeatsNothing e w) × (u ≡ w))
+  pub fifteen-exactly : (s : Stmt) (u : World) → (exec e s w ≡ done (stop 15) u) ↔ (ComesTo e s w (RepeatsNothing e w) × (u ≡ w))
   fifteen-exactly = still 15 (λ h. omega arith) (RepeatsNothing e w) (λ q u. f) (λ q. g) where
     f : {q : Stmt} {u : World} → RefusedWith e w q 15 u → RepeatsNothing e w q × (u ≡ w)
     f (byValue h) = absurd (no-value refl (value-number h))
@@ -164,7 +164,7 @@ module _ (e : Env) (w : World) where
     g (anUntil h b) = noDo h b
 
   -- "a memory byte needed is not there, or no CR found"
-  pub sixteen-exactly : (s : Stmt) (u : World) → (exec e s w ≡ done (stop 16) u) ↔ Comes e s w (LacksMemory e w u)
+  pub sixteen-exactly : (s : Stmt) (u : World) → (exec e s w ≡ done (stop 16) u) ↔ ComesTo e s w (LacksMemory e w u)
   sixteen-exactly s u = own 16 u (λ h. omega arith) (LacksMemory e w u) (λ q. f) (λ q. g) s where
     f : {q : Stmt} {u : World} → RefusedWith e w q 16 u → LacksMemory e w u q
     f (byValue h) = inValue h
@@ -183,7 +183,7 @@ module _ (e : Env) (w : World) where
     g (atReply h r s l i) = rw i (noRoomForReply h r s l)
 
   -- "an output item does not fit whole"
-  pub seventeen-exactly : (s : Stmt) (u : World) → (exec e s w ≡ done (stop 17) u) ↔ Comes e s w (LacksOutput e w u)
+  pub seventeen-exactly : (s : Stmt) (u : World) → (exec e s w ≡ done (stop 17) u) ↔ ComesTo e s w (LacksOutput e w u)
   seventeen-exactly s u = own 17 u (λ h. omega arith) (LacksOutput e w u) (λ q. f) (λ q. g) s where
     f : {q : Stmt} {u : World} → RefusedWith e w q 17 u → LacksOutput e w u q
     f (byValue h) = absurd (no-value refl (value-number h))

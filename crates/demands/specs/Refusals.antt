@@ -16,7 +16,7 @@ use Rattle.demands.specs.Valued.{ValueOf, StringAt, NoCR, ItemBytes}
 use Rattle.demands.specs.Work.{LineAt, NoLine, Bare, TopEntry, withCR, LacksBytes, UpTo, AllOut, Replied, afterReply, Asking, Unread, RefusesValue, RefusedWith, Reaches}
 
 -- the statement comes, through its true IFs, to one of which P holds
-pub record Comes (e : Env) (s : Stmt) (w : World) (P : Stmt → Type 0) : Type 0 where
+pub record ComesTo (e : Env) (s : Stmt) (w : World) (P : Stmt → Type 0) : Type 0 where
   pub statement : Stmt
   pub reached : Reaches e w s statement
   pub holds : P statement
@@ -80,4 +80,4 @@ pub data LacksOutput (e : Env) (w u : World) : Stmt → Type 0 where
 
 -- a refusal of any number
 abbrev pub Refusal : Env → Stmt → World → ℕ → World → Type 0
-Refusal e s w n u = Comes e s w (λ q. RefusedWith e w q n u)
+Refusal e s w n u = ComesTo e s w (λ q. RefusedWith e w q n u)
