@@ -1,4 +1,5 @@
 pub mod Effects
+pub mod Good
 pub mod Runs
 pub mod Budget
 pub mod Ways

@@ -1,4 +1,5 @@
 pub mod Items
+pub mod Good
 pub mod Effects
 pub mod Asks
 pub mod Lent
