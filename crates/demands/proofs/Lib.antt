@@ -12,6 +12,7 @@ pub mod Carried
 pub mod Obeys
 pub mod Sound
 pub mod Five
+pub mod ByGrammar
 pub mod Line
 pub mod Paused
 pub mod Storing

@@ -10,10 +10,12 @@ use Rattle.nibl.specs.Tree.{Stmt, Member}
 use Rattle.nibl.specs.Readings.{ListReading}
 use Rattle.nibl.specs.Values.{digits}
 use Rattle.nibl.specs.Record.{mark, nowhere, pausedAt}
+use Rattle.nibl.specs.Calls.{Lent}
 use Rattle.nibl.specs.declared.Place.{Place}
 use Rattle.nibl.specs.declared.ForEntry.{ForEntry}
 use Rattle.nibl.specs.declared.Session.{Session}
 use Rattle.demands.specs.Items.{In}
+use Rattle.demands.specs.Lent.{InRange}
 
 -- "A record is the number (two bytes, high first, 0 to 32,767), one byte for the whole record's length, the text, and CR (13). The length is the text's length
 -- plus 4": the record of number n with the text t stands at a position of the page
@@ -79,3 +81,9 @@ pub record Fits (page : List ℕ) (s : Session) : Type 0 where
   pub fors : (f : ForEntry) → In f (take (s .fors .depth) (s .fors .entries)) → (f .var < 26) × IsPlace page (f .place .0)
   pub flags : s .flags < 8
   pub paused : PauseFits page (s .paused)
+
+-- what a call is lent that is past its first refusals, 1, 18 and 19
+pub record Unrefused (lim : ℕ) (x : Lent) : Type 0 where
+  pub range : InRange x
+  pub good : GoodPage lim (x .page)
+  pub fits : Fits (x .page) (x .session)
