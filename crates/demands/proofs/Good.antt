@@ -9,14 +9,14 @@ use native.Mathlib.Omega.{arith}
 use lib.ListN.{length, getD, take, drop, length-append, length-drop}
 use lib.Seq.{take-at, drop-at, getD-at, drop-drop}
 use lib.Dec.{ltb, leb, eqb}
-use borrow.Author.Tests.{eqb-true, eq-eqb, ne-eqb, le-leb, lt-ltb, ltb-true}
+use borrow.Author.Tests.{eqb-true, eq-eqb, ne-eqb, le-leb, le-ltb, lt-ltb, ltb-true}
 use Rattle.nibl.specs.Bytes.{all, isDigit, starts}
 use Rattle.nibl.specs.Tree.{Member}
 use Rattle.nibl.specs.Grammar.{Members, lastMember, moreMembers}
 use Rattle.nibl.specs.Readings.{ListReading}
 use Rattle.nibl.specs.Read.{reading}
 use Rattle.nibl.specs.Values.{digits}
-use Rattle.nibl.specs.Page.{Stored, isEnd, lineAt, lengthAt, textAt, isStorable, isRecord, goodN, isGood, recordsOf, size, endsFrom, endsOf, placesIn, placesOf, isAmong, fitsPaused, fitsWith, fits}
+use Rattle.nibl.specs.Page.{Stored, isEnd, lineAt, lengthAt, textAt, isStorable, isRecord, goodN, isGood, recordsOf, size, lineIn, lineOf, endsFrom, endsOf, placesIn, placesOf, isAmong, fitsPaused, fitsWith, fits}
 use Rattle.nibl.specs.Record.{mark}
 use Rattle.nibl.specs.declared.Place.{Place}
 use Rattle.nibl.specs.declared.ForEntry.{ForEntry}
@@ -93,7 +93,7 @@ module _ (h l : ℕ) (t rest : List ℕ) where
   written-cr : getD written (length t + 4 - 1) 0 ≡ 13
   written-cr = getD-at (h ∷ l ∷ (length t + 4) ∷ t) 13 rest 0 (length t + 4 - 1) (omega arith)
 
-  written-end : h * 256 + l ≤ 32767 → isEnd written ≡ false
+  pub written-end : h * 256 + l ≤ 32767 → isEnd written ≡ false
   written-end s = rw (ne-eqb h 255 (λ e. omega arith))
 
   written-record : (lim low : ℕ) → low ≤ h * 256 + l → h * 256 + l ≤ 32767 → GoodText lim (h * 256 + l) t → isRecord lim low written ≡ true
@@ -141,17 +141,18 @@ record-same {at = at} {page = page} {t = t} {r = r} w a =
       sym (take-at t (13 ∷ a .after) (length t) refl) ∙ ap (take (length t)) same ∙ take-at (r .text) (13 ∷ drop (at + size r) page) (length t) long,
     )
 
-record-unended : {at n : ℕ} {page t : List ℕ} → RecordAt page at n t → isEnd (drop at page) ≡ true → ⊥
+pub record-unended : {at n : ℕ} {page t : List ℕ} → RecordAt page at n t → isEnd (drop at page) ≡ true → ⊥
 record-unended {at = at} {t = t} a e =
     false≢true (sym (written-end (a .high) (a .low) t (a .after) (omega (arith, a .number, a .small))) ∙ ap isEnd (sym (a .bytes)) ∙ e)
 
 module _ (lim : ℕ) (page : List ℕ) where
-  -- the records from a boundary on, whose places are places of the page
+  -- the records from a boundary on, whose places are places of the page, and whose lines are the page's
   pub record Onward (at : ℕ) : Type 0 where
     pub low : ℕ
     pub records : List Stored
     pub laid : Laid lim page low at records
     pub holds : (p : ℕ) → isAmong (placesIn at records) p ≡ true → isAmong (placesOf page) p ≡ true
+    pub lines : (p : ℕ) → at ≤ p → lineOf page p ≡ lineIn (p - at) records
 
   module _ (at n : ℕ) (t : List ℕ) (a : RecordAt page at n t) where
     -- the record that stands there, and those behind it
@@ -159,30 +160,50 @@ module _ (lim : ℕ) (page : List ℕ) where
       pub whole : Whole lim page at (record { line = n; text = t })
       pub behind : Onward (at + (length t + 4))
       pub places : (p : ℕ) → isAmong (endsOf (at + 3) (length t) (reading t)) p ≡ true → isAmong (placesOf page) p ≡ true
+      pub line : (p : ℕ) → at ≤ p → p < at + (length t + 4) → lineOf page p ≡ n
 
     pub record-here : Onward at → Here
-    record-here o = by (o .laid) (o .holds) where
+    record-here o = by (o .laid) (o .holds) (o .lines) where
       whole : {low : ℕ} {rs : List Stored} → Whole lim page at (record { line = n; text = t }) → Laid lim page low (at + (length t + 4)) rs
-          → ((p : ℕ) → isAmong (endsOf (at + 3) (length t) (reading t) ++ placesIn (at + (length t + 4)) rs) p ≡ true → isAmong (placesOf page) p ≡ true) → Here
-      whole {low = low} {rs = rs} w g h =
+          → ((p : ℕ) → isAmong (endsOf (at + 3) (length t) (reading t) ++ placesIn (at + (length t + 4)) rs) p ≡ true → isAmong (placesOf page) p ≡ true)
+          → ((p : ℕ) → at ≤ p → lineOf page p ≡ lineIn (p - at) (record { line = n; text = t } ∷ rs)) → Here
+      whole {low = low} {rs = rs} w g h k =
           let mine : List ℕ = endsOf (at + 3) (length t) (reading t) in
           let more : List ℕ = placesIn (at + (length t + 4)) rs in
           record {
             whole = w;
-            behind = record { low = low; records = rs; laid = g; holds = λ p i. h p (among-append mine more p ∙ or-right (isAmong mine p) (isAmong more p) i) };
+            behind =
+                record {
+                  low = low;
+                  records = rs;
+                  laid = g;
+                  holds = λ p i. h p (among-append mine more p ∙ or-right (isAmong mine p) (isAmong more p) i);
+                  lines = λ p i.
+                      let back : p - at - (length t + 4) ≡ p - (at + (length t + 4)) = omega arith in
+                      k p (omega arith) ∙ rw (le-ltb (p - at) (length t + 4) (omega arith), back);
+                };
             places = λ p i. h p (among-append mine more p ∙ rw i);
+            line = λ p i j. k p i ∙ rw (lt-ltb (p - at) (length t + 4) (omega arith));
           }
 
-      by : {low : ℕ} {rs : List Stored} → Laid lim page low at rs → ((p : ℕ) → isAmong (placesIn at rs) p ≡ true → isAmong (placesOf page) p ≡ true) → Here
-      by (laid.ends e) h = absurd (record-unended a e)
-      by (laid.laid {r = r} {rs = rs} l w p) h =
+      by : {low : ℕ} {rs : List Stored} → Laid lim page low at rs → ((p : ℕ) → isAmong (placesIn at rs) p ≡ true → isAmong (placesOf page) p ≡ true)
+          → ((p : ℕ) → at ≤ p → lineOf page p ≡ lineIn (p - at) rs) → Here
+      by (laid.ends e) h k = absurd (record-unended a e)
+      by (laid.laid {r = r} {rs = rs} l w p) h k =
           let same = record-same w a in
           let it : r ≡ record { line = n; text = t } = λ i. record { line = sym (same .0) i; text = sym (same .1) i } in
-          whole (rw it at w) (rw it at p) (rw it at h)
+          whole (rw it at w) (rw it at p) (rw it at h) (rw it at k)
 
-  boundary-onward : Laid lim page 0 0 (recordsOf page) → {at : ℕ} → Boundary page at → Onward at
-  unfolding placesOf
-  boundary-onward g start = record { low = 0; records = recordsOf page; laid = g; holds = λ p i. i }
+  pub boundary-onward : Laid lim page 0 0 (recordsOf page) → {at : ℕ} → Boundary page at → Onward at
+  unfolding placesOf lineOf
+  boundary-onward g start =
+      record {
+        low = 0;
+        records = recordsOf page;
+        laid = g;
+        holds = λ p i. i;
+        lines = λ p i. let z : p - 0 ≡ p = omega arith in rw z;
+      }
   boundary-onward g (behind {at = at} {n = n} {t = t} b a) = record-here at n t a (boundary-onward g b) .behind
 
   -- the ends of members

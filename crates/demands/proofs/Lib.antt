@@ -13,6 +13,7 @@ pub mod Obeys
 pub mod Sound
 pub mod Five
 pub mod ByGrammar
+pub mod Reading
 pub mod Line
 pub mod Paused
 pub mod Storing

@@ -1,5 +1,6 @@
 pub mod Items
 pub mod Good
+pub mod Reading
 pub mod Effects
 pub mod Asks
 pub mod Lent
