@@ -32,4 +32,5 @@ pub mod Fourteen
 pub mod Within
 pub mod Written
 pub mod Printing
+pub mod ItemsIn
 pub mod Left

@@ -40,13 +40,13 @@ module _ (W : List ℕ → Type 0) (lim : ℕ) (input : List ℕ) where
   lines-then (line g h s) t = line g h (lines-then s t)
 
   -- from one world to the next
-  abbrev Grew : World → World → Type 0
+  abbrev pub Grew : World → World → Type 0
   Grew w u = WroteItems W lim input (w .output) (w .outpos) (w .inpos) (u .output) (u .outpos) (u .inpos)
 
-  nothing-new : {out : List ℕ} {at from : ℕ} → WroteItems W lim input out at from out at from
+  pub nothing-new : {out : List ℕ} {at from : ℕ} → WroteItems W lim input out at from out at from
   nothing-new = record { items = noItem; lines = noneTaken }
 
-  grew-then : {a b c : List ℕ} {i j k m n o : ℕ} → WroteItems W lim input a i m b j n → WroteItems W lim input b j n c k o → WroteItems W lim input a i m c k o
+  pub grew-then : {a b c : List ℕ} {i j k m n o : ℕ} → WroteItems W lim input a i m b j n → WroteItems W lim input b j n c k o → WroteItems W lim input a i m c k o
   grew-then a b = record { items = items-then (a .items) (b .items); lines = lines-then (a .lines) (b .lines) }
 
   gives-grew : {w : World} {d : Done} → GivesVariables w d → Grew w (worldAfter d)
@@ -54,7 +54,7 @@ module _ (W : List ℕ → Type 0) (lim : ℕ) (input : List ℕ) where
   gives-grew (refused h) = nothing-new
   gives-grew (gives v x g) = let r = gives-grew g in record { items = r .items; lines = r .lines }
 
-  does-grew : {e : Env} {vs : List ℕ} {Y : List ℕ → Type 0} {w : World} {d : Done} → ((bs : List ℕ) → Y bs → W bs) → e .lim ≡ lim → e .input ≡ input → Does e vs Y w d → Grew w (worldAfter d)
+  pub does-grew : {e : Env} {vs : List ℕ} {Y : List ℕ → Type 0} {w : World} {d : Done} → ((bs : List ℕ) → Y bs → W bs) → e .lim ≡ lim → e .input ≡ input → Does e vs Y w d → Grew w (worldAfter d)
   does-grew f l i (writes bs n h d) = let r = does-grew f l i d in record { items = item bs (f bs n) h (r .items); lines = r .lines }
   does-grew f l i (takes g h d) = let r = does-grew f l i d in record { items = r .items; lines = line g (rw (l, i) at h) (r .lines) }
   does-grew c l i (refuses h) = nothing-new

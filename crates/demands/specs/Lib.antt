@@ -9,3 +9,4 @@ pub mod Listing
 pub mod Sound
 pub mod Starts
 pub mod Steps
+pub mod Stepping
