@@ -33,4 +33,5 @@ pub mod Within
 pub mod Written
 pub mod Printing
 pub mod ItemsIn
+pub mod Stepping
 pub mod Left
