@@ -34,4 +34,5 @@ pub mod Written
 pub mod Printing
 pub mod ItemsIn
 pub mod Stepping
+pub mod Writing
 pub mod Left

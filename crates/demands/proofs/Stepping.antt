@@ -91,10 +91,10 @@ module _ (lim : ℕ) (e : Env) (short : lim ≤ 251) (good : isGood lim (e .page
       (λ k q w a m t h g i s f. its-runs q a m t w s h g k f i) k q w
 
 -- Of the calls: where a run begins, one may stand, and the record fits
-record Begun (x : Lent) (q : ℕ) (w : World) : Type 0 where
-  good : isGood limit (x .page) ≡ true
-  stands : Stands (x .page) q
-  fit : Fit (placesOf (x .page)) (w .session)
+pub record Begun (x : Lent) (q : ℕ) (w : World) : Type 0 where
+  pub good : isGood limit (x .page) ≡ true
+  pub stands : Stands (x .page) q
+  pub fit : Fit (placesOf (x .page)) (w .session)
 
 module _ (x : Lent) (sized : Sized (x .session)) where
   sound-at : firstRefusal limit x ≡ 0 → Sound limit (x .page) (x .session)
@@ -103,7 +103,7 @@ module _ (x : Lent) (sized : Sized (x .session)) where
   begun-fits : firstRefusal limit x ≡ 0 → (n : ℕ) → Fit (placesOf (x .page)) (begun x n .session)
   begun-fits z n = fit-paused (sound-fit (sound-at z)) nowhere refl
 
-  line-begun : (g : Gathered) → Typing limit x g → {q : ℕ} {w : World} → Starts limit x g q w → Begun x q w
+  pub line-begun : (g : Gathered) → Typing limit x g → {q : ℕ} {w : World} → Starts limit x g q w → Begun x q w
   line-begun g h (byRUN r) =
       record {
         good = sound-at (h .sound) .good;
@@ -119,10 +119,10 @@ module _ (x : Lent) (sized : Sized (x .session)) where
       by : Goes (x .page) (done (go q) w) → Begun x q w
       by (toPlace c i) = record { good = good; stands = c; fit = i }
 
-  typed-begun : {q : ℕ} {w : World} → StartsTyped limit x q w → Begun x q w
+  pub typed-begun : {q : ℕ} {w : World} → StartsTyped limit x q w → Begun x q w
   typed-begun (typed g h b) = line-begun g h b
 
-  paused-begun : {q : ℕ} {w : World} → StartsPaused limit x q w → Begun x q w
+  pub paused-begun : {q : ℕ} {w : World} → StartsPaused limit x q w → Begun x q w
   paused-begun (paused {q = q} z h) =
       let s = sound-at z in
       record { good = s .good; stands = paused-stands (x .page) (x .session) (sound-fit s) q h; fit = begun-fits z 0 }

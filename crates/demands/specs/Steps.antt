@@ -5,7 +5,6 @@ use mathlib.Core.List.{List}
 use mathlib.Core.Option.{none, some}
 use lib.ListN.{length}
 use Rattle.nibl.specs.Tree.{Member, Typed}
-use Rattle.nibl.specs.Readings.{LineReading}
 use Rattle.nibl.specs.Typing.{Gathered}
 use Rattle.nibl.specs.Read.{found, member}
 use Rattle.nibl.specs.Page.{lineOf}
@@ -13,7 +12,7 @@ use Rattle.nibl.specs.Meaning.{World, Env, Next, on, skip, go, stop, done, with
 use Rattle.nibl.specs.Calls.{Lent, Outcome, textFrom, lineFrom, envAt, lentEnv, noLine, stops, limit}
 use Rattle.nibl.specs.Record.{nowhere, pausedAt, withPaused, unpaused}
 use Rattle.demands.specs.Leaves.{WholeItems}
-use Rattle.demands.specs.Items.{ItemOf, TypedItem}
+use Rattle.demands.specs.Items.{TypedItem}
 use Rattle.page.specs.Standing.{LiesIn}
 
 -- what a paused call left, as its next statement finds it
@@ -101,12 +100,3 @@ pub record LeftToRun (From : ℕ → World → Type 0) (e : Env) (budget : ℕ) 
   pub start : ℕ
   pub stands : StandsAt From e budget o' o at
   pub follows : textFrom (e .page) at ≡ some start
-
--- an item that a run may write: one of a member that stands in the page
-pub data ProgramItem (e : Env) : List ℕ → Type 0 where
-  ofMember : {bs : List ℕ} (a : ℕ) (m : Member) (s : List ℕ) → member (lineFrom (e .page) a) ≡ found m s → ItemOf (envAt e (placeEnding e a m)) (m .statement) bs → ProgramItem e bs
-
--- an item that the typed line g may write, of its own or by the run that it begins
-pub data LineItem (e : Env) (g : Gathered) : List ℕ → Type 0 where
-  ofTyped : {bs : List ℕ} (y : Typed) → LineReading (g .line .bytes) y → TypedItem e y bs → LineItem e g bs
-  ofProgram : {bs : List ℕ} → ProgramItem e bs → LineItem e g bs
