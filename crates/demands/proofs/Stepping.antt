@@ -40,29 +40,41 @@ module _ (lim : ℕ) (e : Env) (short : lim ≤ 251) (good : isGood lim (e .page
   stands-so : (q : ℕ) → Stands (e .page) q → PauseFits (e .page) (pausedAt q)
   stands-so q s = stands-exact lim (e .page) short page-good (pausedAt q) .0 s
 
-  -- a text that follows is a member's
-  pub follows-next : (q a : ℕ) (w : World) → Stands (e .page) q → textFrom (e .page) q ≡ some a → Runs e 0 q w (ran 14 q w)
-  follows-next q a w s h = by (stood-at lim (e .page) short page-good (stands-so q s)) where
-    by : Stood (e .page) q → Runs e 0 q w (ran 14 q w)
+  -- where nothing follows is the end mark, and a text that follows is a member's
+  pub nothing-past : (q : ℕ) → Stands (e .page) q → textFrom (e .page) q ≡ none → PastTheLast (e .page) q
+  nothing-past q s h = none-past lim (e .page) short page-good (stands-so q s) h
+
+  pub some-next : {P : Type 0} (q a : ℕ) → Stands (e .page) q → textFrom (e .page) q ≡ some a → ((x : Standing) → NextAt (e .page) q x → P) → P
+  some-next {P = P} q a s h f = by (stood-at lim (e .page) short page-good (stands-so q s)) where
+    by : Stood (e .page) q → P
     by (past p) = let i = past-none p in let z : _≡_ {A = ℕ} 0 1 = cc in absurd (omega arith)
-    by (next i) = pauses i
+    by (next {x = x} i) = f x i
 
   module _ (q a : ℕ) (m : Member) (t : List ℕ) (w : World) (s : Stands (e .page) q) (h : textFrom (e .page) q ≡ some a) (g : member (lineFrom (e .page) a) ≡ found m t) where
-    abbrev its : Standing
+    abbrev pub its : Standing
     its = record { statement = m .statement; line = lineOf (e .page) (placeEnding e a m); place = placeEnding e a m; cr = crOf e a }
 
     pub its-next : NextAt (e .page) q its
     its-next = found-next lim (e .page) short page-good (stands-so q s) h g refl
 
-    pub end-place : isAmong (placesOf (e .page)) (placeEnding e a m) ≡ true
+    end-place : isAmong (placesOf (e .page)) (placeEnding e a m) ≡ true
     end-place = ready-end (stands-ready lim (e .page) short good q a s h) m t g
 
-    pub cr-place : isAmong (placesOf (e .page)) (crOf e a) ≡ true
+    cr-place : isAmong (placesOf (e .page)) (crOf e a) ≡ true
     cr-place = stands-ready lim (e .page) short good q a s h .cr
 
     -- what it does
-    pub its-goes : Fit (placesOf (e .page)) (w .session) → Goes (e .page) (exec (envAt e (placeEnding e a m)) (m .statement) w)
+    its-goes : Fit (placesOf (e .page)) (w .session) → Goes (e .page) (exec (envAt e (placeEnding e a m)) (m .statement) w)
     its-goes f = member-goes lim e short good (placeEnding e a m) (lineFrom (e .page) a) t m w end-place g f
+
+    -- where it goes on, a run may stand
+    pub goes-stands : Fit (placesOf (e .page)) (w .session) → {how : Next} {u : World} {q' : ℕ} → exec (envAt e (placeEnding e a m)) (m .statement) w ≡ done how u
+        → GoesTo (placeEnding e a m) (crOf e a) how q' → Stands (e .page) q'
+    goes-stands f d to = by (rw d at (its-goes f)) to where
+      by : {how : Next} {u : World} {q' : ℕ} → Goes (e .page) (done how u) → GoesTo (placeEnding e a m) (crOf e a) how q' → Stands (e .page) q'
+      by (toNext i) afterIt = end-place
+      by (toRecord i) afterRecord = cr-place
+      by (toPlace c i) jumps = c
 
     its-runs : (k : ℕ) → Fit (placesOf (e .page)) (w .session) → ((q : ℕ) (u : World) → Stands (e .page) q → Fit (placesOf (e .page)) (u .session) → Runs e k q u (runFrom k e q u))
         → Runs e (suc k) q w (stepped (its .line) (afterStep (exec (envAt e (its .place)) (its .statement) w) (its .place) (its .cr) (runFrom k e)))
@@ -85,8 +97,8 @@ module _ (lim : ℕ) (e : Env) (short : lim ≤ 251) (good : isGood lim (e .page
   pub runs-so : (k q : ℕ) (w : World) → Stands (e .page) q → Fit (placesOf (e .page)) (w .session) → Runs e k q w (runFrom k e q w)
   runs-so k q w =
       every-run e (λ k q w r. Stands (e .page) q → Fit (placesOf (e .page)) (w .session) → Runs e k q w r)
-      (λ k q w h s f. over (none-past lim (e .page) short page-good (stands-so q s) h))
-      (λ q w a h s f. follows-next q a w s h)
+      (λ k q w h s f. over (nothing-past q s h))
+      (λ q w a h s f. some-next q a s h (λ x i. pauses i))
       (λ k q w a h g s f. absurd (ready-read (stands-ready lim (e .page) short good q a s h) g))
       (λ k q w a m t h g i s f. its-runs q a m t w s h g k f i) k q w
 
