@@ -1,6 +1,6 @@
 -- What a statement writes: whole items, in the world in which it begins. Assumes nothing.
 use Prim.Native.Nat.{ℕ}
-use mathlib.Core.Path.{_≡_, refl, sym, ap, _∙_}
+use mathlib.Core.Path.{_≡_, refl, sym, subst, _∙_}
 use mathlib.Core.Bool.{Bool, true, false, true≢false}
 use mathlib.Core.List.{List, [], _∷_}
 use lib.Dec.{eqb}
@@ -8,14 +8,15 @@ use borrow.Author.Tests.{eqb-false}
 use Rattle.nibl.specs.Tree.{Expr, var, const, stat, top, byteAt, invert, negate, modulo, two}
 use Rattle.nibl.specs.Tree.{Item, text, stored, value}
 use Rattle.nibl.specs.Tree.{Stmt, letVar, letStat, letByte, letCopy, letText, goto, gosub, until, return, doLoop, remark, end, print, ifThen, for, next, input, inputText}
-use Rattle.nibl.specs.Values.{Result, is, no, Value, not16, sub16, mod16, apply, printed}
-use Rattle.nibl.specs.Meaning.{World, Env, skip, Done, done, withOutput, bind, given, byteOf, stringAt, eval, exec}
+use Rattle.nibl.specs.Values.{is, no, Value, not16, sub16, mod16, apply, printed}
+use Rattle.nibl.specs.Meaning.{World, Env, skip, stop, Done, done, withOutput, bind, byteOf, stringAt, eval, exec}
 use Rattle.demands.specs.Items.{In, first, further, itemBytes, ItemOf, Prints, writes, refused, noRoom, noEnd, noRoomForEnd}
 use Rattle.demands.specs.Items as items
-use Rattle.demands.specs.Leaves.{noItem, item, noneTaken}
-use Rattle.demands.specs.Stepping.{ItemIn, ofPrint, endOfPrint, ofInput, ofInputText, ofIf, StatementWrote}
+use Rattle.demands.specs.Asks.{inputVars}
+use Rattle.demands.specs.Leaves.{noItem, item, noneTaken, Refused}
+use Rattle.demands.specs.ItemsIn.{ItemIn, ofPrint, endOfPrint, ofInput, ofInputText, ofIf, StatementWrote}
 use Rattle.demands.proofs.Effects.{exec-does}
-use Rattle.demands.proofs.Held.{worldAfter, items-as}
+use Rattle.demands.proofs.Held.{worldAfter, items-as, refusing-statement}
 use Rattle.demands.proofs.Printing.{print-works-item-by-item}
 use Rattle.demands.proofs.Written.{Grew, nothing-new, does-grew}
 
@@ -133,3 +134,10 @@ a-statement-writes e (next v) w = quiet e w (next v) refl
 a-statement-writes e (input vs) w = wrote-by e w (input vs) (λ bs i. asks e w vs i)
 a-statement-writes e (inputText a) w =
     by-value (eval e w a) (λ p h. wrote-by e w (inputText a) (λ bs i. asks-text e w a p h i)) (λ n h. rw (h, exec) (nothing e w (inputText a)))
+
+-- so a refusing statement leaves whole items of its world
+pub a-refusing-statement : (e : Env) (q : Stmt) (w u : World) (n : ℕ) → exec e q w ≡ done (stop n) u → (n ≡ 0 → ⊥) → Refused e (inputVars q) (ItemIn e w q) w u
+a-refusing-statement e q w u n h z =
+    let r = refusing-statement e q w u n h z in
+    let s : StatementWrote e q w u = subst (λ d. StatementWrote e q w (worldAfter d)) h (a-statement-writes e q w) in
+    record { given = r .given; rest = r .rest; memory = r .memory; items = s .items; lines = s .lines }

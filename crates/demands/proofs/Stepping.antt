@@ -1,17 +1,17 @@
 -- What runs is the reading: every step of a run on a good page with a fitting record is the member that the grammar has next. Assumes nothing.
 use Prim.Native.Nat.{ℕ, suc, _≤_}
-use mathlib.Core.Path.{_≡_, refl, ap, subst}
+use mathlib.Core.Path.{_≡_, refl, sym, ap, subst, _∙_}
 use mathlib.Core.Bool.{true}
 use mathlib.Core.List.{List}
 use mathlib.Core.Option.{none, some}
 use native.Mathlib.Omega.{arith}
 use Rattle.nibl.specs.Tree.{Member}
-use Rattle.nibl.specs.Read.{found, member}
+use Rattle.nibl.specs.Read.{Found, found, member}
 use Rattle.nibl.specs.Page.{isAmong, isGood, placesOf, lineOf}
 use Rattle.nibl.specs.Record.{nowhere, pausedAt}
 use Rattle.nibl.specs.Typing.{Gathered}
 use Rattle.nibl.specs.Meaning.{World, Env, Next, on, skip, go, stop, Done, done, exec}
-use Rattle.nibl.specs.Calls.{Lent, Outcome, Ran, ran, stepped, textFrom, lineFrom, envAt, afterStep, runFrom, firstRefusal, begun, lentEnv, takeLine, continueRun, limit}
+use Rattle.nibl.specs.Calls.{Lent, Outcome, Ran, stepped, step, textFrom, lineFrom, envAt, afterStep, runFrom, firstRefusal, begun, lentEnv, takeLine, continueRun, limit}
 use Rattle.page.specs.Standing.{Stands}
 use Rattle.page.proofs.Standing.{ready-read, ready-end, stands-ready}
 use Rattle.record.specs.Fit.{Fit, Goes, toNext, toRecord, toPlace, toEnd}
@@ -23,10 +23,11 @@ use Rattle.demands.specs.Starts.{Starts, byRUN, byStatement, StartsTyped
 use Rattle.demands.specs.Good.{GoodPage, PauseFits}
 use Rattle.demands.specs.Reading.{Standing, NextAt, PastTheLast}
 use Rattle.demands.specs.Steps.{placeEnding, crOf, GoesTo, afterIt, afterRecord, jumps}
-use Rattle.demands.specs.Stepping.{StatementWrote, Step, Runs, over, pauses, halts, goesOn, LeavesRun}
+use Rattle.demands.specs.ItemsIn.{StatementWrote}
+use Rattle.demands.specs.Stepping.{Step, Runs, over, pauses, halts, goesOn, LeavesRun}
 use Rattle.demands.proofs.Good.{good-exact, stands-exact}
-use Rattle.demands.proofs.Reading.{Stood, past, next, past-none, next-finds, stood-at, found-next, none-past}
-use Rattle.demands.proofs.Runs.{every-run}
+use Rattle.demands.proofs.Reading.{Stood, past, next, past-none, next-finds, next-line, stood-at, found-next, none-past}
+use Rattle.demands.proofs.Runs.{run-none, run-zero, run-suc, every-run}
 use Rattle.demands.proofs.Running.{statement-left}
 use Rattle.demands.proofs.Sound.{unrefused}
 use Rattle.demands.proofs.Beginning.{a-run-begins, a-paused-run-goes-on}
@@ -101,6 +102,34 @@ module _ (lim : ℕ) (e : Env) (short : lim ≤ 251) (good : isGood lim (e .page
       (λ q w a h s f. some-next q a s h (λ x i. pauses i))
       (λ k q w a h g s f. absurd (ready-read (stands-ready lim (e .page) short good q a s h) g))
       (λ k q w a m t h g i s f. its-runs q a m t w s h g k f i) k q w
+
+  -- and there is one such run
+  next-step : {q : ℕ} {x : Standing} (k : ℕ) (w : World) → NextAt (e .page) q x
+      → runFrom (suc k) e q w ≡ stepped (x .line) (afterStep (exec (envAt e (x .place)) (x .statement) w) (x .place) (x .cr) (runFrom k e))
+  next-step {q = q} {x = x} k w i =
+      let f = next-finds i in
+      let line : x .line ≡ lineOf (e .page) (placeEnding e (f .start) (f .last)) = next-line lim (e .page) short page-good i ∙ ap (lineOf (e .page)) (f .place) in
+      run-suc k e q w (f .start) (f .follows) ∙ ap (λ (c : Found Member). step e (f .start) w c (runFrom k e)) (f .stands)
+      ∙ sym (λ j. stepped (line j) (afterStep (exec (envAt e (f .place j)) (f .statement j) w) (f .place j) (f .cr j) (runFrom k e)))
+
+  goes-to : {p cr q' : ℕ} {how : Next} (u : World) (k : ℕ) → GoesTo p cr how q' → afterStep (done how u) p cr (runFrom k e) ≡ runFrom k e q' u
+  goes-to u k afterIt = refl
+  goes-to u k afterRecord = refl
+  goes-to u k jumps = refl
+
+  pub runs-exact : {k q : ℕ} {w : World} {r : Ran} → Runs e k q w r → runFrom k e q w ≡ r
+  runs-exact {k = k} {q = q} {w = w} (over p) = run-none k e q w (past-none p)
+  runs-exact {q = q} {w = w} (pauses i) = let f = next-finds i in run-zero e q w (f .start) (f .follows)
+  runs-exact {w = w} (halts {k = k} {x = x} s) =
+      next-step k w (s .next) ∙ ap (λ (d : Done). stepped (x .line) (afterStep d (x .place) (x .cr) (runFrom k e))) (s .does)
+  runs-exact {w = w} (goesOn {k = k} {u = u} {x = x} s t more) =
+      next-step k w (s .next) ∙ ap (λ (d : Done). stepped (x .line) (afterStep d (x .place) (x .cr) (runFrom k e))) (s .does)
+      ∙ ap (stepped (x .line)) (goes-to u k t ∙ runs-exact more)
+
+-- One outcome: two runs from one position in one world within one budget are the same
+pub one-run : {e : Env} {k q : ℕ} {w : World} {r r' : Ran} → GoodPage limit (e .page) → Runs e k q w r → Runs e k q w r' → r ≡ r'
+one-run {e = e} g a b =
+    let good = good-exact limit (e .page) (omega arith) .1 g in sym (runs-exact limit e (omega arith) good a) ∙ runs-exact limit e (omega arith) good b
 
 -- Of the calls: where a run begins, one may stand, and the record fits
 pub record Begun (x : Lent) (q : ℕ) (w : World) : Type 0 where

@@ -22,7 +22,7 @@ use Rattle.nibl.specs.Readings.{LineReading}
 use Rattle.nibl.proofs.Whole.{typed-complete}
 use Rattle.demands.specs.Lent.{budgeted, Typing, OneOf}
 use Rattle.demands.specs.Asks.{inputVars, GivenIn, stay}
-use Rattle.demands.specs.Items.{ItemOf, TypedItem, ofList, ofStatement}
+use Rattle.demands.specs.ItemsIn.{ItemIn, OwnItem, ofList, ofStatement}
 use Rattle.demands.specs.Leaves.{noItem, noneTaken, Refused}
 use Rattle.page.specs.Standing.{Stands}
 use Rattle.record.specs.Sound.{Sized, Sound}
@@ -35,7 +35,8 @@ use Rattle.demands.proofs.Retyping.{edited-fits, edited-full, line-read
 use Rattle.demands.proofs.Refusing.{needs-asks}
 use Rattle.demands.proofs.Fixed.{unsaid, lines-low, run-named}
 use Rattle.demands.proofs.Five.{no-grammar-refusal-while-running, exactly-5}
-use Rattle.demands.proofs.Held.{worldAfter, run-steady, refusing-statement, refusing-list, refused-as}
+use Rattle.demands.proofs.Held.{worldAfter, run-steady, refusing-list, refused-as}
+use Rattle.demands.proofs.ItemsIn.{a-refusing-statement}
 use Rattle.demands.proofs.Immediate.{exec-keeps, list-keeps}
 use Rattle.demands.proofs.LastStep.{LastStep, RunEnds, last-step, unpaused-same}
 use Rattle.demands.proofs.LastStep as lastStep
@@ -128,7 +129,7 @@ module _ (e : Env) (k q : ℕ) (w : World) (sound : Sound limit (e .page) (w .se
 data Kind (e : Env) (w : World) (y : Typed) : Type 0 where
   runs : (q : ℕ) (u : World) → ((k : ℕ) → obey k e w y ≡ runOutcome (runFrom k e q u) (e .page)) → Kind e w y
   settles : ((k : ℕ) → obey k e w y .answer .stop ≡ 0) → ((k : ℕ) → obey k e w y .answer .steps ≡ 0) → Kind e w y
-  refuses : (n : ℕ) (u : World) → ((k : ℕ) → obey k e w y ≡ stops n u (e .page)) → Refused e [] (TypedItem e y) w u → u .inpos ≡ w .inpos → Kind e w y
+  refuses : (n : ℕ) (u : World) → ((k : ℕ) → obey k e w y ≡ stops n u (e .page)) → Refused e [] (OwnItem e w y) w u → u .inpos ≡ w .inpos → Kind e w y
 
 nothing-done : {W : List ℕ → Type 0} (e : Env) (w : World) → Refused e [] W w w
 nothing-done e w =
@@ -142,7 +143,7 @@ nothing-done e w =
 
 module _ (e : Env) (w : World) (y : Typed) where
   immediate-kind : (d : Done) → ((k : ℕ) → obey k e w y ≡ afterImmediate k e d) → worldAfter d .inpos ≡ w .inpos
-      → ((n : ℕ) (u : World) → d ≡ done (stop n) u → (n ≡ 0 → ⊥) → Refused e [] (TypedItem e y) w u) → Kind e w y
+      → ((n : ℕ) (u : World) → d ≡ done (stop n) u → (n ≡ 0 → ⊥) → Refused e [] (OwnItem e w y) w u) → Kind e w y
   immediate-kind (done on u) f i g = settles (λ k. rw (f k)) (λ k. rw (f k))
   immediate-kind (done skip u) f i g = settles (λ k. rw (f k)) (λ k. rw (f k))
   immediate-kind (done (go q) u) f i g = runs q u f
@@ -170,7 +171,7 @@ kind e w (store n t ms) = edit-kind e w (store n t ms) (with (record { line = n;
 kind e w (immediate q) =
     by-cases (needsProgram q)
     (λ h. refuses 3 w (λ k. rw (h, obey)) (nothing-done e w) refl)
-    (λ h. immediate-kind e w (immediate q) (exec e q w) (λ k. rw (h, obey)) (exec-keeps e q w h .same) (λ m u f z. refused-as (λ bs i. ofStatement i) (rw (needs-asks q h .1) at (refusing-statement e q w u m f z))))
+    (λ h. immediate-kind e w (immediate q) (exec e q w) (λ k. rw (h, obey)) (exec-keeps e q w h .same) (λ m u f z. refused-as (λ bs i. ofStatement i) (rw (needs-asks q h .1) at (a-refusing-statement e q w u m f z))))
 
 some-steps : {n : ℕ} → n ≡ 0 → 1 ≤ n → ⊥
 some-steps h n = omega arith
@@ -224,9 +225,9 @@ module _ (x : Lent) where
 
 -- and if it refused, it left all but INPUT's given variables as the call with one step less left it
 pub refused-last : {e : Env} {k : ℕ} {o' o : Outcome} (m : OneMore e k o' o) → (o .answer .stop ≡ 0 → ⊥) → (o .answer .stop ≡ 14 → ⊥)
-    → Refused (envAt e (m .last .place)) (inputVars (m .last .statement)) (ItemOf (envAt e (m .last .place)) (m .last .statement)) (worldLeft o') (m .after)
+    → Refused (envAt e (m .last .place)) (inputVars (m .last .statement)) (ItemIn (envAt e (m .last .place)) (worldLeft o') (m .last .statement)) (worldLeft o') (m .after)
 refused-last {e = e} {o' = o'} {o = o} m a b =
-    refusing-statement (envAt e (m .last .place)) (m .last .statement) (worldLeft o') (m .after) (o .answer .stop)
+    a-refusing-statement (envAt e (m .last .place)) (m .last .statement) (worldLeft o') (m .after) (o .answer .stop)
     (m .runs ∙ ap (λ (n : Next). done n (m .after)) (m .stops a b)) a
 
 -- A typed line's own refusal

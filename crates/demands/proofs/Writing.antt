@@ -20,7 +20,8 @@ use Rattle.record.specs.Sound.{Sized}
 use Rattle.demands.specs.Lent.{Typing}
 use Rattle.demands.specs.Leaves.{noItem, noneTaken, WroteItems, WroteFrom}
 use Rattle.demands.specs.Starts.{Starts, byRUN, byStatement, StartsPaused, paused}
-use Rattle.demands.specs.Stepping.{Step, Runs, over, pauses, halts, goesOn, Comes, begins, steps, ProgramItem, ofStep, ofList, ofStatement, LineItem, ofTyped, ofProgram, PausedItem, ofPaused}
+use Rattle.demands.specs.ItemsIn.{ofList, ofStatement}
+use Rattle.demands.specs.Stepping.{Step, Runs, over, pauses, halts, goesOn, Comes, begins, steps, ProgramItem, ofStep, LineItem, ofTyped, ofProgram, PausedItem, ofPaused}
 use Rattle.demands.proofs.Effects.{list-does}
 use Rattle.demands.proofs.Held.{worldAfter, items-as}
 use Rattle.demands.proofs.Written.{Grew, nothing-new, grew-then, does-grew, Came, ended-came, Parts, obey-came}

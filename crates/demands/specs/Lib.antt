@@ -5,6 +5,7 @@ pub mod Effects
 pub mod Asks
 pub mod Lent
 pub mod Leaves
+pub mod ItemsIn
 pub mod Listing
 pub mod Sound
 pub mod Starts

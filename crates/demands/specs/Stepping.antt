@@ -1,36 +1,16 @@
 -- A run over the grammar, statement by statement: each step is the member that is next, in the world in which the run stands there; and what it writes.
 use Prim.Native.Nat.{ℕ, suc}
 use mathlib.Core.Path.{_≡_}
-use mathlib.Core.Bool.{Bool, false}
-use mathlib.Core.List.{List, [], _∷_}
-use Rattle.nibl.specs.Bytes.{bytes}
-use Rattle.nibl.specs.Tree.{Expr, Item, Stmt, print, ifThen, input, inputText, Typed, list, immediate}
-use Rattle.nibl.specs.Values.{is}
+use mathlib.Core.List.{List}
+use Rattle.nibl.specs.Tree.{Typed}
 use Rattle.nibl.specs.Readings.{LineReading}
 use Rattle.nibl.specs.Typing.{Gathered}
-use Rattle.nibl.specs.Page.{recordsOf}
-use Rattle.nibl.specs.Meaning.{World, Env, Next, stop, done, eval, exec}
+use Rattle.nibl.specs.Meaning.{World, Env, Next, stop, done, exec}
 use Rattle.nibl.specs.Calls.{Lent, Outcome, Ran, ran, stepped, envAt, begun, runOutcome, lentEnv, limit}
-use Rattle.demands.specs.Items.{In, itemBytes, ListItem}
-use Rattle.demands.specs.Leaves.{WroteItems}
+use Rattle.demands.specs.ItemsIn.{ItemIn, StatementWrote, OwnItem}
 use Rattle.demands.specs.Reading.{Standing, NextAt, PastTheLast}
 use Rattle.demands.specs.Starts.{Starts, StartsPaused}
 use Rattle.demands.specs.Steps.{GoesTo}
-
--- an item that a statement writes which begins in the world w. No expression reads the output, so the items of one PRINT are all those of one world
-pub data ItemIn (e : Env) (w : World) : Stmt → List ℕ → Type 0 where
-  ofPrint : {items : List Item} {b : Bool} {bs : List ℕ} (i : Item) → In i items → itemBytes e w i ≡ is bs → ItemIn e w (print items b) bs
-  -- "unless ';'"
-  endOfPrint : {items : List Item} {b : Bool} → b ≡ false → ItemIn e w (print items b) (13 ∷ 10 ∷ [])
-  -- "INPUT writes '?'", after its address value
-  ofInput : {vs : List ℕ} → ItemIn e w (input vs) (bytes "?")
-  ofInputText : {a : Expr} (p : ℕ) → eval e w a ≡ is p → ItemIn e w (inputText a) (bytes "?")
-  -- behind an IF that is not false
-  ofIf : {a : Expr} {q : Stmt} {bs : List ℕ} (v : ℕ) → eval e w a ≡ is v → (v ≡ 0 → ⊥) → ItemIn e w q bs → ItemIn e w (ifThen a q) bs
-
--- whole items of a statement that begins in w, and whole input lines, up to the world u
-abbrev pub StatementWrote : Env → Stmt → World → World → Type 0
-StatementWrote e s w u = WroteItems (ItemIn e w s) (e .lim) (e .input) (w .output) (w .outpos) (w .inpos) (u .output) (u .outpos) (u .inpos)
 
 -- one step: the member that is next at q runs in the world w, ends so, and leaves the world u
 pub record Step (e : Env) (q : ℕ) (w : World) (x : Standing) (how : Next) (u : World) : Type 0 where
@@ -65,11 +45,6 @@ pub data Comes (e : Env) (q : ℕ) (w : World) : ℕ → World → Type 0 where
 pub data ProgramItem (e : Env) (q : ℕ) (w : World) : List ℕ → Type 0 where
   ofStep : {bs : List ℕ} {q' : ℕ} {w' : World} {x : Standing} → Comes e q w q' w' → NextAt (e .page) q' x → ItemIn (envAt e (x .place)) w' (x .statement) bs
       → ProgramItem e q w bs
-
--- an item that a typed line writes of its own, in the world that it begins in
-pub data OwnItem (e : Env) (w : World) : Typed → List ℕ → Type 0 where
-  ofList : {n : ℕ} {bs : List ℕ} → ListItem n (recordsOf (e .page)) bs → OwnItem e w (list n) bs
-  ofStatement : {s : Stmt} {bs : List ℕ} → ItemIn e w s bs → OwnItem e w (immediate s) bs
 
 -- an item of the typed line g, its own or of the run that it begins
 pub data LineItem (x : Lent) (g : Gathered) : List ℕ → Type 0 where

@@ -6,10 +6,10 @@ use lib.ListN.{length}
 use Rattle.nibl.specs.Tree.{Member, Typed}
 use Rattle.nibl.specs.Typing.{Gathered}
 use Rattle.nibl.specs.Meaning.{World, Env, Next, on, skip, go, stop, done, withSession, exec}
-use Rattle.nibl.specs.Calls.{Lent, Outcome, lineFrom, envAt, lentEnv, stops, limit}
+use Rattle.nibl.specs.Calls.{Lent, Outcome, lineFrom, envAt, begun as worldBegun, lentEnv, stops, limit}
 use Rattle.nibl.specs.Record.{nowhere, pausedAt, withPaused, unpaused}
 use Rattle.demands.specs.Leaves.{WholeItems}
-use Rattle.demands.specs.Items.{TypedItem}
+use Rattle.demands.specs.ItemsIn.{OwnItem}
 use Rattle.demands.specs.Reading.{Standing, NextAt, PastTheLast}
 
 -- what a paused call left, as its next statement finds it
@@ -76,7 +76,7 @@ pub record RefusedLine (x : Lent) (g : Gathered) (y : Typed) (o : Outcome) : Typ
   pub session : o .session ≡ unpaused (x .session)
   pub page : o .page ≡ x .page
   pub memory : o .memory ≡ x .memory
-  pub items : WholeItems (TypedItem (lentEnv limit x) y) (x .output) (x .call .outpos) (o .output) (o .answer .outpos)
+  pub items : WholeItems (OwnItem (lentEnv limit x) (worldBegun x (g .taken)) y) (x .output) (x .call .outpos) (o .output) (o .answer .outpos)
   pub inpos : o .answer .inpos ≡ x .call .inpos + g .taken
   pub steps : o .answer .steps ≡ 0
 
