@@ -1,4 +1,4 @@
--- The first refusals and 5 over the grammar: no sentence here names a function that reads. Assumes nothing.
+-- The first refusals, 5 and "sound stays sound" over the grammar: no sentence here names a function that reads, but for the exactness of a test. Assumes nothing.
 use Prim.Native.Nat.{ℕ, _≤_}
 use mathlib.Core.Path.{_≡_, ap}
 use mathlib.Core.Bool.{Bool, true, false}
@@ -11,7 +11,7 @@ use Rattle.nibl.specs.Readings.{LineReading}
 use Rattle.nibl.specs.Typing.{Gathered}
 use Rattle.nibl.specs.Meaning.{World, Env}
 use Rattle.nibl.specs.Page.{isGood, fits}
-use Rattle.nibl.specs.Calls.{Lent, runFrom, firstRefusal, takeLine, limit}
+use Rattle.nibl.specs.Calls.{Lent, Outcome, runFrom, firstRefusal, takeLine, continueRun, limit}
 use Rattle.nibl.specs.Record.{pausedAt}
 use Rattle.nibl.specs.declared.Session.{Session}
 use Rattle.page.proofs.Walk.{by-cases}
@@ -22,6 +22,7 @@ use Rattle.demands.specs.Good.{GoodPage, PauseFits, Fits, Unrefused}
 use Rattle.demands.proofs.Accepted.{Accepted, accepted-of, accepted-is}
 use Rattle.demands.proofs.Forced.{a-bad-page-is-18, a-record-that-does-not-fit-is-19}
 use Rattle.demands.proofs.Fixed.{unread-takes-the-line}
+use Rattle.demands.proofs.Sound.{sound-stays-sound}
 use Rattle.demands.proofs.Five.{no-grammar-refusal-while-running, exactly-5}
 use Rattle.demands.proofs.Good.{good-exact, stands-exact, fits-exact}
 
@@ -79,3 +80,15 @@ pub no-grammar-refusal-by-grammar : (e : Env) (k q : ℕ) (w : World) → GoodPa
     → runFrom k e q w .stop ≡ 5 → ⊥
 no-grammar-refusal-by-grammar e k q w g f z p =
     no-grammar-refusal-while-running limit e (omega arith) k q w (sound-exact (e .page) (w .session) z .1 (g, f)) (stands-exact limit (e .page) (omega arith) g (pausedAt q) .1 p)
+
+-- "a good page with a fitting record leads to a good page with a fitting record"
+abbrev pub LeftSound : Outcome → Type 0
+LeftSound o = GoodPage limit (o .page) × Fits (o .page) (o .session)
+
+pub good-stays-good : (x : Lent) → Sized (x .session) → GoodPage limit (x .page) → Fits (x .page) (x .session) → LeftSound (takeLine x) × LeftSound (continueRun x)
+good-stays-good x z g f =
+    let s = sound-stays-sound x (sound-exact (x .page) (x .session) z .1 (g, f)) in
+    (
+      sound-exact (takeLine x .page) (takeLine x .session) (s .0 .sized) .0 (s .0),
+      sound-exact (continueRun x .page) (continueRun x .session) (s .1 .sized) .0 (s .1),
+    )
