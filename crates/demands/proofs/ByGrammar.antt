@@ -11,14 +11,14 @@ use Rattle.nibl.specs.Readings.{LineReading}
 use Rattle.nibl.specs.Typing.{Gathered}
 use Rattle.nibl.specs.Meaning.{World, Env}
 use Rattle.nibl.specs.Page.{isGood, fits}
-use Rattle.nibl.specs.Calls.{Lent, Outcome, runFrom, firstRefusal, takeLine, continueRun, limit}
+use Rattle.nibl.specs.Calls.{Lent, runFrom, firstRefusal, takeLine, continueRun, limit}
 use Rattle.nibl.specs.Record.{pausedAt}
 use Rattle.nibl.specs.declared.Session.{Session}
 use Rattle.page.proofs.Walk.{by-cases}
 use Rattle.record.specs.Sound.{Sized, Sound}
 use Rattle.demands.specs.Lent.{InRange, gatheredLine}
 use Rattle.demands.specs.Leaves.{BothUnchanged}
-use Rattle.demands.specs.Good.{GoodPage, PauseFits, Fits, Unrefused}
+use Rattle.demands.specs.Good.{GoodPage, PauseFits, Fits, Unrefused, LeftSound}
 use Rattle.demands.proofs.Accepted.{Accepted, accepted-of, accepted-is}
 use Rattle.demands.proofs.Forced.{a-bad-page-is-18, a-record-that-does-not-fit-is-19}
 use Rattle.demands.proofs.Fixed.{unread-takes-the-line}
@@ -82,10 +82,7 @@ no-grammar-refusal-by-grammar e k q w g f z p =
     no-grammar-refusal-while-running limit e (omega arith) k q w (sound-exact (e .page) (w .session) z .1 (g, f)) (stands-exact limit (e .page) (omega arith) g (pausedAt q) .1 p)
 
 -- "a good page with a fitting record leads to a good page with a fitting record"
-abbrev pub LeftSound : Outcome → Type 0
-LeftSound o = GoodPage limit (o .page) × Fits (o .page) (o .session)
-
-pub good-stays-good : (x : Lent) → Sized (x .session) → GoodPage limit (x .page) → Fits (x .page) (x .session) → LeftSound (takeLine x) × LeftSound (continueRun x)
+pub good-stays-good : (x : Lent) → Sized (x .session) → GoodPage limit (x .page) → Fits (x .page) (x .session) → LeftSound limit (takeLine x) × LeftSound limit (continueRun x)
 good-stays-good x z g f =
     let s = sound-stays-sound x (sound-exact (x .page) (x .session) z .1 (g, f)) in
     (

@@ -10,7 +10,7 @@ use Rattle.nibl.specs.Tree.{Stmt, Member}
 use Rattle.nibl.specs.Readings.{ListReading}
 use Rattle.nibl.specs.Values.{digits}
 use Rattle.nibl.specs.Record.{mark, nowhere, pausedAt}
-use Rattle.nibl.specs.Calls.{Lent}
+use Rattle.nibl.specs.Calls.{Lent, Outcome}
 use Rattle.nibl.specs.declared.Place.{Place}
 use Rattle.nibl.specs.declared.ForEntry.{ForEntry}
 use Rattle.nibl.specs.declared.Session.{Session}
@@ -87,3 +87,7 @@ pub record Unrefused (lim : ℕ) (x : Lent) : Type 0 where
   pub range : InRange x
   pub good : GoodPage lim (x .page)
   pub fits : Fits (x .page) (x .session)
+
+-- "a good page with a fitting record"
+abbrev pub LeftSound : ℕ → Outcome → Type 0
+LeftSound lim o = GoodPage lim (o .page) × Fits (o .page) (o .session)
