@@ -99,6 +99,7 @@ module _ (e : Env) (k q : ℕ) (w : World) (sound : Sound limit (e .page) (w .se
         runs = rw c (ap (exec (envAt e (placeEnding e (t .start) (t .last))) (t .last .statement)) same ∙ t .goes);
         stops = λ a b. t .stops (λ i. of-unsaid (r .stop) i a five b);
         line = λ a b. a-last-steps-line limit e (omega arith) k q w sound stands a b t .line;
+        named = lines-low limit (e .page) (omega arith) (sound .good) (placeEnding e (t .start) (t .last));
         clear = clear;
         ends =
             run-ends

@@ -1,12 +1,12 @@
 -- One statement more: what a call of one or more steps leaves, by the same call with one step less, which pauses before the last statement.
-use Prim.Native.Nat.{ℕ, suc, _+_, _-_}
+use Prim.Native.Nat.{ℕ, suc, _+_, _-_, _<_}
 use mathlib.Core.Path.{_≡_}
 use mathlib.Core.List.{List}
 use lib.ListN.{length}
 use Rattle.nibl.specs.Tree.{Member, Typed}
 use Rattle.nibl.specs.Typing.{Gathered}
 use Rattle.nibl.specs.Meaning.{World, Env, Next, on, skip, go, stop, done, withSession, exec}
-use Rattle.nibl.specs.Calls.{Lent, Outcome, lineFrom, envAt, begun as worldBegun, lentEnv, stops, limit}
+use Rattle.nibl.specs.Calls.{Lent, Outcome, lineFrom, envAt, begun as worldBegun, lentEnv, noLine, stops, limit}
 use Rattle.nibl.specs.Record.{nowhere, pausedAt, withPaused, unpaused}
 use Rattle.demands.specs.Leaves.{WholeItems}
 use Rattle.demands.specs.ItemsIn.{OwnItem}
@@ -52,8 +52,9 @@ pub record OneMore (e : Env) (budget : ℕ) (o' o : Outcome) : Type 0 where
   pub after : World
   pub runs : exec (envAt e (last .place)) (last .statement) (worldLeft o') ≡ done how after
   pub stops : (o .answer .stop ≡ 0 → ⊥) → (o .answer .stop ≡ 14 → ⊥) → how ≡ stop (o .answer .stop)
-  -- the answer's line is that of its record
+  -- the answer's line is that of its record, and not the number of none
   pub line : (o .answer .stop ≡ 0 → ⊥) → (o .answer .stop ≡ 14 → ⊥) → o .answer .line ≡ last .line
+  pub named : last .line < noLine
   -- how the call ended
   pub clear : after .session .paused ≡ nowhere
   pub ends : Ends (e .page) (last .place) (last .cr) how after budget o
