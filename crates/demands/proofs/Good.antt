@@ -1,22 +1,20 @@
 -- A good page, its places and a fitting record by the grammar are what the tests of the calls look for. Assumes nothing.
 use Prim.Native.Nat.{ℕ, zero, suc, _+_, _-_, _*_, _≤_, _<_}
 use mathlib.Core.Path.{_≡_, refl, sym, ap, _∙_}
-use mathlib.Core.Bool.{Bool, true, false, _&&_, _||_, false≢true}
+use mathlib.Core.Bool.{Bool, true, false, false≢true}
 use mathlib.Core.List.{List, [], _∷_, _++_}
 use mathlib.Core.Logic.{_⊎_, inl, inr, _↔_}
-use mathlib.Core.Option.{some}
 use native.Mathlib.Omega.{arith}
 use lib.ListN.{length, getD, take, drop, length-append, length-drop}
-use lib.Seq.{take-at, drop-at, getD-at, drop-drop}
-use lib.Dec.{ltb, leb, eqb}
+use lib.Seq.{take-at, getD-at, drop-drop}
+use lib.Dec.{ltb, eqb}
 use borrow.Author.Tests.{eqb-true, eq-eqb, ne-eqb, le-leb, le-ltb, lt-ltb, ltb-true}
-use Rattle.nibl.specs.Bytes.{all, isDigit, starts}
+use Rattle.nibl.specs.Bytes.{all}
 use Rattle.nibl.specs.Tree.{Member}
 use Rattle.nibl.specs.Grammar.{Members, lastMember, moreMembers}
-use Rattle.nibl.specs.Readings.{ListReading}
 use Rattle.nibl.specs.Read.{reading}
 use Rattle.nibl.specs.Values.{digits}
-use Rattle.nibl.specs.Page.{Stored, isEnd, lineAt, lengthAt, textAt, isStorable, isRecord, goodN, isGood, recordsOf, size, lineIn, lineOf, endsFrom, endsOf, placesIn, placesOf, isAmong, fitsPaused, fitsWith, fits}
+use Rattle.nibl.specs.Page.{Stored, isEnd, lineAt, lengthAt, textAt, isStorable, isRecord, goodN, isGood, recordsOf, size, lineIn, lineOf, endsFrom, endsOf, placesIn, placesOf, isAmong, fitsPaused, fits}
 use Rattle.nibl.specs.Record.{mark}
 use Rattle.nibl.specs.declared.Place.{Place}
 use Rattle.nibl.specs.declared.ForEntry.{ForEntry}
@@ -26,9 +24,8 @@ use Rattle.nibl.proofs.Rules.{W}
 use Rattle.nibl.proofs.Statements.{statement-left, left-short}
 use Rattle.nibl.proofs.Lines.{reading-sound}
 use Rattle.nibl.proofs.Whole.{reading-complete}
-use Rattle.nibl.proofs.Exact.{members-unique}
 use Rattle.page.specs.Standing.{Storable}
-use Rattle.page.proofs.Walk.{by-cases, or-right}
+use Rattle.page.proofs.Walk.{or-right}
 use Rattle.page.proofs.Program.{both, end-bytes}
 use Rattle.page.proofs.Stored.{stored-read, stored-text, stored-undigit, stored-short}
 use Rattle.page.proofs.Standing.{among-append}
@@ -36,9 +33,9 @@ use Rattle.page.proofs.Laid.{Whole, Laid, good-laid}
 use Rattle.page.proofs.Laid as laid
 use Rattle.record.specs.Fits.{isSaved, isUnderWay}
 use Rattle.record.specs.Fit.{isPlace}
-use Rattle.record.proofs.Fitted.{FitTests, fits-tests}
+use Rattle.record.proofs.Fitted.{fits-tests}
 use Rattle.demands.specs.Items.{In, first, further}
-use Rattle.demands.specs.Good.{RecordAt, EndMark, Boundary, start, behind, GoodText, GoodFrom, ends, goesOn, GoodPage, placeOf, IsPlace, endsMember, PauseFits, nothingPaused, atStart, afterPlace, Fits}
+use Rattle.demands.specs.Good.{RecordAt, Boundary, start, behind, GoodText, GoodFrom, ends, goesOn, GoodPage, IsPlace, endsMember, PauseFits, nothingPaused, atStart, afterPlace, Fits}
 
 -- From the test to the grammar: the records of a good page, each where it lies
 record-shape : (q : List ℕ) (t rest : List ℕ) → lengthAt q ≡ length t + 4 → drop 3 q ≡ t ++ (13 ∷ rest)

@@ -1,21 +1,20 @@
 -- What runs is the reading: on a good page the member that a run finds at a position is the one that the grammar has next there. Assumes nothing.
 use Prim.Native.Nat.{ℕ, zero, suc, _+_, _-_, _≤_, _<_}
 use mathlib.Core.Path.{_≡_, refl, sym, ap, _∙_}
-use mathlib.Core.Bool.{Bool, true, false, _&&_, false≢true}
+use mathlib.Core.Bool.{Bool, false, _&&_}
 use mathlib.Core.List.{List, [], _∷_, _++_}
-use mathlib.Core.Logic.{_⊎_, inl, inr}
 use mathlib.Core.Option.{none, some}
 use native.Mathlib.Omega.{arith}
-use lib.ListN.{length, getD, drop, length-append, length-drop}
-use lib.Seq.{drop-append-le, drop-drop, drop-length, getD-append-seam, getD-drop}
+use lib.ListN.{length, getD, drop, length-drop}
+use lib.Seq.{drop-append-le, drop-drop, drop-length}
 use lib.Dec.{leb, eqb}
 use borrow.Author.Tests.{le-leb}
-use Rattle.nibl.specs.Bytes.{if_then_else_, notCR, All, none as every-none, each, front}
+use Rattle.nibl.specs.Bytes.{notCR, All, none as every-none, each, front}
 use Rattle.nibl.specs.Tree.{Member}
 use Rattle.nibl.specs.Grammar.{Members, lastMember, moreMembers}
 use Rattle.nibl.specs.Readings.{ListReading}
-use Rattle.nibl.specs.Read.{found, member, reading}
-use Rattle.nibl.specs.Page.{Stored, isEnd, lineOf, recordsOf}
+use Rattle.nibl.specs.Read.{found, member}
+use Rattle.nibl.specs.Page.{Stored, lineOf, recordsOf}
 use Rattle.nibl.specs.Calls.{textFrom, lineFrom}
 use Rattle.nibl.specs.Record.{pausedAt}
 use Rattle.nibl.proofs.Words.{front-run}
@@ -24,7 +23,7 @@ use Rattle.nibl.proofs.Rules.{W}
 use Rattle.nibl.proofs.Statements.{statement-left, left-short}
 use Rattle.nibl.proofs.Lines.{reading-sound}
 use Rattle.nibl.proofs.Whole.{reading-complete}
-use Rattle.nibl.proofs.Ends.{members-text, text-notCR, Followed, After, after as what-follows, Begins, alone, before, reading-begins}
+use Rattle.nibl.proofs.Ends.{members-text, text-notCR, Followed, after as what-follows, Begins, alone, before, reading-begins}
 use Rattle.nibl.proofs.Ends as ends
 use Rattle.page.proofs.Walk.{first-at}
 use Rattle.page.proofs.Program.{end-bytes}
@@ -32,9 +31,9 @@ use Rattle.page.proofs.Stored.{stored-read}
 use Rattle.page.proofs.Laid.{Laid, good-laid}
 use Rattle.page.proofs.Laid as laid
 use Rattle.demands.specs.Items.{In, first, further}
-use Rattle.demands.specs.Good.{RecordAt, EndMark, Boundary, start, behind, GoodPage, placeOf, IsPlace, endsMember, PauseFits, atStart, afterPlace}
+use Rattle.demands.specs.Good.{RecordAt, Boundary, start, behind, GoodPage, placeOf, IsPlace, endsMember, PauseFits, atStart, afterPlace}
 use Rattle.demands.specs.Reading.{Standing, standing, InTurn, here, later, NextAt, firstOf, after, PastTheLast}
-use Rattle.demands.proofs.Good.{whole-record, record-unended, written-end, good-exact, Onward, Here, record-here, boundary-onward}
+use Rattle.demands.proofs.Good.{whole-record, written-end, good-exact, record-here, boundary-onward}
 
 -- A record's text
 all-drop : {p : ℕ → Bool} {s : List ℕ} (n : ℕ) → All p s → All p (drop n s)

@@ -7,24 +7,23 @@ use mathlib.Core.List.{List, []}
 use mathlib.Core.Option.{some}
 use native.Mathlib.Nat.{add-zero}
 use native.Mathlib.Omega.{arith}
-use Rattle.nibl.specs.Tree.{Stmt, Typed, run, list, immediate}
+use Rattle.nibl.specs.Tree.{Typed, run, list, immediate}
 use Rattle.nibl.specs.Read.{typed}
 use Rattle.nibl.specs.Readings.{LineReading}
 use Rattle.nibl.specs.Typing.{Gathered}
 use Rattle.nibl.specs.Page.{recordsOf}
-use Rattle.nibl.specs.Meaning.{World, Env, Done, done, go, exec}
-use Rattle.nibl.specs.Calls.{Lent, Outcome, Ran, runFrom, lentWorld, firstRefusal, begun, lentEnv, needsProgram, obey, takeLine, continueFrom, continueRun, limit}
-use Rattle.nibl.specs.Record.{pausedAt}
+use Rattle.nibl.specs.Meaning.{World, Env}
+use Rattle.nibl.specs.Calls.{Lent, Outcome, Ran, runFrom, lentWorld, begun, lentEnv, takeLine, continueFrom, continueRun, limit}
 use Rattle.nibl.proofs.Lines.{typed-sound}
 use Rattle.record.specs.Sound.{Sized}
 use Rattle.demands.specs.Lent.{Typing}
 use Rattle.demands.specs.Leaves.{noItem, noneTaken, WroteItems, WroteFrom}
-use Rattle.demands.specs.Starts.{Starts, byRUN, byStatement, StartsPaused, paused}
+use Rattle.demands.specs.Starts.{Starts, byRUN, byStatement, paused}
 use Rattle.demands.specs.ItemsIn.{ofList, ofStatement}
-use Rattle.demands.specs.Stepping.{Step, Runs, over, pauses, halts, goesOn, Comes, begins, steps, ProgramItem, ofStep, LineItem, ofTyped, ofProgram, PausedItem, ofPaused}
+use Rattle.demands.specs.Stepping.{Runs, over, pauses, halts, goesOn, Comes, begins, steps, ProgramItem, ofStep, LineItem, ofTyped, ofProgram, PausedItem, ofPaused}
 use Rattle.demands.proofs.Effects.{list-does}
-use Rattle.demands.proofs.Held.{worldAfter, items-as}
-use Rattle.demands.proofs.Written.{Grew, nothing-new, grew-then, does-grew, Came, ended-came, Parts, obey-came}
+use Rattle.demands.proofs.Held.{items-as}
+use Rattle.demands.proofs.Written.{Grew, nothing-new, grew-then, does-grew, ended-came, Parts, obey-came}
 use Rattle.demands.proofs.ItemsIn.{a-statement-writes}
 use Rattle.demands.proofs.Ways.{Takes, noCR, overlong, unread, reads, every-line, Continues, refused′, continues, every-continue}
 use Rattle.demands.proofs.Ways as ways

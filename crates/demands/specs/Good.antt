@@ -2,11 +2,11 @@
 use Prim.Native.Nat.{ℕ, suc, _+_, _-_, _*_, _≤_, _<_}
 use mathlib.Core.Path.{_≡_}
 use mathlib.Core.Bool.{false}
-use mathlib.Core.List.{List, [], _∷_, _++_}
+use mathlib.Core.List.{List, _∷_, _++_}
 use mathlib.Core.Logic.{_⊎_}
 use lib.ListN.{length, take, drop}
 use Rattle.nibl.specs.Bytes.{isDigit, isText, All, starts}
-use Rattle.nibl.specs.Tree.{Stmt, Member}
+use Rattle.nibl.specs.Tree.{Member}
 use Rattle.nibl.specs.Readings.{ListReading}
 use Rattle.nibl.specs.Values.{digits}
 use Rattle.nibl.specs.Record.{mark, nowhere, pausedAt}

@@ -1,6 +1,6 @@
 -- What runs is the reading: the member of a statement list that is next at a position of the page. Nothing here looks for a reading.
-use Prim.Native.Nat.{ℕ, suc, _+_, _-_}
-use mathlib.Core.List.{List, [], _∷_}
+use Prim.Native.Nat.{ℕ, suc, _+_}
+use mathlib.Core.List.{List, _∷_}
 use lib.ListN.{length}
 use Rattle.nibl.specs.Tree.{Stmt, Member}
 use Rattle.nibl.specs.Readings.{ListReading}
