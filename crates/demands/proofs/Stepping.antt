@@ -22,12 +22,12 @@ use Rattle.demands.specs.Lent.{Typing}
 use Rattle.demands.specs.Starts.{Starts, byRUN, byStatement, StartsTyped, typed, StartsPaused, paused, ranFrom}
 use Rattle.demands.specs.Good.{GoodPage, PauseFits}
 use Rattle.demands.specs.Reading.{Standing, NextAt, PastTheLast}
-use Rattle.demands.specs.Steps.{placeEnding, crOf, GoesTo, afterIt, afterRecord, jumps}
+use Rattle.demands.specs.Steps.{GoesTo, afterIt, afterRecord, jumps}
 use Rattle.demands.specs.ItemsIn.{StatementWrote}
 use Rattle.demands.specs.Stepping.{Step, Runs, over, pauses, halts, goesOn, LeavesRun}
 use Rattle.demands.proofs.Good.{good-exact, stands-exact}
 use Rattle.demands.proofs.Reading.{Stood, past, next, past-none, next-finds, next-line, stood-at, found-next, none-past}
-use Rattle.demands.proofs.Runs.{run-none, run-zero, run-suc, every-run}
+use Rattle.demands.proofs.Runs.{placeEnding, crOf, run-none, run-zero, run-suc, every-run}
 use Rattle.demands.proofs.Running.{statement-left}
 use Rattle.demands.proofs.Sound.{unrefused}
 use Rattle.demands.proofs.Beginning.{a-run-begins, a-paused-run-goes-on}

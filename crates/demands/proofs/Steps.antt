@@ -27,7 +27,8 @@ use Rattle.demands.specs.Leaves.{noItem, noneTaken, Refused}
 use Rattle.page.specs.Standing.{Stands}
 use Rattle.record.specs.Sound.{Sized, Sound}
 use Rattle.record.proofs.Fitted.{sound-fit, fit-sound}
-use Rattle.demands.specs.Steps.{placeEnding, worldLeft, GoesTo, Ends, halts, runsOut, pauses, OneMore, RefusedLine}
+use Rattle.demands.proofs.Runs.{placeEnding}
+use Rattle.demands.specs.Steps.{worldLeft, GoesTo, Ends, halts, runsOut, pauses, OneMore, RefusedLine}
 use Rattle.demands.proofs.Budget.{steps-within}
 use Rattle.demands.proofs.Ways.{Takes, refused, noCR, overlong, unread, reads, every-line, Continues, refused′, continues, every-continue}
 use Rattle.demands.proofs.Accepted.{accepted-of, accepted-less, continue-at}

@@ -1,12 +1,11 @@
 -- One statement more: what a call of one or more steps leaves, by the same call with one step less, which pauses before the last statement.
-use Prim.Native.Nat.{ℕ, suc, _+_, _-_, _<_}
+use Prim.Native.Nat.{ℕ, suc, _+_, _<_}
 use mathlib.Core.Path.{_≡_}
 use mathlib.Core.List.{List}
-use lib.ListN.{length}
-use Rattle.nibl.specs.Tree.{Member, Typed}
+use Rattle.nibl.specs.Tree.{Typed}
 use Rattle.nibl.specs.Typing.{Gathered}
 use Rattle.nibl.specs.Meaning.{World, Env, Next, on, skip, go, stop, done, withSession, exec}
-use Rattle.nibl.specs.Calls.{Lent, Outcome, lineFrom, envAt, begun as worldBegun, lentEnv, noLine, stops, limit}
+use Rattle.nibl.specs.Calls.{Lent, Outcome, envAt, begun as worldBegun, lentEnv, noLine, stops, limit}
 use Rattle.nibl.specs.Record.{nowhere, pausedAt, withPaused, unpaused}
 use Rattle.demands.specs.Leaves.{WholeItems}
 use Rattle.demands.specs.ItemsIn.{OwnItem}
@@ -15,13 +14,6 @@ use Rattle.demands.specs.Reading.{Standing, NextAt, PastTheLast}
 -- what a paused call left, as its next statement finds it
 abbrev pub worldLeft : Outcome → World
 worldLeft o = record { session = unpaused (o .session); memory = o .memory; output = o .output; outpos = o .answer .outpos; inpos = o .answer .inpos }
-
--- the place that ends the member m of the text from a on, and the CR behind that text
-abbrev pub placeEnding : Env → ℕ → Member → ℕ
-placeEnding e a m = a + (length (lineFrom (e .page) a) - m .left)
-
-abbrev pub crOf : Env → ℕ → ℕ
-crOf e a = a + length (lineFrom (e .page) a)
 
 -- where a run goes on after a member that ended so: p is its place, cr its record's CR
 pub data GoesTo (p cr : ℕ) : Next → ℕ → Type 0 where
