@@ -27,14 +27,17 @@ use Rattle.letter.proofs.Typed.{no-cr, no-cr-left}
 use Rattle.page.proofs.Walk.{by-cases}
 use Rattle.demands.specs.Lent.{InRange, Typing, OneOf, firstRefusals}
 use Rattle.demands.specs.Leaves.{others}
+use Rattle.demands.specs.Good.{GoodPage, Fits, Unrefused}
 use Rattle.demands.specs.Valued.{NoCR}
 use Rattle.demands.specs.Stopped.{NeedsProgram, aDo, anUntil, aFor, aNext, anInput, anInputString, underIf, NeedsOne, DoesNotFit}
 use Rattle.demands.proofs.Numbers.{runNumbers, Obeys, full, unfit, ends, obey-obeys, run-numbers, immediate-numbers, firstNumbers, first-numbers, paused-numbers}
 use Rattle.demands.proofs.Budget.{does-stops, exec-stops}
 use Rattle.demands.proofs.Effects.{list-does}
 use Rattle.demands.proofs.Ways.{Takes, refused, noCR, overlong, unread, reads, every-line, Continues, refused′, continues, every-continue}
-use Rattle.demands.proofs.Accepted.{in-range-of, in-range-is, accepted-of, accepted-is}
-use Rattle.demands.proofs.Forced.{out-of-range-is-1, a-bad-page-is-18, a-record-that-does-not-fit-is-19, no-cr-is-7}
+use Rattle.demands.proofs.Accepted.{in-range-of, in-range-is, accepted-of}
+use Rattle.demands.proofs.Forced.{out-of-range-is-1, no-cr-is-7}
+use Rattle.demands.proofs.Good.{fits-exact}
+use Rattle.demands.proofs.ByGrammar.{a-good-page, unrefused-exact, no-good-page-is-18, no-fitting-record-is-19}
 use Rattle.demands.proofs.Fixed.{apart, lines-low, obey-silent}
 use Rattle.demands.proofs.Retyping.{line-read, absent-none, none-absent, retyping-replaces, no-room, new-empties, deleting-removes, absent-kept}
 use Rattle.demands.proofs.Settling.{needing-a-program-is-3}
@@ -106,40 +109,50 @@ module _ (x : Lent) where
   )
 
   -- "bad page"
-  pub eighteen-exactly : ((takeLine x .answer .stop ≡ 18) ↔ (InRange x × (isGood limit (x .page) ≡ false)))
-      × ((continueRun x .answer .stop ≡ 18) ↔ (InRange x × (isGood limit (x .page) ≡ false)))
+  abbrev Bad : Type 0
+  Bad = InRange x × (GoodPage limit (x .page) → ⊥)
+
+  bad-says : firstRefusal limit x ≡ 18 → Bad
+  bad-says h = let s = eighteen-says h in (s .0, λ g. true≢false (sym (a-good-page (x .page) .1 g) ∙ s .1))
+
+  pub eighteen-exactly : ((takeLine x .answer .stop ≡ 18) ↔ (InRange x × (GoodPage limit (x .page) → ⊥)))
+      × ((continueRun x .answer .stop ≡ 18) ↔ (InRange x × (GoodPage limit (x .page) → ⊥)))
   eighteen-exactly = (
-    (λ h. eighteen-says (first-of-line 18 refl h), λ h. ap (λ (o : Outcome). o .answer .stop) (a-bad-page-is-18 x (h .0) (h .1) .0)),
-    (λ h. eighteen-says (first-of-continue 18 refl h), λ h. ap (λ (o : Outcome). o .answer .stop) (a-bad-page-is-18 x (h .0) (h .1) .1)),
+    (λ h. bad-says (first-of-line 18 refl h), λ h. ap (λ (o : Outcome). o .answer .stop) (no-good-page-is-18 x (h .0) (h .1) .0)),
+    (λ h. bad-says (first-of-continue 18 refl h), λ h. ap (λ (o : Outcome). o .answer .stop) (no-good-page-is-18 x (h .0) (h .1) .1)),
   )
 
   -- "session record does not fit"
-  pub nineteen-exactly : ((takeLine x .answer .stop ≡ 19) ↔ (InRange x × (isGood limit (x .page) ≡ true) × (fits (x .page) (x .session) ≡ false)))
-      × ((continueRun x .answer .stop ≡ 19) ↔ (InRange x × (isGood limit (x .page) ≡ true) × (fits (x .page) (x .session) ≡ false)))
+  abbrev Unfit : Type 0
+  Unfit = InRange x × GoodPage limit (x .page) × (Fits (x .page) (x .session) → ⊥)
+
+  unfit-says : firstRefusal limit x ≡ 19 → Unfit
+  unfit-says h =
+      let s = nineteen-says h in
+      let g = a-good-page (x .page) .0 (s .1) in
+      (s .0, g, λ f. true≢false (sym (fits-exact limit (omega arith) (x .page) g (x .session) .1 f) ∙ s .2))
+
+  pub nineteen-exactly : ((takeLine x .answer .stop ≡ 19) ↔ (InRange x × GoodPage limit (x .page) × (Fits (x .page) (x .session) → ⊥)))
+      × ((continueRun x .answer .stop ≡ 19) ↔ (InRange x × GoodPage limit (x .page) × (Fits (x .page) (x .session) → ⊥)))
   nineteen-exactly = (
-    (λ h. nineteen-says (first-of-line 19 refl h), λ h. ap (λ (o : Outcome). o .answer .stop) (a-record-that-does-not-fit-is-19 x (h .0) (h .1) (h .2) .0)),
-    (λ h. nineteen-says (first-of-continue 19 refl h), λ h. ap (λ (o : Outcome). o .answer .stop) (a-record-that-does-not-fit-is-19 x (h .0) (h .1) (h .2) .1)),
+    (λ h. unfit-says (first-of-line 19 refl h), λ h. ap (λ (o : Outcome). o .answer .stop) (no-fitting-record-is-19 x (h .0) (h .1) (h .2) .0)),
+    (λ h. unfit-says (first-of-continue 19 refl h), λ h. ap (λ (o : Outcome). o .answer .stop) (no-fitting-record-is-19 x (h .0) (h .1) (h .2) .1)),
   )
 
-  -- past the first refusals
-  pub unrefused-exactly : (firstRefusal limit x ≡ 0) ↔ (InRange x × (isGood limit (x .page) ≡ true) × (fits (x .page) (x .session) ≡ true))
-  unrefused-exactly =
-      (λ h. let a = accepted-of limit x h in (a .range, a .good, a .fit), λ h. accepted-is {lim = limit} (record { range = h .0; good = h .1; fit = h .2 }))
-
   -- "no CR left in the input", of a typed line: its 7 is the one with no line
-  no-line-left : {o : Outcome} → Takes limit x o → o .answer .stop ≡ 7 → o .answer .line ≡ noLine → (firstRefusal limit x ≡ 0) × NoCR (x .input) (x .call .inpos)
+  no-line-left : {o : Outcome} → Takes limit x o → o .answer .stop ≡ 7 → o .answer .line ≡ noLine → Unrefused limit x × NoCR (x .input) (x .call .inpos)
   no-line-left (refused {n} h) i l = absurd (apart (7 ∷ []) firstNumbers refl (suc n) (rw i refl) (first-numbers limit x (suc n) h))
-  no-line-left (noCR z h) i l = (z, no-cr-left limit (drop (x .call .inpos) (x .input)) h)
+  no-line-left (noCR z h) i l = (unrefused-exact x .0 z, no-cr-left limit (drop (x .call .inpos) (x .input)) h)
   no-line-left (overlong g z h l) i n = absurd (omega arith)
   no-line-left (unread g h r) i l = absurd (omega arith)
   no-line-left (reads g t h r) i l =
       absurd (obey-silent (x .call .budget) (lentEnv limit x) (begun x (g .taken)) t (lines-low limit (x .page) (omega arith) (accepted-of limit x (h .sound) .good)) i l)
 
-  pub typed-seven-exactly : ((takeLine x .answer .stop ≡ 7) × (takeLine x .answer .line ≡ noLine)) ↔ ((firstRefusal limit x ≡ 0) × NoCR (x .input) (x .call .inpos))
+  pub typed-seven-exactly : ((takeLine x .answer .stop ≡ 7) × (takeLine x .answer .line ≡ noLine)) ↔ (Unrefused limit x × NoCR (x .input) (x .call .inpos))
   unfolding takeLine
   typed-seven-exactly = (
     λ h. no-line-left (every-line limit x) (h .0) (h .1),
-    λ h. let e = no-cr-is-7 x (h .0) (no-cr limit (drop (x .call .inpos) (x .input)) (h .1)) in
+    λ h. let e = no-cr-is-7 x (unrefused-exact x .1 (h .0)) (no-cr limit (drop (x .call .inpos) (x .input)) (h .1)) in
         (ap (λ (o : Outcome). o .answer .stop) e, ap (λ (o : Outcome). o .answer .line) e),
   )
 

@@ -23,8 +23,7 @@ use Rattle.demands.specs.Asks.{inputVars}
 use Rattle.demands.specs.Items.{ItemOf, ListItem}
 use Rattle.demands.specs.Leaves.{WholeItems, noItem, item, WholeLines, noneTaken, line, SameButVars, Refused, Returned, Grown}
 use Rattle.demands.proofs.Effects.{exec-does, list-does}
-use Rattle.demands.specs.Steps.{placeEnding, crOf}
-use Rattle.demands.proofs.Runs.{every-run}
+use Rattle.demands.proofs.Runs.{placeEnding, crOf, every-run}
 use Rattle.demands.proofs.Refusing.{Refusing, exec-refuses, list-refuses}
 use Rattle.demands.proofs.Refusing as refusing
 

@@ -12,8 +12,7 @@ use Rattle.nibl.specs.Meaning.{World, Env, on, skip, go, stop, Done, done, with
 use Rattle.nibl.specs.Calls.{Lent, Outcome, Ran, stepped, afterStep, envAt, runFrom, stops, inRange, firstRefusal, edited, listFrom, afterImmediate, needsProgram, obey, takeLine, continueFrom, continueRun, limit, begun, lentEnv}
 use Rattle.nibl.specs.Record.{stackless}
 use Rattle.demands.specs.Lent.{OneOf, replyNumbers, Numbered}
-use Rattle.demands.specs.Steps.{placeEnding, crOf}
-use Rattle.demands.proofs.Runs.{every-run}
+use Rattle.demands.proofs.Runs.{placeEnding, crOf, every-run}
 use Rattle.demands.proofs.Budget.{StopsWith, stopped, stopNumbers, does-stops, exec-stops}
 use Rattle.demands.proofs.Effects.{widen, list-does}
 use Rattle.demands.proofs.Ways.{Takes, refused, noCR, overlong, unread, reads, every-line, Continues, refused′, continues, every-continue}

@@ -23,7 +23,7 @@ use Rattle.record.specs.Sound.{Sized}
 use Rattle.demands.specs.Lent.{budgeted, Typing, OneOf}
 use Rattle.demands.specs.Items.{ListsLines, over, below, listsLine, noRoomForLine}
 use Rattle.demands.specs.Starts.{gives}
-use Rattle.demands.specs.Steps.{placeEnding, crOf, worldLeft, Ends, halts, runsOut, pauses, OneMore}
+use Rattle.demands.specs.Steps.{worldLeft, Ends, halts, runsOut, pauses, OneMore}
 use Rattle.demands.specs.Sound.{Shows, without as unnamed, itsLine, Answered, byLine, byRun}
 use Rattle.demands.specs.Work.{Asking, forVariables, forString, Reaches, itself, throughIf, Works}
 use Rattle.demands.specs.Refusals.{Unheard, overLong, notInForm, Refusal}
@@ -44,13 +44,13 @@ use Rattle.demands.proofs.Fourteen.{goes-on}
 
 -- One statement more did what the rules say
 pub the-last-statement-works : {e : Env} {k : ℕ} {o' o : Outcome} (m : OneMore e k o' o)
-    → Works (envAt e (placeEnding e (m .start) (m .last))) (m .last .statement) (worldLeft o') (done (m .how) (m .after))
-the-last-statement-works {e} {o' = o'} m = works-exactly (envAt e (placeEnding e (m .start) (m .last))) (worldLeft o') (m .last .statement) (done (m .how) (m .after)) .0 (m .runs)
+    → Works (envAt e (m .last .place)) (m .last .statement) (worldLeft o') (done (m .how) (m .after))
+the-last-statement-works {e} {o' = o'} m = works-exactly (envAt e (m .last .place)) (worldLeft o') (m .last .statement) (done (m .how) (m .after)) .0 (m .runs)
 
 -- and it gave the stop n exactly when it was refused with n
 module _ {e : Env} {k : ℕ} {o' o : Outcome} (m : OneMore e k o' o) (n : ℕ) (z : n ≡ 0 → ⊥) (p : n ≡ 14 → ⊥) where
   abbrev here : Env
-  here = envAt e (placeEnding e (m .start) (m .last))
+  here = envAt e (m .last .place)
 
   abbrev Last : Type 0
   Last = Refusal here (m .last .statement) (worldLeft o') n (m .after)
@@ -65,7 +65,7 @@ module _ {e : Env} {k : ℕ} {o' o : Outcome} (m : OneMore e k o' o) (n : ℕ) (
     stopped : {how : Next} {u v : World} → done how u ≡ done (stop n) v → how ≡ stop n
     stopped h = cc
 
-    by : {how : Next} {u : World} → Ends (e .page) (placeEnding e (m .start) (m .last)) (crOf e (m .start)) how u k o → how ≡ stop n → o .answer .stop ≡ n
+    by : {how : Next} {u : World} → Ends (e .page) (m .last .place) (m .last .cr) how u k o → how ≡ stop n → o .answer .stop ≡ n
     by (halts i c s) h = cc
     by (runsOut q g i c s) h = absurd (goes-on g h)
     by (pauses q a g i c b s) h = absurd (goes-on g h)

@@ -1,7 +1,10 @@
 pub mod Items
+pub mod Good
+pub mod Reading
 pub mod Asks
 pub mod Lent
 pub mod Leaves
+pub mod ItemsIn
 pub mod Listing
 pub mod Sound
 pub mod Starts
@@ -11,3 +14,4 @@ pub mod Work
 pub mod Refusals
 pub mod Stopped
 pub mod Changed
+pub mod Stepping

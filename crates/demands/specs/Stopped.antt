@@ -11,7 +11,7 @@ use Rattle.nibl.specs.Calls.{Lent, Outcome, envAt, lentEnv, begun, limit}
 use Rattle.demands.specs.Lent.{Typing}
 use Rattle.demands.specs.Leaves.{others}
 use Rattle.demands.specs.Items.{ListsLines}
-use Rattle.demands.specs.Steps.{placeEnding, worldLeft, OneMore}
+use Rattle.demands.specs.Steps.{worldLeft, OneMore}
 use Rattle.demands.specs.Refusals.{Refusal}
 
 -- "DO, UNTIL, FOR, NEXT or INPUT", by form
@@ -59,4 +59,4 @@ pub data LineRefused (x : Lent) (n : ℕ) : Type 0 where
 -- the last statement of a run was refused with n: o' is what the same call with one step less leaves
 pub record StoppedBy (e : Env) (budget : ℕ) (o' o : Outcome) (n : ℕ) : Type 0 where
   pub more : OneMore e budget o' o
-  pub refused : Refusal (envAt e (placeEnding e (more .start) (more .last))) (more .last .statement) (worldLeft o') n (more .after)
+  pub refused : Refusal (envAt e (more .last .place)) (more .last .statement) (worldLeft o') n (more .after)
