@@ -39,6 +39,7 @@ pub mod Writing
 pub mod Left
 pub mod Valued
 pub mod Work
+pub mod OnPage
 pub mod Refusals
 pub mod Exactly
 pub mod Stopped

@@ -11,6 +11,7 @@ pub mod Starts
 pub mod Steps
 pub mod Valued
 pub mod Work
+pub mod OnPage
 pub mod Refusals
 pub mod Stopped
 pub mod Changed
