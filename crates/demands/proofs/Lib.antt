@@ -37,6 +37,7 @@ pub mod ItemsIn
 pub mod Stepping
 pub mod Writing
 pub mod Left
+pub mod Gathered
 pub mod Valued
 pub mod Work
 pub mod OnPage

@@ -1,13 +1,13 @@
 -- On a good page the line that GOTO and GOSUB go to, 8, and TOP are said of the bytes: where a record of that number stands, that none does, and the bytes up to
 -- the end mark with it. Assumes nothing.
-use Prim.Native.Nat.{ℕ, suc, _+_, _*_, _≤_}
-use mathlib.Core.Path.{_≡_, refl, sym, ap, subst, _∙_}
-use mathlib.Core.Bool.{true, false, true≢false}
-use mathlib.Core.List.{List, [], _∷_}
+use Prim.Native.Nat.{ℕ, suc, _+_, _≤_}
+use mathlib.Core.Path.{_≡_, sym, ap, subst, _∙_}
+use mathlib.Core.Bool.{true≢false}
+use mathlib.Core.List.{List}
 use mathlib.Core.Logic.{_↔_}
 use native.Mathlib.Nat.{zero-add}
 use native.Mathlib.Omega.{arith}
-use lib.ListN.{length, drop}
+use lib.ListN.{length}
 use lib.Dec.{eqb}
 use borrow.Author.Tests.{eqb-true, eqb-false}
 use Rattle.nibl.specs.Page.{Stored, isEnd, lineAt, lengthAt, recordsOf, size, usedBy, programBytes}
@@ -17,7 +17,7 @@ use Rattle.page.proofs.Program.{program-length}
 use Rattle.page.proofs.Laid.{Whole, Laid, good-laid}
 use Rattle.page.proofs.Laid as laid
 use Rattle.demands.specs.Items.{In, first, further}
-use Rattle.demands.specs.Good.{RecordAt, EndMark, Boundary, start, behind, GoodPage}
+use Rattle.demands.specs.Good.{RecordAt, Boundary, start, behind, GoodPage}
 use Rattle.demands.specs.Work.{LineAt, thisLine, laterLine, NoLine}
 use Rattle.demands.specs.OnPage.{LineStands, MarkStands}
 use Rattle.demands.proofs.Good.{good-exact, whole-record, record-unended}

@@ -9,6 +9,7 @@ pub mod Listing
 pub mod Sound
 pub mod Starts
 pub mod Steps
+pub mod Gathered
 pub mod Valued
 pub mod Work
 pub mod OnPage
