@@ -24,6 +24,8 @@ use Rattle.demands.specs.Lent.{budgeted, Typing, OneOf}
 use Rattle.demands.specs.Items.{ListsLines, over, below, listsLine, noRoomForLine}
 use Rattle.demands.specs.Starts.{gives}
 use Rattle.demands.specs.Steps.{worldLeft, Ends, halts, runsOut, pauses, OneMore}
+use Rattle.demands.specs.Reading.{Standing}
+use Rattle.demands.specs.Stepping.{Step}
 use Rattle.demands.specs.Sound.{Shows, without as unnamed, itsLine, Answered, byLine, byRun}
 use Rattle.demands.specs.Work.{Asking, forVariables, forString, Reaches, itself, throughIf, Works}
 use Rattle.demands.specs.Refusals.{Unheard, overLong, notInForm, Refusal}
@@ -47,7 +49,11 @@ pub the-last-statement-works : {e : Env} {k : ℕ} {o' o : Outcome} (m : OneMore
     → Works (envAt e (m .last .place)) (m .last .statement) (worldLeft o') (done (m .how) (m .after))
 the-last-statement-works {e} {o' = o'} m = works-exactly (envAt e (m .last .place)) (worldLeft o') (m .last .statement) (done (m .how) (m .after)) .0 (m .runs)
 
--- and it gave the stop n exactly when it was refused with n
+-- and so did each step of a run
+pub a-step-works : {e : Env} {q : ℕ} {w u : World} {x : Standing} {how : Next} → Step e q w x how u → Works (envAt e (x .place)) (x .statement) w (done how u)
+a-step-works {e} {w = w} {u = u} {x = x} {how = how} s = works-exactly (envAt e (x .place)) w (x .statement) (done how u) .0 (s .does)
+
+-- The last statement gave the stop n exactly when it was refused with n
 module _ {e : Env} {k : ℕ} {o' o : Outcome} (m : OneMore e k o' o) (n : ℕ) (z : n ≡ 0 → ⊥) (p : n ≡ 14 → ⊥) where
   abbrev here : Env
   here = envAt e (m .last .place)

@@ -563,3 +563,7 @@ module _ (e : Env) (w : World) where
   -- the definition and the rules are one
   pub works-exactly : (s : Stmt) (d : Done) → (exec e s w ≡ d) ↔ Works e s w d
   works-exactly s d = (λ h. rw h at (works e s w), works-one)
+
+  -- and no two outcomes are in the rules
+  pub works-unique : {s : Stmt} {d d' : Done} → Works e s w d → Works e s w d' → d ≡ d'
+  works-unique p q = sym (works-one p) ∙ works-one q
