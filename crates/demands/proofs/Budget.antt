@@ -16,10 +16,9 @@ use Rattle.nibl.specs.Page.{isAmong, lineOf}
 use Rattle.nibl.specs.Record.{mark}
 use Rattle.nibl.specs.Meaning.{World, Env, on, skip, go, stop, Done, done, exec}
 use Rattle.nibl.specs.Calls.{Ran, stepped, textFrom, lineFrom, envAt, afterStep, step, runFrom}
-use Rattle.demands.specs.Effects.{refusals, GivesVariables, gave, refused, gives, Does, writes, takes, refuses, passes, skips, assigns, assignsFlags, stores, goesTo, saves, returns, loops, repeats, leaves, begins, again, finishes, inputs}
+use Rattle.demands.proofs.Does.{refusals, GivesVariables, gave, refused, gives, Does, writes, takes, refuses, passes, skips, assigns, assignsFlags, stores, goesTo, saves, returns, loops, repeats, leaves, begins, again, finishes, inputs}
 use Rattle.demands.proofs.Effects.{exec-does}
-use Rattle.demands.specs.Steps.{placeEnding, crOf}
-use Rattle.demands.proofs.Runs.{run-none, run-zero, run-suc, after-law, every-run}
+use Rattle.demands.proofs.Runs.{placeEnding, crOf, run-none, run-zero, run-suc, after-law, every-run}
 
 -- a run that went on where the first paused
 abbrev pub wentOnWith : Ran → (ℕ → World → Ran) → Ran

@@ -28,7 +28,7 @@ use Rattle.nibl.specs.declared.TopFor.{TopFor}
 use Rattle.nibl.specs.declared.TopFor.the-variants as topf
 use Rattle.demands.specs.Items.{In, first, further, itemBytes, ItemOf, ofPrint, endOfPrint, ofInput, ofInputText, ofIf, ListItem, ofRecord}
 use Rattle.record.specs.Fors.{forVars}
-use Rattle.demands.specs.Effects.{refusals, GivesVariables, gave, refused, gives, Does, writes, takes, refuses, passes, skips, assigns, assignsFlags, stores, goesTo, saves, returns, loops, repeats, leaves, begins, again, finishes, inputs}
+use Rattle.demands.proofs.Does.{refusals, GivesVariables, gave, refused, gives, Does, writes, takes, refuses, passes, skips, assigns, assignsFlags, stores, goesTo, saves, returns, loops, repeats, leaves, begins, again, finishes, inputs}
 
 abbrev pub allIn : List ℕ → List ℕ → Bool
 allIn [] ns = true

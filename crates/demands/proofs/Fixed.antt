@@ -24,8 +24,7 @@ use Rattle.page.proofs.Program.{Program, none as no-record, each}
 use Rattle.page.proofs.Laid.{good-laid, laid-program}
 use Rattle.demands.specs.Lent.{gatheredLine, Typing, OneOf, firstRefusals, twoAndThree}
 use Rattle.demands.specs.Leaves.{unchanged, lineTaken, TakesLine}
-use Rattle.demands.specs.Steps.{placeEnding, crOf}
-use Rattle.demands.proofs.Runs.{after-law, every-run}
+use Rattle.demands.proofs.Runs.{placeEnding, crOf, after-law, every-run}
 use Rattle.demands.proofs.Ways.{Takes, refused, noCR, overlong, unread, reads, every-line, Continues, refused′, continues, every-continue}
 use Rattle.demands.proofs.Accepted.{accepted-of}
 use Rattle.demands.proofs.Numbers.{runNumbers, Obeys, full, unfit, ends, obey-obeys, firstNumbers, first-numbers, paused-numbers}
@@ -127,7 +126,7 @@ immediate-silent k e low (jumps {w = w} {q = q}) h l = run-silent k e q w low h 
 immediate-silent k e low refusing.ends h l = omega arith
 immediate-silent k e low (refuses i g) h l = false≢true (subst (OneOf quiet) h i)
 
-obey-silent : (k : ℕ) (e : Env) (w : World) (t : Typed) → Lined (e .page) → Silent (obey k e w t)
+pub obey-silent : (k : ℕ) (e : Env) (w : World) (t : Typed) → Lined (e .page) → Silent (obey k e w t)
 unfolding obey
 obey-silent k e w blank low = λ h l. omega arith
 obey-silent k e w new low = edit-silent (e .page) w []

@@ -18,13 +18,12 @@ use Rattle.nibl.specs.Calls.{Ran, envAt, afterStep, runFrom, listFrom}
 use Rattle.nibl.specs.declared.Place.{Place}
 use Rattle.nibl.specs.declared.Session.{Session}
 use Rattle.nibl.specs.declared.Top.the-variants as top
-use Rattle.demands.specs.Effects.{refusals, GivesVariables, gave, refused, gives, Does, writes, takes, refuses, passes, skips, assigns, assignsFlags, stores, goesTo, saves, returns, loops, repeats, leaves, begins, again, finishes, inputs}
+use Rattle.demands.proofs.Does.{refusals, GivesVariables, gave, refused, gives, Does, writes, takes, refuses, passes, skips, assigns, assignsFlags, stores, goesTo, saves, returns, loops, repeats, leaves, begins, again, finishes, inputs}
 use Rattle.demands.specs.Asks.{inputVars}
 use Rattle.demands.specs.Items.{ItemOf, ListItem}
 use Rattle.demands.specs.Leaves.{WholeItems, noItem, item, WholeLines, noneTaken, line, SameButVars, Refused, Returned, Grown}
 use Rattle.demands.proofs.Effects.{exec-does, list-does}
-use Rattle.demands.specs.Steps.{placeEnding, crOf}
-use Rattle.demands.proofs.Runs.{every-run}
+use Rattle.demands.proofs.Runs.{placeEnding, crOf, every-run}
 use Rattle.demands.proofs.Refusing.{Refusing, exec-refuses, list-refuses}
 use Rattle.demands.proofs.Refusing as refusing
 

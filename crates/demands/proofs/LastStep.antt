@@ -16,9 +16,9 @@ use Rattle.nibl.specs.Meaning.{World, Env, Next, on, skip, go, stop, Done, done
 use Rattle.nibl.specs.Calls.{Ran, ran, stepped, textFrom, lineFrom, envAt, afterStep, step, runFrom, stops}
 use Rattle.nibl.specs.Record.{nowhere, withPaused, unpaused}
 use Rattle.nibl.specs.declared.Session.{Session}
-use Rattle.demands.proofs.Runs.{run-zero, run-suc, oneStep, every-run}
+use Rattle.demands.proofs.Runs.{placeEnding, crOf, run-zero, run-suc, oneStep, every-run}
 use Rattle.demands.specs.Lent.{OneOf}
-use Rattle.demands.specs.Steps.{placeEnding, crOf, GoesTo, afterIt, afterRecord, jumps}
+use Rattle.demands.specs.Steps.{GoesTo, afterIt, afterRecord, jumps}
 use Rattle.demands.proofs.Budget.{stopNumbers, StopsWith, stopped, exec-stops}
 use Rattle.demands.proofs.Fixed.{unsaid}
 

@@ -2,23 +2,23 @@
 -- record, the page, the memory and the output that it leaves are the definition's outcome of all that it was lent. So every
 -- theorem about that outcome is one about what was left (`carried`); three of the demands' sentences are written out. Assumes nothing.
 use Prim.Native.Nat.{ℕ}
-use mathlib.Core.Bool.{false}
+use mathlib.Core.Bool.{true}
 use mathlib.Core.List.{List}
 use mathlib.Core.Option.{some}
 use mathlib.Core.Path.{_≡_, sym, subst}
-use mathlib.Core.Logic.{_↔_}
-use lib.ListN.{drop}
+use mathlib.Core.Logic.{_⊎_, _↔_}
 use Rattle.nibl.specs.Tree.{Typed}
-use Rattle.nibl.specs.Typing.{Gathered, gather}
+use Rattle.nibl.specs.Typing.{Gathered}
 use Rattle.nibl.specs.Readings.{LineReading}
-use Rattle.nibl.specs.Calls.{Lent, Outcome, lentAll, leftAll, limit, firstRefusal, takeLine, continueRun}
+use Rattle.nibl.specs.Calls.{Lent, Outcome, lentAll, leftAll, limit, takeLine, continueRun}
 use Rattle.nibl.specs.declared.Session.{Session}
 use Rattle.nibl.specs.declared.Call.{Call}
 use Rattle.nibl.specs.declared.Answer.{Answer}
 use Rattle.record.specs.Sound.{Sized}
-use Rattle.demands.specs.Lent.{Numbered}
+use Rattle.demands.specs.Lent.{Numbered, gatheredLine}
+use Rattle.demands.specs.Good.{Unrefused}
 use Rattle.demands.proofs.Numbers.{every-reply-is-numbered}
-use Rattle.demands.proofs.Five.{exactly-5}
+use Rattle.demands.proofs.ByGrammar.{exactly-5-by-grammar}
 
 module _ (rec : Session) (page memory input output : List ℕ) (call : Call) (a : Answer) (s : Session) (p m o : List ℕ) where
   abbrev lent : Lent
@@ -38,7 +38,8 @@ module _ (rec : Session) (page memory input output : List ℕ) (call : Call) (a 
   pub continued-numbered : left ≡ continueRun lent → Numbered left
   continued-numbered e = carried continueRun (λ x u. Numbered u) e (every-reply-is-numbered lent .1)
 
-  -- "refused as bad grammar exactly when the written grammar gives it no reading"
-  pub left-exactly-5 : left ≡ takeLine lent → (g : Gathered) → Sized rec → firstRefusal limit lent ≡ 0 → gather limit (drop (call .inpos) input) ≡ some g → g .line .long ≡ false
-      → (a .stop ≡ 5) ↔ ((y : Typed) → LineReading (g .line .bytes) y → ⊥)
-  left-exactly-5 e g z f h l = carried takeLine (λ x u. (u .answer .stop ≡ 5) ↔ ((y : Typed) → LineReading (g .line .bytes) y → ⊥)) e (exactly-5 lent g z f h l)
+  -- "refused as bad grammar exactly when the written grammar gives it no reading", and where it is over-long
+  pub left-exactly-5 : left ≡ takeLine lent → (g : Gathered) → Sized rec → Unrefused limit lent → gatheredLine limit lent ≡ some g
+      → (a .stop ≡ 5) ↔ ((g .line .long ≡ true) ⊎ ((y : Typed) → LineReading (g .line .bytes) y → ⊥))
+  left-exactly-5 e g z f h =
+      carried takeLine (λ x u. (u .answer .stop ≡ 5) ↔ ((g .line .long ≡ true) ⊎ ((y : Typed) → LineReading (g .line .bytes) y → ⊥))) e (exactly-5-by-grammar lent g z f h)

@@ -1,4 +1,6 @@
+pub mod Does
 pub mod Effects
+pub mod Good
 pub mod Runs
 pub mod Budget
 pub mod Ways
@@ -11,6 +13,8 @@ pub mod Carried
 pub mod Obeys
 pub mod Sound
 pub mod Five
+pub mod ByGrammar
+pub mod Reading
 pub mod Line
 pub mod Paused
 pub mod Storing
@@ -29,4 +33,15 @@ pub mod Fourteen
 pub mod Within
 pub mod Written
 pub mod Printing
+pub mod ItemsIn
+pub mod Stepping
+pub mod Writing
 pub mod Left
+pub mod Gathered
+pub mod Valued
+pub mod Work
+pub mod OnPage
+pub mod Refusals
+pub mod Exactly
+pub mod Stopped
+pub mod Changed

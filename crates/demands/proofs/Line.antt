@@ -22,7 +22,7 @@ use Rattle.demands.specs.Lent.{OneOf}
 use Rattle.demands.specs.Sound.{Shows, without, itsLine, Answered, byLine, byRun}
 use Rattle.demands.specs.Starts.{StartsTyped, StartsPaused}
 use Rattle.demands.proofs.Ways.{Takes, refused, noCR, overlong, unread, reads, every-line, Continues, refused′, continues, every-continue}
-use Rattle.demands.specs.Steps.{placeEnding}
+use Rattle.demands.proofs.Runs.{placeEnding}
 use Rattle.demands.proofs.Numbers.{first-numbers}
 use Rattle.demands.proofs.Fixed.{unsaid, lines-low}
 use Rattle.demands.proofs.LastStep.{LastStep}

@@ -50,14 +50,14 @@ pub listing-length : (rs : List Stored) → length (listingOf rs) ≡ listingRoo
 listing-length [] = refl
 listing-length (r ∷ rs) = length-append (listed r) (listingOf rs) ∙ omega (arith, listed-length r, listing-length rs)
 
-abbrev wrote : World → List ℕ → World
+abbrev pub wrote : World → List ℕ → World
 wrote w bs = withOutput w (sets (w .output) (w .outpos) bs) (w .outpos + length bs)
 
 put-fits : (bs : List ℕ) (w : World) → w .outpos + length bs ≤ length (w .output) → put bs w ≡ done on (wrote w bs)
 unfolding put
 put-fits bs w h = rw (le-leb (w .outpos + length bs) (length (w .output)) h)
 
-wrote-more : (w : World) (a b : List ℕ) → wrote (wrote w a) b ≡ wrote w (a ++ b)
+pub wrote-more : (w : World) (a b : List ℕ) → wrote (wrote w a) b ≡ wrote w (a ++ b)
 wrote-more w a b =
     let e : w .outpos + length a + length b ≡ w .outpos + length (a ++ b) = omega (arith, length-append a b) in
     λ i. withOutput w (sym (sets-append a b (w .output) (w .outpos)) i) (e i)

@@ -12,8 +12,7 @@ use Rattle.nibl.specs.Meaning.{World, Env, on, skip, go, stop, Done, done, with
 use Rattle.nibl.specs.Calls.{Lent, Outcome, Ran, stepped, afterStep, envAt, runFrom, stops, inRange, firstRefusal, edited, listFrom, afterImmediate, needsProgram, obey, takeLine, continueFrom, continueRun, limit, begun, lentEnv}
 use Rattle.nibl.specs.Record.{stackless}
 use Rattle.demands.specs.Lent.{OneOf, replyNumbers, Numbered}
-use Rattle.demands.specs.Steps.{placeEnding, crOf}
-use Rattle.demands.proofs.Runs.{every-run}
+use Rattle.demands.proofs.Runs.{placeEnding, crOf, every-run}
 use Rattle.demands.proofs.Budget.{StopsWith, stopped, stopNumbers, does-stops, exec-stops}
 use Rattle.demands.proofs.Effects.{widen, list-does}
 use Rattle.demands.proofs.Ways.{Takes, refused, noCR, overlong, unread, reads, every-line, Continues, refused′, continues, every-continue}
@@ -60,7 +59,7 @@ edit-obeys e w rs = by (leb (length (programBytes rs)) (length (e .page))) where
   by true = ends refl
   by false = full
 
-immediate-numbers : (k : ℕ) (e : Env) (d : Done) → StopsWith d → OneOf runNumbers (afterImmediate k e d .answer .stop)
+pub immediate-numbers : (k : ℕ) (e : Env) (d : Done) → StopsWith d → OneOf runNumbers (afterImmediate k e d .answer .stop)
 immediate-numbers k e (done on w) s = refl
 immediate-numbers k e (done skip w) s = refl
 immediate-numbers k e (done (go q) w) s = run-numbers k e q w

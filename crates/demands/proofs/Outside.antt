@@ -21,7 +21,7 @@ use Rattle.nibl.proofs.Lines.{typed-sound}
 use Rattle.page.proofs.Program.{Program, none as no-record, program-length}
 use Rattle.page.proofs.Changes.{with-program, without-program}
 use Rattle.demands.specs.Lent.{Typing}
-use Rattle.demands.specs.Effects.{Does}
+use Rattle.demands.proofs.Does.{Does}
 use Rattle.demands.specs.Leaves.{PageHeld, LengthsHeld, Agrees, isEdit}
 use Rattle.demands.proofs.Effects.{exec-does, list-does}
 use Rattle.demands.proofs.Ways.{Takes, refused, noCR, overlong, unread, reads, every-line, Continues, refused′, continues, every-continue}

@@ -20,6 +20,8 @@ use Rattle.page.specs.Standing.{Stands, Ready}
 use Rattle.record.specs.Sound.{Sized, Sound}
 use Rattle.record.proofs.Fitted.{sound-fit, fit-sound}
 use Rattle.demands.specs.Lent.{budgeted, gatheredLine, Typing}
+use Rattle.demands.specs.Reading.{PastTheLast}
+use Rattle.demands.proofs.Reading.{past-none}
 use Rattle.demands.proofs.Runs.{run-none, run-suc}
 use Rattle.demands.proofs.Budget.{wentOnWith, split-run, steps-within}
 use Rattle.demands.proofs.Running.{Goings, runsOut, pauses, steps, run-goes}
@@ -28,8 +30,8 @@ use Rattle.demands.proofs.Obeys.{Obeyed, stands, edits, runs, read-ways
 use Rattle.demands.proofs.Accepted.{accepted-less, take-at, continue-at}
 use Rattle.demands.proofs.Sound.{unrefused}
 
-pub past-the-last-line : (e : Env) (q : ℕ) (w : World) → textFrom (e .page) q ≡ none → (k : ℕ) → runFrom k e q w ≡ ran 0 q w
-past-the-last-line e q w h k = run-none k e q w h
+pub past-the-last-line : (e : Env) (q : ℕ) (w : World) → PastTheLast (e .page) q → (k : ℕ) → runFrom k e q w ≡ ran 0 q w
+past-the-last-line e q w h k = run-none k e q w (past-none h)
 
 -- where a run paused: the budget is spent, and a text follows that can be read
 record Pause (page : List ℕ) (k : ℕ) (r : Ran) : Type 0 where

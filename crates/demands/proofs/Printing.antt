@@ -16,20 +16,20 @@ use Rattle.demands.specs.Items.{itemBytes, wroteItem, HasRoom, NoRoom, P
 use Rattle.demands.proofs.Effects.{went-went}
 
 -- an item, and what follows it
-put-split : (P : Done → Type 0) (bs : List ℕ) (w : World) (k : World → Done) → (HasRoom w bs → P (k (wroteItem w bs))) → (NoRoom w bs → P (done (stop 17) w)) → P (went (put bs w) k)
+pub put-split : (P : Done → Type 0) (bs : List ℕ) (w : World) (k : World → Done) → (HasRoom w bs → P (k (wroteItem w bs))) → (NoRoom w bs → P (done (stop 17) w)) → P (went (put bs w) k)
 unfolding put
 put-split P bs w k f g = by (leb (w .outpos + length bs) (length (w .output))) refl where
   by : (b : Bool) → leb (w .outpos + length bs) (length (w .output)) ≡ b → P (went (if b then done on (wroteItem w bs) else done (stop 17) w) k)
   by true h = f (leb-true _ _ h)
   by false h = g (leb-false _ _ h)
 
-went-on : (d : Done) → went d (λ w. done on w) ≡ d
+pub went-on : (d : Done) → went d (λ w. done on w) ≡ d
 went-on (done on w) = refl
 went-on (done skip w) = refl
 went-on (done (go q) w) = refl
 went-on (done (stop n) w) = refl
 
-item-put : (e : Env) (i : Item) (w : World) → putItem e i w ≡ given (itemBytes e w i) w (λ bs. put bs w)
+pub item-put : (e : Env) (i : Item) (w : World) → putItem e i w ≡ given (itemBytes e w i) w (λ bs. put bs w)
 unfolding putItem
 item-put e (text bs) w = refl
 item-put e (stored a) w = refl

@@ -22,7 +22,7 @@ use Rattle.nibl.specs.declared.Top.{Top}
 use Rattle.nibl.specs.declared.Top.the-variants as top
 use Rattle.nibl.specs.declared.TopFor.{TopFor}
 use Rattle.nibl.specs.declared.TopFor.the-variants as topf
-use Rattle.demands.specs.Effects.{refusals}
+use Rattle.demands.proofs.Does.{refusals}
 use Rattle.demands.specs.Asks.{asks, inputVars, GivenIn, stay, give}
 use Rattle.demands.proofs.Effects.{valueRefusals, widen, GivesOrRefuses, refused′, bind-known, string-known, store-known, line-known, eval-known, went-went, given-went}
 

@@ -27,6 +27,7 @@ use Rattle.page.proofs.Changes.{with-program, without-program, onto-good, onto-
 use Rattle.demands.specs.Lent.{Typing}
 use Rattle.demands.specs.Leaves.{ofLine, others, Rising, alone, rises, lineTaken, Edits, Replaces, Deletes}
 use Rattle.demands.proofs.Storing.{stored-storable}
+use Rattle.demands.proofs.Good.{good-exact}
 use Rattle.demands.proofs.Accepted.{accepted-of}
 
 -- what a line that was read does
@@ -143,7 +144,7 @@ edit-leaves x taken {rs = rs} p h =
       session = refl;
       memory = refl;
       output = refl;
-      good = onto-good (x .page) p;
+      good = good-exact limit _ (omega arith) .0 (onto-good (x .page) p);
       rising = rw (onto-records (x .page) p) (program-rises p);
       bytes = rw (onto-used (x .page) p, onto-records (x .page) p) (take-at (programBytes rs) _ (usedBy rs) (program-length rs));
       long = onto-length (x .page) rs h;

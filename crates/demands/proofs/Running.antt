@@ -19,8 +19,7 @@ use Rattle.page.proofs.Standing.{ready-read, ready-end, stands-ready}
 use Rattle.record.specs.Fit.{Fit, Goes, toNext, toRecord, toPlace, toEnd}
 use Rattle.record.proofs.Statements.{list-goes, immediate-goes, member-goes}
 use Rattle.demands.proofs.Effects.{exec-does, list-does}
-use Rattle.demands.specs.Steps.{placeEnding, crOf}
-use Rattle.demands.proofs.Runs.{every-run}
+use Rattle.demands.proofs.Runs.{placeEnding, crOf, every-run}
 use Rattle.demands.proofs.Budget.{StopsWith, stopped, stopNumbers, does-stops}
 
 -- a statement left a fitting record, and goes on to where a run may stand, or stops with one of its numbers

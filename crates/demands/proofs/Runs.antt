@@ -1,14 +1,21 @@
 -- A run, step by step: its ways out, and what holds of every run. Assumes nothing.
-use Prim.Native.Nat.{ℕ, zero, suc}
+use Prim.Native.Nat.{ℕ, zero, suc, _+_, _-_}
 use mathlib.Core.Path.{_≡_, refl, subst, sym}
 use mathlib.Core.List.{List}
 use mathlib.Core.Option.{Option, none, some}
+use lib.ListN.{length}
 use Rattle.nibl.specs.Tree.{Member}
 use Rattle.nibl.specs.Read.{Found, nothing, found, member}
 use Rattle.nibl.specs.Page.{lineOf}
 use Rattle.nibl.specs.Meaning.{World, Env, on, skip, go, stop, Done, done, exec}
 use Rattle.nibl.specs.Calls.{Ran, ran, stepped, textFrom, lineFrom, envAt, afterStep, step, runFrom}
-use Rattle.demands.specs.Steps.{placeEnding, crOf}
+
+-- the place that ends the member m of the text from a on, and the CR behind that text
+abbrev pub placeEnding : Env → ℕ → Member → ℕ
+placeEnding e a m = a + (length (lineFrom (e .page) a) - m .left)
+
+abbrev pub crOf : Env → ℕ → ℕ
+crOf e a = a + length (lineFrom (e .page) a)
 
 pub run-none : (k : ℕ) (e : Env) (q : ℕ) (w : World) → textFrom (e .page) q ≡ none → runFrom k e q w ≡ ran 0 q w
 unfolding runFrom

@@ -22,12 +22,13 @@ use Rattle.nibl.specs.Readings.{LineReading}
 use Rattle.nibl.proofs.Whole.{typed-complete}
 use Rattle.demands.specs.Lent.{budgeted, Typing, OneOf}
 use Rattle.demands.specs.Asks.{inputVars, GivenIn, stay}
-use Rattle.demands.specs.Items.{ItemOf, TypedItem, ofList, ofStatement}
+use Rattle.demands.specs.ItemsIn.{ItemIn, OwnItem, ofList, ofStatement}
 use Rattle.demands.specs.Leaves.{noItem, noneTaken, Refused}
 use Rattle.page.specs.Standing.{Stands}
 use Rattle.record.specs.Sound.{Sized, Sound}
 use Rattle.record.proofs.Fitted.{sound-fit, fit-sound}
-use Rattle.demands.specs.Steps.{placeEnding, worldLeft, Ends, halts, runsOut, pauses, OneMore, RefusedLine}
+use Rattle.demands.proofs.Runs.{placeEnding}
+use Rattle.demands.specs.Steps.{worldLeft, GoesTo, Ends, halts, runsOut, pauses, OneMore, RefusedLine}
 use Rattle.demands.proofs.Budget.{steps-within}
 use Rattle.demands.proofs.Ways.{Takes, refused, noCR, overlong, unread, reads, every-line, Continues, refused′, continues, every-continue}
 use Rattle.demands.proofs.Accepted.{accepted-of, accepted-less, continue-at}
@@ -35,12 +36,15 @@ use Rattle.demands.proofs.Retyping.{edited-fits, edited-full, line-read
 use Rattle.demands.proofs.Refusing.{needs-asks}
 use Rattle.demands.proofs.Fixed.{unsaid, lines-low, run-named}
 use Rattle.demands.proofs.Five.{no-grammar-refusal-while-running, exactly-5}
-use Rattle.demands.proofs.Held.{worldAfter, run-steady, refusing-statement, refusing-list, refused-as}
+use Rattle.demands.proofs.Held.{worldAfter, run-steady, refusing-list, refused-as}
+use Rattle.demands.proofs.ItemsIn.{a-refusing-statement}
 use Rattle.demands.proofs.Immediate.{exec-keeps, list-keeps}
 use Rattle.demands.proofs.LastStep.{LastStep, RunEnds, last-step, unpaused-same}
 use Rattle.demands.proofs.LastStep as lastStep
 use Rattle.demands.proofs.Line.{a-last-steps-line}
-use Rattle.demands.proofs.Sound.{unrefused}
+use Rattle.demands.proofs.Sound.{unrefused, goings-fit, goings-stands}
+use Rattle.demands.proofs.Running.{run-goes}
+use Rattle.demands.proofs.Stepping.{nothing-past, some-next, its, its-next, goes-stands}
 use Rattle.demands.proofs.Obeys.{Obeyed, stands, edits, runs as runs-on, read-ways, continue-ways}
 
 of-unsaid : (n : ℕ) → OneOf unsaid n → (n ≡ 0 → ⊥) → (n ≡ 5 → ⊥) → (n ≡ 14 → ⊥) → ⊥
@@ -68,11 +72,12 @@ module _ (e : Env) (k q : ℕ) (w : World) (sound : Sound limit (e .page) (w .se
   five : r .stop ≡ 5 → ⊥
   five = no-grammar-refusal-while-running limit e (omega arith) k q w sound stands
 
-  run-ends : {p cr : ℕ} {how : Next} → RunEnds (e .page) p cr how k r → Ends (e .page) p cr how (r .world) k (runOutcome r (e .page))
-  run-ends (lastStep.halts i m) = halts i (λ c. false≢true (rw c at m)) (rw (ne-eqb (r .stop) 14 (λ c. false≢true (rw c at m))))
-  run-ends (lastStep.runsOut p g i c) = runsOut p g i c (rw c)
-  run-ends (lastStep.pauses p a g i c n at) = pauses p a g i c n (rw (c, at))
-  run-ends (lastStep.breaks c) = absurd (five c)
+  run-ends : {p cr : ℕ} {how : Next} → ((q : ℕ) → GoesTo p cr how q → Stands (e .page) q) → RunEnds (e .page) p cr how k r
+      → Ends (e .page) p cr how (r .world) k (runOutcome r (e .page))
+  run-ends s (lastStep.halts i m) = halts i (λ c. false≢true (rw c at m)) (rw (ne-eqb (r .stop) 14 (λ c. false≢true (rw c at m))))
+  run-ends s (lastStep.runsOut p g i c) = runsOut p g (nothing-past limit e (omega arith) (sound .good) p (s p g) i) c (rw c)
+  run-ends s (lastStep.pauses p a g i c n at) = some-next limit e (omega arith) (sound .good) p a (s p g) i (λ x j. pauses p x g j c n (rw (c, at)))
+  run-ends s (lastStep.breaks c) = absurd (five c)
 
   run-more : (t : LastStep e k q w r) → OneMore e k (runOutcome (runFrom (t .before) e q w) (e .page)) (runOutcome r (e .page))
   run-more t =
@@ -82,24 +87,25 @@ module _ (e : Env) (k q : ℕ) (w : World) (sound : Sound limit (e .page) (w .se
       λ i. withSession (r′ .world) (unpaused-same (r′ .world .session) (run-steady (t .before) e q w .paused ∙ h) i) in
       let clear = run-steady k e q w .paused ∙ h in
       let p = set-or-not (eqb (r .stop) 14) (r .world) (pausedAt (r .at)) clear in
+      let before = run-goes limit e (omega arith) (sound .good) (t .before) q w stands (sound-fit sound) in
+      let here = goings-stands before (t .pauses) in
       record {
         paused = t .pauses;
         at = r′ .at;
         waits = rw c;
-        start = t .start;
-        follows = t .follows;
-        last = t .last;
-        rest = t .rest;
-        stands = t .stands;
+        last = its limit e (omega arith) (sound .good) (r′ .at) (t .start) (t .last) (t .rest) (r′ .world) here (t .follows) (t .stands);
+        next = its-next limit e (omega arith) (sound .good) (r′ .at) (t .start) (t .last) (t .rest) (r′ .world) here (t .follows) (t .stands);
         how = t .how;
         after = r .world;
         runs = rw c (ap (exec (envAt e (placeEnding e (t .start) (t .last))) (t .last .statement)) same ∙ t .goes);
         stops = λ a b. t .stops (λ i. of-unsaid (r .stop) i a five b);
         line = λ a b. a-last-steps-line limit e (omega arith) k q w sound stands a b t .line;
         named = lines-low limit (e .page) (omega arith) (sound .good) (placeEnding e (t .start) (t .last));
-        lies = λ a b. a-last-steps-line limit e (omega arith) k q w sound stands a b t .lies;
         clear = clear;
-        ends = run-ends (t .ends);
+        ends =
+            run-ends
+            (λ q′ to. goes-stands limit e (omega arith) (sound .good) (r′ .at) (t .start) (t .last) (t .rest) (r′ .world) here (t .follows) (t .stands) (goings-fit before) (t .goes) to)
+            (t .ends);
         session = p .session;
         page = refl;
         memory = p .memory;
@@ -125,7 +131,7 @@ module _ (e : Env) (k q : ℕ) (w : World) (sound : Sound limit (e .page) (w .se
 data Kind (e : Env) (w : World) (y : Typed) : Type 0 where
   runs : (q : ℕ) (u : World) → ((k : ℕ) → obey k e w y ≡ runOutcome (runFrom k e q u) (e .page)) → Kind e w y
   settles : ((k : ℕ) → obey k e w y .answer .stop ≡ 0) → ((k : ℕ) → obey k e w y .answer .steps ≡ 0) → Kind e w y
-  refuses : (n : ℕ) (u : World) → ((k : ℕ) → obey k e w y ≡ stops n u (e .page)) → Refused e [] (TypedItem e y) w u → u .inpos ≡ w .inpos → Kind e w y
+  refuses : (n : ℕ) (u : World) → ((k : ℕ) → obey k e w y ≡ stops n u (e .page)) → Refused e [] (OwnItem e w y) w u → u .inpos ≡ w .inpos → Kind e w y
 
 nothing-done : {W : List ℕ → Type 0} (e : Env) (w : World) → Refused e [] W w w
 nothing-done e w =
@@ -139,7 +145,7 @@ nothing-done e w =
 
 module _ (e : Env) (w : World) (y : Typed) where
   immediate-kind : (d : Done) → ((k : ℕ) → obey k e w y ≡ afterImmediate k e d) → worldAfter d .inpos ≡ w .inpos
-      → ((n : ℕ) (u : World) → d ≡ done (stop n) u → (n ≡ 0 → ⊥) → Refused e [] (TypedItem e y) w u) → Kind e w y
+      → ((n : ℕ) (u : World) → d ≡ done (stop n) u → (n ≡ 0 → ⊥) → Refused e [] (OwnItem e w y) w u) → Kind e w y
   immediate-kind (done on u) f i g = settles (λ k. rw (f k)) (λ k. rw (f k))
   immediate-kind (done skip u) f i g = settles (λ k. rw (f k)) (λ k. rw (f k))
   immediate-kind (done (go q) u) f i g = runs q u f
@@ -167,7 +173,7 @@ kind e w (store n t ms) = edit-kind e w (store n t ms) (with (record { line = n;
 kind e w (immediate q) =
     by-cases (needsProgram q)
     (λ h. refuses 3 w (λ k. rw (h, obey)) (nothing-done e w) refl)
-    (λ h. immediate-kind e w (immediate q) (exec e q w) (λ k. rw (h, obey)) (exec-keeps e q w h .same) (λ m u f z. refused-as (λ bs i. ofStatement i) (rw (needs-asks q h .1) at (refusing-statement e q w u m f z))))
+    (λ h. immediate-kind e w (immediate q) (exec e q w) (λ k. rw (h, obey)) (exec-keeps e q w h .same) (λ m u f z. refused-as (λ bs i. ofStatement i) (rw (needs-asks q h .1) at (a-refusing-statement e q w u m f z))))
 
 some-steps : {n : ℕ} → n ≡ 0 → 1 ≤ n → ⊥
 some-steps h n = omega arith
@@ -221,9 +227,9 @@ module _ (x : Lent) where
 
 -- and if it refused, it left all but INPUT's given variables as the call with one step less left it
 pub refused-last : {e : Env} {k : ℕ} {o' o : Outcome} (m : OneMore e k o' o) → (o .answer .stop ≡ 0 → ⊥) → (o .answer .stop ≡ 14 → ⊥)
-    → Refused (envAt e (placeEnding e (m .start) (m .last))) (inputVars (m .last .statement)) (ItemOf (envAt e (placeEnding e (m .start) (m .last))) (m .last .statement)) (worldLeft o') (m .after)
+    → Refused (envAt e (m .last .place)) (inputVars (m .last .statement)) (ItemIn (envAt e (m .last .place)) (worldLeft o') (m .last .statement)) (worldLeft o') (m .after)
 refused-last {e = e} {o' = o'} {o = o} m a b =
-    refusing-statement (envAt e (placeEnding e (m .start) (m .last))) (m .last .statement) (worldLeft o') (m .after) (o .answer .stop)
+    a-refusing-statement (envAt e (m .last .place)) (m .last .statement) (worldLeft o') (m .after) (o .answer .stop)
     (m .runs ∙ ap (λ (n : Next). done n (m .after)) (m .stops a b)) a
 
 -- A typed line's own refusal

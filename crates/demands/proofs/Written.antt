@@ -1,32 +1,27 @@
--- "Output only grows by whole items, input only by whole lines", of the calls, every stop; positions stay in range. Assumes nothing.
+-- "Output only grows by whole items, input only by whole lines": how, in the parts of a call; and so positions stay in range, every stop. Assumes nothing.
 use Prim.Native.Nat.{ℕ, zero, suc, _+_, _≤_}
 use mathlib.Core.Path.{_≡_, refl}
-use mathlib.Core.Bool.{Bool, true, false, true≢false}
+use mathlib.Core.Bool.{Bool, true, false}
 use mathlib.Core.List.{List, []}
-use mathlib.Core.Option.{some}
-use native.Mathlib.Nat.{add-zero}
 use native.Mathlib.Omega.{arith}
 use lib.ListN.{length}
 use lib.Seq.{length-sets}
 use lib.Dec.{leb, eqb}
-use Rattle.nibl.specs.Tree.{Typed, blank, new, clear, run, delete, list, store, immediate}
-use Rattle.nibl.specs.Read.{typed}
-use Rattle.nibl.specs.Typing.{Gathered}
+use Rattle.nibl.specs.Tree.{Stmt, Typed, blank, new, clear, run, delete, list, store, immediate}
 use Rattle.nibl.specs.Page.{Stored, recordsOf, programBytes, hasLine, without, with}
-use Rattle.nibl.specs.Meaning.{World, Env, on, skip, go, stop, Done, done, exec}
-use Rattle.nibl.specs.Calls.{Lent, Outcome, Ran, runFrom, envAt, afterStep, runOutcome, stops, lentWorld, begun, lentEnv, edited, listFrom, afterImmediate, needsProgram, obey, takeLine, continueFrom, continueRun, limit}
+use Rattle.nibl.specs.Meaning.{World, Env, on, skip, go, stop, Done, done, withSession, exec}
+use Rattle.nibl.specs.Record.{cleared}
+use Rattle.nibl.specs.Calls.{Lent, Outcome, Ran, runFrom, envAt, afterStep, runOutcome, stops, begun, lentEnv, edited, listFrom, afterImmediate, needsProgram, obey, takeLine, continueFrom, continueRun, limit}
 use Rattle.nibl.proofs.Words.{if-split}
-use Rattle.nibl.proofs.Lines.{typed-sound}
-use Rattle.demands.specs.Lent.{Typing, InRange}
-use Rattle.demands.specs.Effects.{GivesVariables, gave, refused, gives, Does, writes, takes, refuses, passes, skips, assigns, assignsFlags, stores, goesTo, saves, returns, loops, repeats, leaves, begins, again, finishes, inputs}
-use Rattle.demands.specs.Items.{TypedItem, ofList, ofStatement}
-use Rattle.demands.specs.Steps.{placeEnding, crOf, ProgramItem, ofMember, LineItem, ofTyped, ofProgram}
-use Rattle.demands.specs.Leaves.{WholeItems, noItem, item, WholeLines, noneTaken, line, WroteItems, WroteFrom, StaysInRange}
+use Rattle.demands.specs.Lent.{InRange}
+use Rattle.demands.proofs.Does.{GivesVariables, gave, refused, gives, Does, writes, takes, refuses, passes, skips, assigns, assignsFlags, stores, goesTo, saves, returns, loops, repeats, leaves, begins, again, finishes, inputs}
+use Rattle.demands.specs.Leaves.{WholeItems, noItem, item, WholeLines, noneTaken, line, WroteItems, StaysInRange}
 use Rattle.demands.proofs.Effects.{exec-does, list-does}
-use Rattle.demands.proofs.Runs.{every-run}
+use Rattle.demands.proofs.Runs.{placeEnding, crOf, every-run}
 use Rattle.demands.proofs.Ways.{Takes, noCR, overlong, unread, reads, every-line, Continues, refused′, continues, every-continue}
 use Rattle.demands.proofs.Ways as ways
 use Rattle.demands.proofs.Held.{worldAfter}
+use Rattle.demands.proofs.Running.{list-stays}
 use Rattle.demands.proofs.Carried.{gathered-inside}
 
 -- one after the other
@@ -40,13 +35,13 @@ module _ (W : List ℕ → Type 0) (lim : ℕ) (input : List ℕ) where
   lines-then (line g h s) t = line g h (lines-then s t)
 
   -- from one world to the next
-  abbrev Grew : World → World → Type 0
+  abbrev pub Grew : World → World → Type 0
   Grew w u = WroteItems W lim input (w .output) (w .outpos) (w .inpos) (u .output) (u .outpos) (u .inpos)
 
-  nothing-new : {out : List ℕ} {at from : ℕ} → WroteItems W lim input out at from out at from
+  pub nothing-new : {out : List ℕ} {at from : ℕ} → WroteItems W lim input out at from out at from
   nothing-new = record { items = noItem; lines = noneTaken }
 
-  grew-then : {a b c : List ℕ} {i j k m n o : ℕ} → WroteItems W lim input a i m b j n → WroteItems W lim input b j n c k o → WroteItems W lim input a i m c k o
+  pub grew-then : {a b c : List ℕ} {i j k m n o : ℕ} → WroteItems W lim input a i m b j n → WroteItems W lim input b j n c k o → WroteItems W lim input a i m c k o
   grew-then a b = record { items = items-then (a .items) (b .items); lines = lines-then (a .lines) (b .lines) }
 
   gives-grew : {w : World} {d : Done} → GivesVariables w d → Grew w (worldAfter d)
@@ -54,7 +49,7 @@ module _ (W : List ℕ → Type 0) (lim : ℕ) (input : List ℕ) where
   gives-grew (refused h) = nothing-new
   gives-grew (gives v x g) = let r = gives-grew g in record { items = r .items; lines = r .lines }
 
-  does-grew : {e : Env} {vs : List ℕ} {Y : List ℕ → Type 0} {w : World} {d : Done} → ((bs : List ℕ) → Y bs → W bs) → e .lim ≡ lim → e .input ≡ input → Does e vs Y w d → Grew w (worldAfter d)
+  pub does-grew : {e : Env} {vs : List ℕ} {Y : List ℕ → Type 0} {w : World} {d : Done} → ((bs : List ℕ) → Y bs → W bs) → e .lim ≡ lim → e .input ≡ input → Does e vs Y w d → Grew w (worldAfter d)
   does-grew f l i (writes bs n h d) = let r = does-grew f l i d in record { items = item bs (f bs n) h (r .items); lines = r .lines }
   does-grew f l i (takes g h d) = let r = does-grew f l i d in record { items = r .items; lines = line g (rw (l, i) at h) (r .lines) }
   does-grew c l i (refuses h) = nothing-new
@@ -81,88 +76,75 @@ module _ (W : List ℕ → Type 0) (lim : ℕ) (input : List ℕ) where
   after-grew w (done (stop n) u) p cr k r f = r
 
   -- up to what a call leaves
-  abbrev Came : World → Outcome → Type 0
+  abbrev pub Came : World → Outcome → Type 0
   Came w o = WroteItems W lim input (w .output) (w .outpos) (w .inpos) (o .output) (o .answer .outpos) (o .answer .inpos)
 
-  module _ (e : Env) (l : e .lim ≡ lim) (i : e .input ≡ input) (c : (bs : List ℕ) → ProgramItem e bs → W bs) where
-    run-grew : (k q : ℕ) (w : World) → Grew w (runFrom k e q w .world)
-    run-grew k q w =
-        every-run e (λ k q w r. Grew w (r .world)) (λ k q w h. nothing-new) (λ q w a h. nothing-new) (λ k q w a h g. nothing-new)
-        (λ k q w a m s h g f. after-grew w (exec (envAt e (placeEnding e a m)) (m .statement) w) (placeEnding e a m) (crOf e a) (runFrom k e)
-        (does-grew (λ bs n. c bs (ofMember a m s g n)) l i (exec-does (envAt e (placeEnding e a m)) (m .statement) w)) f) k q w
-
-    pub ended-came : (k q : ℕ) (w v : World) → Grew v w → Came v (runOutcome (runFrom k e q w) (e .page))
-    ended-came k q w v g =
+  module _ (e : Env) where
+    pub ended-came : (k q : ℕ) (w v : World) → Grew v w → Grew w (runFrom k e q w .world) → Came v (runOutcome (runFrom k e q w) (e .page))
+    ended-came k q w v g h =
         let r = runFrom k e q w in
-        let t = grew-then g (run-grew k q w) in
+        let t = grew-then g h in
         if-split (λ (u : World). Grew v u) (eqb (r .stop) 14) (λ _. record { items = t .items; lines = t .lines }) (λ _. t)
 
-    done-came : (k : ℕ) (w : World) (d : Done) → Grew w (worldAfter d) → Came w (afterImmediate k e d)
-    done-came k w (done on u) g = g
-    done-came k w (done skip u) g = g
-    done-came k w (done (go q) u) g = ended-came k q u w g
-    done-came k w (done (stop n) u) g = g
+    done-came : (k : ℕ) (w : World) (d : Done) → Grew w (worldAfter d) → ((q : ℕ) (u : World) → d ≡ done (go q) u → Grew u (runFrom k e q u .world)) → Came w (afterImmediate k e d)
+    done-came k w (done on u) g f = g
+    done-came k w (done skip u) g f = g
+    done-came k w (done (go q) u) g f = ended-came k q u w g (f q u refl)
+    done-came k w (done (stop n) u) g f = g
 
     edit-came : (w : World) (rs : List Stored) → Came w (edited (e .page) w rs)
     unfolding edited
     edit-came w rs = if-split (Came w) (leb (length (programBytes rs)) (length (e .page))) (λ _. nothing-new) (λ _. nothing-new)
 
-    pub obey-came : (k : ℕ) (w : World) (t : Typed) → ((bs : List ℕ) → TypedItem e t bs → W bs) → Came w (obey k e w t)
+    -- what a read line writes, of its own and by the run that it begins
+    pub record Parts (k : ℕ) (w : World) (t : Typed) : Type 0 where
+      pub lists : (n : ℕ) → t ≡ list n → Grew w (worldAfter (listFrom n (recordsOf (e .page)) w))
+      pub states : (s : Stmt) → t ≡ immediate s → Grew w (worldAfter (exec e s w))
+      pub runs : t ≡ run → Grew w (runFrom k e 0 (withSession w (cleared (w .session))) .world)
+      pub goes : (s : Stmt) (q : ℕ) (u : World) → t ≡ immediate s → needsProgram s ≡ false → exec e s w ≡ done (go q) u → Grew u (runFrom k e q u .world)
+
+    pub obey-came : (k : ℕ) (w : World) (t : Typed) → Parts k w t → Came w (obey k e w t)
     unfolding obey
     obey-came k w blank o = nothing-new
     obey-came k w new o = edit-came w []
     obey-came k w clear o = nothing-new
-    obey-came k w run o = ended-came k 0 _ w nothing-new
+    obey-came k w run o = ended-came k 0 _ w nothing-new (o .runs refl)
     obey-came k w (delete n) o = by (hasLine n (recordsOf (e .page))) where
       by : (b : Bool) → Came w (elim b [ true ↦ edited (e .page) w (without n (recordsOf (e .page))) | false ↦ stops 0 w (e .page) ])
       by true = edit-came w (without n (recordsOf (e .page)))
       by false = nothing-new
-    obey-came k w (list n) o = done-came k w (listFrom n (recordsOf (e .page)) w) (does-grew (λ bs n. o bs (ofList n)) l i (list-does e [] n (recordsOf (e .page)) w))
+    obey-came k w (list n) o = done-came k w (listFrom n (recordsOf (e .page)) w) (o .lists n refl) (λ q u h. absurd (list-stays n (recordsOf (e .page)) w q u h))
     obey-came k w (store n t ms) o = edit-came w (with (record { line = n; text = t }) (recordsOf (e .page)))
-    obey-came k w (immediate q) o = by (needsProgram q) where
-      by : (b : Bool) → Came w (elim b [ true ↦ stops 3 w (e .page) | false ↦ afterImmediate k e (exec e q w) ])
-      by true = nothing-new
-      by false = done-came k w (exec e q w) (does-grew (λ bs n. o bs (ofStatement n)) l i (exec-does e q w))
+    obey-came k w (immediate q) o = by (needsProgram q) refl where
+      by : (b : Bool) → needsProgram q ≡ b → Came w (elim b [ true ↦ stops 3 w (e .page) | false ↦ afterImmediate k e (exec e q w) ])
+      by true z = nothing-new
+      by false z = done-came k w (exec e q w) (o .states q refl) (λ p u h. o .goes q p u refl z h)
 
-module _ (x : Lent) where
-  abbrev env : Env
-  env = lentEnv limit x
+-- Whatever the items are, positions stay in range
+data AnItem : List ℕ → Type 0 where
+  some-item : {bs : List ℕ} → AnItem bs
 
-  still : {W : List ℕ → Type 0} {out : List ℕ} {at from : ℕ} → WroteItems W limit (x .input) out at from out at from
-  still = record { items = noItem; lines = noneTaken }
+module _ (e : Env) where
+  abbrev GrewSo : World → World → Type 0
+  GrewSo = Grew AnItem (e .lim) (e .input)
 
-  read-came : (g : Gathered) (t : Typed) → typed (g .line .bytes) ≡ some t → WroteFrom x (LineItem env g) (x .call .inpos + g .taken) (obey (x .call .budget) env (begun x (g .taken)) t)
-  read-came g t r =
-      obey-came (LineItem env g) limit (x .input) env refl refl (λ bs i. ofProgram i) (x .call .budget) (begun x (g .taken)) t (λ bs i. ofTyped t (typed-sound (g .line .bytes) t r) i)
+  run-grew : (k q : ℕ) (w : World) → GrewSo w (runFrom k e q w .world)
+  run-grew k q w =
+      every-run e (λ k q w r. GrewSo w (r .world)) (λ k q w h. nothing-new AnItem (e .lim) (e .input)) (λ q w a h. nothing-new AnItem (e .lim) (e .input))
+      (λ k q w a h g. nothing-new AnItem (e .lim) (e .input))
+      (λ k q w a m s h g f. after-grew AnItem (e .lim) (e .input) w (exec (envAt e (placeEnding e a m)) (m .statement) w) (placeEnding e a m) (crOf e a) (runFrom k e)
+      (does-grew AnItem (e .lim) (e .input) (λ bs n. some-item) refl refl (exec-does (envAt e (placeEnding e a m)) (m .statement) w)) f) k q w
 
-  typed-came : (g : Gathered) → Typing limit x g → {o : Outcome} → Takes limit x o → WroteFrom x (LineItem env g) (x .call .inpos + g .taken) o
-  typed-came g h (ways.refused e) = let z = h .sound in absurd (omega arith)
-  typed-came g h (noCR z e) = let l = h .line in let c : _≡_ {A = ℕ} 0 1 = cc in absurd (omega arith)
-  typed-came g h (overlong f z e l) = let i = h .line in let c : f ≡ g = cc in let s : f .line .long ≡ false = rw c (h .short) in absurd (true≢false (rw l at s))
-  typed-came g h (unread f y e) = let i = h .line in let j = y .line in let c : f ≡ g = cc in rw c still
-  typed-came g h (reads f t y e) = let i = h .line in let j = y .line in let c : f ≡ g = cc in rw (← c) (read-came f t e)
+  line-grew : (k : ℕ) (w : World) (t : Typed) → Came AnItem (e .lim) (e .input) w (obey k e w t)
+  line-grew k w t =
+      obey-came AnItem (e .lim) (e .input) e k w t
+      (record {
+        lists = λ n h. does-grew AnItem (e .lim) (e .input) (λ bs i. some-item) refl refl (list-does e [] n (recordsOf (e .page)) w);
+        states = λ s h. does-grew AnItem (e .lim) (e .input) (λ bs i. some-item) refl refl (exec-does e s w);
+        runs = λ h. let r = run-grew k 0 (withSession w (cleared (w .session))) in record { items = r .items; lines = r .lines };
+        goes = λ s q u h n d. run-grew k q u;
+      })
 
-  begun-grew : {W : List ℕ → Type 0} → Grew W limit (x .input) (lentWorld x) (begun x 0)
-  begun-grew = rw (add-zero (x .call .inpos)) still
-
-  continue-came : {o : Outcome} → Continues limit x o → WroteFrom x (ProgramItem env) (x .call .inpos) o
-  continue-came (refused′ e) = still
-  continue-came (continues e) = by (x .session .paused) where
-    by : (p : ℕ) → WroteFrom x (ProgramItem env) (x .call .inpos) (continueFrom limit x p)
-    by zero = begun-grew
-    by (suc q) = ended-came (ProgramItem env) limit (x .input) env refl refl (λ bs i. i) (x .call .budget) q (begun x 0) (lentWorld x) begun-grew
-
-  -- after the typed line, which is taken whole: the line's own items, and those of the run that it begins
-  pub a-line-writes-whole-items : (g : Gathered) → Typing limit x g → WroteFrom x (LineItem (lentEnv limit x) g) (x .call .inpos + g .taken) (takeLine x)
-  unfolding takeLine
-  a-line-writes-whole-items g h = typed-came g h (every-line limit x)
-
-  -- whatever is lent
-  pub continue-writes-whole-items : WroteFrom x (ProgramItem (lentEnv limit x)) (x .call .inpos) (continueRun x)
-  unfolding continueRun
-  continue-writes-whole-items = continue-came (every-continue limit x)
-
--- so positions stay in range
 items-inside : {W : List ℕ → Type 0} {a b : List ℕ} {i j : ℕ} → WholeItems W a i b j → i ≤ length a → j ≤ length b
 items-inside noItem h = h
 items-inside (item {out = out} {at = at} bs n l s) h = items-inside s (omega (arith, length-sets out at bs))
@@ -180,8 +162,20 @@ take-inside r (ways.refused e) = (r .inpos, r .outpos)
 take-inside r (noCR z e) = (r .inpos, r .outpos)
 take-inside {x = x} r (overlong g z e l) = (gathered-inside limit (x .input) (x .call .inpos) g (r .inpos) e, r .outpos)
 take-inside {x = x} r (unread g y e) = (gathered-inside limit (x .input) (x .call .inpos) g (r .inpos) (y .line), r .outpos)
-take-inside {x = x} r (reads g t y e) = wrote-inside (read-came x g t e) (gathered-inside limit (x .input) (x .call .inpos) g (r .inpos) (y .line)) (r .outpos)
+take-inside {x = x} r (reads g t y e) = wrote-inside (line-grew (lentEnv limit x) (x .call .budget) (begun x (g .taken)) t) (gathered-inside limit (x .input) (x .call .inpos) g (r .inpos) (y .line)) (r .outpos)
+
+continue-inside : {x : Lent} {o : Outcome} → InRange x → Continues limit x o → StaysInRange x o
+continue-inside r (refused′ e) = (r .inpos, r .outpos)
+continue-inside {x = x} r (continues e) = by (x .session .paused) where
+  inside : x .call .inpos + 0 ≤ length (x .input)
+  inside = omega (arith, r .inpos)
+
+  by : (p : ℕ) → StaysInRange x (continueFrom limit x p)
+  by zero = (inside, r .outpos)
+  by (suc q) =
+      wrote-inside (ended-came AnItem limit (x .input) (lentEnv limit x) (x .call .budget) q (begun x 0) (begun x 0) (nothing-new AnItem limit (x .input)) (run-grew (lentEnv limit x) (x .call .budget) q (begun x 0)))
+      inside (r .outpos)
 
 pub positions-stay-in-range : (x : Lent) → InRange x → StaysInRange x (takeLine x) × StaysInRange x (continueRun x)
-unfolding takeLine
-positions-stay-in-range x r = (take-inside r (every-line limit x), wrote-inside (continue-writes-whole-items x) (r .inpos) (r .outpos))
+unfolding takeLine continueRun
+positions-stay-in-range x r = (take-inside r (every-line limit x), continue-inside r (every-continue limit x))

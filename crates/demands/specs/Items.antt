@@ -6,9 +6,9 @@ use mathlib.Core.List.{List, [], _∷_}
 use lib.ListN.{length}
 use lib.Seq.{sets}
 use Rattle.nibl.specs.Bytes.{bytes}
-use Rattle.nibl.specs.Tree.{Expr, Item, text, stored, value, Stmt, print, ifThen, input, inputText, Typed, list, immediate}
+use Rattle.nibl.specs.Tree.{Expr, Item, text, stored, value, Stmt, print, ifThen, input, inputText}
 use Rattle.nibl.specs.Values.{Result, is, no, printed}
-use Rattle.nibl.specs.Page.{Stored, recordsOf}
+use Rattle.nibl.specs.Page.{Stored}
 use Rattle.nibl.specs.Meaning.{World, Env, on, stop, Done, done, withOutput, bind, eval, stringAt}
 use Rattle.nibl.specs.Calls.{listed}
 
@@ -34,11 +34,6 @@ pub data ItemOf (e : Env) : Stmt → List ℕ → Type 0 where
 -- a line of LIST
 pub data ListItem (n : ℕ) (rs : List Stored) : List ℕ → Type 0 where
   ofRecord : (r : Stored) → In r rs → n ≤ r .line → ListItem n rs (listed r)
-
--- an item that a typed line may write of its own, before any run
-pub data TypedItem (e : Env) : Typed → List ℕ → Type 0 where
-  ofList : {n : ℕ} {bs : List ℕ} → ListItem n (recordsOf (e .page)) bs → TypedItem e (list n) bs
-  ofStatement : {q : Stmt} {bs : List ℕ} → ItemOf e q bs → TypedItem e (immediate q) bs
 
 -- a world with one item more written
 abbrev pub wroteItem : World → List ℕ → World

@@ -11,7 +11,7 @@ use Rattle.nibl.specs.Bytes.{if_then_else_}
 use Rattle.nibl.specs.Typing.{Gathered, gather}
 use Rattle.nibl.specs.Stack.{popOf}
 use Rattle.nibl.specs.Tree.{Typed, blank, new, clear, run, delete, list, store, immediate}
-use Rattle.nibl.specs.Page.{Stored, isGood, recordsOf, programBytes, used}
+use Rattle.nibl.specs.Page.{Stored, recordsOf, programBytes, used}
 use Rattle.nibl.specs.Meaning.{World, Env, withSession}
 use Rattle.nibl.specs.Record.{mark, withGosubs, unpaused, stackless, cleared}
 use Rattle.nibl.specs.Calls.{Lent, Outcome, leftAll, answerOf, noLine, begun, takeLine, continueRun, limit}
@@ -21,6 +21,7 @@ use Rattle.nibl.specs.declared.Top.the-variants as top
 use Rattle.nibl.specs.declared.Answer.{Answer}
 use Rattle.demands.specs.Asks.{GivenIn}
 use Rattle.demands.specs.Lent.{gatheredLine}
+use Rattle.demands.specs.Good.{GoodPage}
 
 -- the records of a number, and the others, in their order
 abbrev pub ofLine : ℕ → List Stored → List Stored
@@ -73,7 +74,7 @@ pub record Edits (x : Lent) (taken : ℕ) (o : Outcome) : Type 0 where
   pub session : o .session ≡ stackless (unpaused (x .session))
   pub memory : o .memory ≡ x .memory
   pub output : o .output ≡ x .output
-  pub good : isGood limit (o .page) ≡ true
+  pub good : GoodPage limit (o .page)
   pub rising : Rising 0 (recordsOf (o .page))
   pub bytes : take (used (o .page)) (o .page) ≡ programBytes (recordsOf (o .page))
   pub long : length (o .page) ≡ length (x .page)

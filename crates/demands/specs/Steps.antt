@@ -1,31 +1,19 @@
 -- One statement more: what a call of one or more steps leaves, by the same call with one step less, which pauses before the last statement.
-use Prim.Native.Nat.{ℕ, suc, _+_, _-_, _<_}
+use Prim.Native.Nat.{ℕ, suc, _+_, _<_}
 use mathlib.Core.Path.{_≡_}
 use mathlib.Core.List.{List}
-use mathlib.Core.Option.{none, some}
-use lib.ListN.{length}
-use Rattle.nibl.specs.Tree.{Member, Typed}
-use Rattle.nibl.specs.Readings.{LineReading}
+use Rattle.nibl.specs.Tree.{Typed}
 use Rattle.nibl.specs.Typing.{Gathered}
-use Rattle.nibl.specs.Read.{found, member}
-use Rattle.nibl.specs.Page.{lineOf}
 use Rattle.nibl.specs.Meaning.{World, Env, Next, on, skip, go, stop, done, withSession, exec}
-use Rattle.nibl.specs.Calls.{Lent, Outcome, textFrom, lineFrom, envAt, lentEnv, noLine, stops, limit}
+use Rattle.nibl.specs.Calls.{Lent, Outcome, envAt, begun as worldBegun, lentEnv, noLine, stops, limit}
 use Rattle.nibl.specs.Record.{nowhere, pausedAt, withPaused, unpaused}
 use Rattle.demands.specs.Leaves.{WholeItems}
-use Rattle.demands.specs.Items.{ItemOf, TypedItem}
-use Rattle.page.specs.Standing.{LiesIn}
+use Rattle.demands.specs.ItemsIn.{OwnItem}
+use Rattle.demands.specs.Reading.{Standing, NextAt, PastTheLast}
 
 -- what a paused call left, as its next statement finds it
 abbrev pub worldLeft : Outcome → World
 worldLeft o = record { session = unpaused (o .session); memory = o .memory; output = o .output; outpos = o .answer .outpos; inpos = o .answer .inpos }
-
--- the place that ends the member m of the text from a on, and the CR behind that text
-abbrev pub placeEnding : Env → ℕ → Member → ℕ
-placeEnding e a m = a + (length (lineFrom (e .page) a) - m .left)
-
-abbrev pub crOf : Env → ℕ → ℕ
-crOf e a = a + length (lineFrom (e .page) a)
 
 -- where a run goes on after a member that ended so: p is its place, cr its record's CR
 pub data GoesTo (p cr : ℕ) : Next → ℕ → Type 0 where
@@ -38,34 +26,30 @@ pub data Ends (page : List ℕ) (p cr : ℕ) (how : Next) (after : World) (budge
   -- the statement gave the stop
   halts : how ≡ stop (o .answer .stop) → (o .answer .stop ≡ 14 → ⊥) → o .session ≡ after .session → Ends page p cr how after budget o
   -- "past the last line": nothing is left where it goes on
-  runsOut : (q : ℕ) → GoesTo p cr how q → textFrom page q ≡ none → o .answer .stop ≡ 0 → o .session ≡ after .session → Ends page p cr how after budget o
+  runsOut : (q : ℕ) → GoesTo p cr how q → PastTheLast page q → o .answer .stop ≡ 0 → o .session ≡ after .session → Ends page p cr how after budget o
   -- "budget spent and a statement still to run: paused", there
-  pauses : (q a : ℕ) → GoesTo p cr how q → textFrom page q ≡ some a → o .answer .stop ≡ 14 → o .answer .steps ≡ budget
+  pauses : (q : ℕ) (x : Standing) → GoesTo p cr how q → NextAt page q x → o .answer .stop ≡ 14 → o .answer .steps ≡ budget
       → o .session ≡ withPaused (after .session) (pausedAt q) → Ends page p cr how after budget o
 
 -- o is what one statement more makes of what o' left
 pub record OneMore (e : Env) (budget : ℕ) (o' o : Outcome) : Type 0 where
   pub paused : o' .answer .stop ≡ 14
-  -- the member that stands where it paused
+  -- the member that is next where it paused
   pub at : ℕ
   pub waits : o' .session .paused ≡ pausedAt at
-  pub start : ℕ
-  pub follows : textFrom (e .page) at ≡ some start
-  pub last : Member
-  pub rest : List ℕ
-  pub stands : member (lineFrom (e .page) start) ≡ found last rest
+  pub last : Standing
+  pub next : NextAt (e .page) at last
   -- what it did
   pub how : Next
   pub after : World
-  pub runs : exec (envAt e (placeEnding e start last)) (last .statement) (worldLeft o') ≡ done how after
+  pub runs : exec (envAt e (last .place)) (last .statement) (worldLeft o') ≡ done how after
   pub stops : (o .answer .stop ≡ 0 → ⊥) → (o .answer .stop ≡ 14 → ⊥) → how ≡ stop (o .answer .stop)
   -- the answer's line is that of its record, and not the number of none
-  pub line : (o .answer .stop ≡ 0 → ⊥) → (o .answer .stop ≡ 14 → ⊥) → o .answer .line ≡ lineOf (e .page) (placeEnding e start last)
-  pub named : lineOf (e .page) (placeEnding e start last) < noLine
-  pub lies : (o .answer .stop ≡ 0 → ⊥) → (o .answer .stop ≡ 14 → ⊥) → LiesIn (e .page) (placeEnding e start last) (lineOf (e .page) (placeEnding e start last))
+  pub line : (o .answer .stop ≡ 0 → ⊥) → (o .answer .stop ≡ 14 → ⊥) → o .answer .line ≡ last .line
+  pub named : last .line < noLine
   -- how the call ended
   pub clear : after .session .paused ≡ nowhere
-  pub ends : Ends (e .page) (placeEnding e start last) (crOf e start) how after budget o
+  pub ends : Ends (e .page) (last .place) (last .cr) how after budget o
   -- what it did is what the call leaves
   pub session : unpaused (o .session) ≡ after .session
   pub page : o .page ≡ o' .page
@@ -76,8 +60,8 @@ pub record OneMore (e : Env) (budget : ℕ) (o' o : Outcome) : Type 0 where
 
 -- what a call leaves whose run, from q on in the world w, made no step: nothing was left to run, or the budget is 0
 pub data NoStepMade (page : List ℕ) (budget q : ℕ) (w : World) (o : Outcome) : Type 0 where
-  nothingLeft : textFrom page q ≡ none → o ≡ stops 0 w page → NoStepMade page budget q w o
-  pausedAtOnce : (a : ℕ) → textFrom page q ≡ some a → budget ≡ 0 → o ≡ stops 14 (withSession w (withPaused (w .session) (pausedAt q))) page → NoStepMade page budget q w o
+  nothingLeft : PastTheLast page q → o ≡ stops 0 w page → NoStepMade page budget q w o
+  pausedAtOnce : (x : Standing) → NextAt page q x → budget ≡ 0 → o ≡ stops 14 (withSession w (withPaused (w .session) (pausedAt q))) page → NoStepMade page budget q w o
 
 -- A typed line's own refusal: the record but for its pause, the page and the memory are as before; the output only grows by whole items of the line's own; of
 -- the input the line is taken, and no more
@@ -85,7 +69,7 @@ pub record RefusedLine (x : Lent) (g : Gathered) (y : Typed) (o : Outcome) : Typ
   pub session : o .session ≡ unpaused (x .session)
   pub page : o .page ≡ x .page
   pub memory : o .memory ≡ x .memory
-  pub items : WholeItems (TypedItem (lentEnv limit x) y) (x .output) (x .call .outpos) (o .output) (o .answer .outpos)
+  pub items : WholeItems (OwnItem (lentEnv limit x) (worldBegun x (g .taken)) y) (x .output) (x .call .outpos) (o .output) (o .answer .outpos)
   pub inpos : o .answer .inpos ≡ x .call .inpos + g .taken
   pub steps : o .answer .steps ≡ 0
 
@@ -93,20 +77,11 @@ pub record RefusedLine (x : Lent) (g : Gathered) (y : Typed) (o : Outcome) : Typ
 -- nowhere. From is where the call begins a run, o' what it leaves with one step less
 pub data StandsAt (From : ℕ → World → Type 0) (e : Env) (budget : ℕ) (o' o : Outcome) : ℕ → Type 0 where
   begun : {q : ℕ} {w : World} → From q w → o .answer .steps ≡ 0 → StandsAt From e budget o' o q
-  later : {q : ℕ} (m : OneMore e budget o' o) → GoesTo (placeEnding e (m .start) (m .last)) (crOf e (m .start)) (m .how) q → StandsAt From e budget o' o q
+  later : {q : ℕ} (m : OneMore e budget o' o) → GoesTo (m .last .place) (m .last .cr) (m .how) q → StandsAt From e budget o' o q
 
--- a statement is left to run: a text follows there
+-- a statement is left to run: the one that is next there
 pub record LeftToRun (From : ℕ → World → Type 0) (e : Env) (budget : ℕ) (o' o : Outcome) : Type 0 where
   pub at : ℕ
-  pub start : ℕ
+  pub waiting : Standing
   pub stands : StandsAt From e budget o' o at
-  pub follows : textFrom (e .page) at ≡ some start
-
--- an item that a run may write: one of a member that stands in the page
-pub data ProgramItem (e : Env) : List ℕ → Type 0 where
-  ofMember : {bs : List ℕ} (a : ℕ) (m : Member) (s : List ℕ) → member (lineFrom (e .page) a) ≡ found m s → ItemOf (envAt e (placeEnding e a m)) (m .statement) bs → ProgramItem e bs
-
--- an item that the typed line g may write, of its own or by the run that it begins
-pub data LineItem (e : Env) (g : Gathered) : List ℕ → Type 0 where
-  ofTyped : {bs : List ℕ} (y : Typed) → LineReading (g .line .bytes) y → TypedItem e y bs → LineItem e g bs
-  ofProgram : {bs : List ℕ} → ProgramItem e bs → LineItem e g bs
+  pub next : NextAt (e .page) at waiting

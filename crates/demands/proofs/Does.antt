@@ -1,4 +1,5 @@
--- All that one statement can do, as a list of effects: what holds of each effect holds of every statement (proofs/Effects.antt).
+-- What one statement can do, as a coarse list of effects, for what holds of all of them alike: what holds of each effect holds of every statement
+-- (Effects.antt). Which statement has which effect, with which values, is in specs/Work.antt. Assumes nothing.
 use Prim.Native.Nat.{ℕ, suc, _+_, _%_, _≤_}
 use mathlib.Core.Path.{_≡_}
 use mathlib.Core.Bool.{true, false}
