@@ -336,7 +336,7 @@ fn round(work: u16, bytes: &mut [u8], ops: &mut [u32]) -> u16
         2..=4 => edits(bytes),
         5..=7 => finds(bytes),
         8 => check(bytes),
-        9 => steps(bytes, fresh()),
+        9 | 12 | 13 => steps(bytes, fresh()),
         10 => typed(bytes, fresh()),
         11 => typed(bytes, full()),
         _ => 0,
