@@ -2,27 +2,31 @@
 use Prim.Native.Nat.{ℕ, _+_, _-_, _*_, _≤_, _<_}
 use Prim.Native.String.{String}
 use mathlib.Core.Path.{_≡_, refl, sym, ap, _∙_}
+use mathlib.Core.Bool.{Bool, true, false, not, _||_, true≢false}
 use mathlib.Core.List.{List, [], _∷_}
 use mathlib.Core.Option.{Option, none, some}
 use native.Mathlib.Omega.{arith}
-use borrow.Author.Tests.{ne-eqb}
+use borrow.Author.Tests.{ne-eqb, eqb-false, not-true}
 use denote.Enum.Declared.{tagOf}
 use types.Run.{OneOf, miss}
+use lib.Dec.{eqb}
 use lib.ListN.{length, drop}
-use Rattle.nibl.specs.Words.{Token, keywords, number}
+use Rattle.nibl.specs.Bytes.{isSpace, past}
+use Rattle.nibl.specs.Words.{Token, variable, decimal, hex, string, sign, keywords, number}
 use Rattle.nibl.specs.Grammar.{Joints, jointOf, sumJoints}
 use Rattle.nibl.specs.Tree.{Op, times, dividedBy, andBits, plus, minus, orBits, equal, less, greater, atMost, atLeast, unequal, Expr, var, const}
-use Rattle.nibl.specs.Read.{Step, stepIn, nothing, found, Reader, onStep, signOf, aSign, jointFound, aJoint, choose, factorCases, factorOf, fail, give, ifKey, may, read, sum, factor}
+use Rattle.nibl.specs.Read.{Step, atEnd, wrong, got, stepIn, nothing, found, Reader, onStep, signOf, aSign, jointFound, aJoint, choose, factorCases, factorOf, fail, give, ifKey, may, read, sum, factor}
 use Rattle.nibl.proofs.Sound.{read-factor, read-sum}
 use Rattle.word.specs.declared.Cursor.{Cursor}
 use Rattle.word.specs.declared.Word.{Word}
 use Rattle.word.specs.declared.Word.the-variants.{Variable, Decimal, Hex, Text, Sign, End, Wrong}
 use Rattle.word.proofs.Word.{the-type}
-use Rattle.word.specs.Found.{stepOf, WordIs}
+use Rattle.word.specs.Found.{stepOf, WordIs, firstOf, beginning}
+use Rattle.word.proofs.Firsts.{sign-begins}
 use Rattle.codes.specs.Codes.{op, codeConstant, codeVariable, codeOperator}
 use Rattle.codes.specs.Operators.{opNumber, operatorCount}
 use Rattle.relation.specs.Code.{values}
-use Rattle.relation.specs.Makes.{stopped, refused, onto, Over, Stood, stood, Absent, absent, SignIs, nowhere, another, KeyIs, there, jointsOf, numberOf, JointIs, plainly, negated, LeadIs, cases, FormIs, whole, other, AtomIs, missing, goes, Leads, only}
+use Rattle.relation.specs.Makes.{stopped, refused, onto, Over, Stood, stood, Absent, absent, SignIs, Otherwise, nowhere, another, KeyIs, there, jointsOf, firstIn, mayJoin, mayLead, numberOf, JointIs, plainly, negated, LeadIs, cases, FormIs, whole, other, AtomIs, missing, goes, Leads, only}
 use Rattle.relation.specs.declared.Made.{Made}
 use Rattle.relation.specs.declared.Made.the-variants.{Next, NoReading}
 use Rattle.relation.specs.declared.Signed.the-variants as signed
@@ -154,6 +158,81 @@ module _ (js : Joints) where
       → JointIs js text r (joined.By v m)
   joint-found {k} f z w h = operator-found (jointOf js k) refl f z w h
 
+-- What a look at one byte rules out
+module _ (s : List ℕ) where
+  sign-of : (w : Step) → stepIn keywords s ≡ w → aSign s ≡ onStep w signOf
+  unfolding aSign
+  sign-of w e = ap (λ (x : Step). onStep x signOf) e
+
+  other-step : (k : ℕ) → eqb (firstOf (past isSpace s)) (beginning k) ≡ false → (w : Step) → stepIn keywords s ≡ w → Otherwise k (onStep w signOf)
+  other-step k h atEnd e = nowhere
+  other-step k h wrong e = nowhere
+  other-step k h (got (variable v) t) e = nowhere
+  other-step k h (got (decimal n) t) e = nowhere
+  other-step k h (got (hex n) t) e = nowhere
+  other-step k h (got (string bs) t) e = nowhere
+  other-step k h (got (sign j) t) e = another (ne-eqb j k (λ f. eqb-false (firstOf (past isSpace s)) (beginning k) h (sym (sign-begins s e) ∙ ap beginning f)))
+
+  pub other-first : (k : ℕ) → eqb (firstOf (past isSpace s)) (beginning k) ≡ false → Otherwise k (aSign s)
+  other-first k h = rw (sign-of (stepIn keywords s) refl) (other-step k h (stepIn keywords s) refl)
+
+or-false : (p q : Bool) → p || q ≡ false → (p ≡ false) × (q ≡ false)
+or-false true q e = absurd (true≢false e)
+or-false false q e = (refl, e)
+
+no-begin : (js : Joints) (b k : ℕ) → b ≡ beginning k → mayJoin js b ≡ false → jointOf js k ≡ none
+no-begin [] b k e h = refl
+no-begin (j ∷ js) b k e h =
+    let o = or-false (eqb b (beginning (j .0))) (mayJoin js b) h in
+    rw (ne-eqb k (j .0) (λ f. eqb-false b (beginning (j .0)) (o .0) (e ∙ ap beginning f))) (no-begin js b k e (o .1))
+
+module _ (js : Joints) (s : List ℕ) (h : mayJoin js (firstOf (past isSpace s)) ≡ false) where
+  joint-step : (w : Step) → stepIn keywords s ≡ w → aJoint js s ≡ nothing
+  unfolding aJoint
+  joint-step atEnd e = then-nothing aSign _ s (sign-of s atEnd e)
+  joint-step wrong e = then-nothing aSign _ s (sign-of s wrong e)
+  joint-step (got (variable v) t) e = then-nothing aSign _ s (sign-of s (got (variable v) t) e)
+  joint-step (got (decimal n) t) e = then-nothing aSign _ s (sign-of s (got (decimal n) t) e)
+  joint-step (got (hex n) t) e = then-nothing aSign _ s (sign-of s (got (hex n) t) e)
+  joint-step (got (string bs) t) e = then-nothing aSign _ s (sign-of s (got (string bs) t) e)
+  joint-step (got (sign k) t) e =
+      then-found aSign _ s (sign-of s (got (sign k) t) e) ∙ ap (λ q. jointFound q t) (no-begin js (firstOf (past isSpace s)) k (sym (sign-begins s e)) h)
+
+  -- where no operator of the list can begin, none stands
+  pub joint-first : aJoint js s ≡ nothing
+  joint-first = joint-step (stepIn keywords s) refl
+
+pub first-stopped : (text : List ℕ) {r : Made} → r ≡ NoReading → 0 ≡ firstIn text r
+first-stopped text e = rw e refl
+
+pub first-next : (text : List ℕ) {r : Made} {c : Cursor} {o b : ℕ} → r ≡ Next c o → b ≡ firstOf (past isSpace (drop (c .at) text)) → b ≡ firstIn text r
+first-next text e f = rw e f
+
+module _ {text : List ℕ} where
+  no-joint-first : (js : Joints) (r : Made) → mayJoin js (firstIn text r) ≡ false → JointIs js text r joined.Alone
+  no-joint-first js NoReading h = stopped
+  no-joint-first js (Next c o) h = absent (joint-first js (drop (c .at) text) h)
+
+  pub joint-look : (js : Joints) (r : Made) {b : ℕ} {t : Bool} → b ≡ firstIn text r → t ≡ mayJoin js b → not t ≡ true → JointIs js text r joined.Alone
+  joint-look js r {b} {t} f g h = no-joint-first js r (ap (mayJoin js) (sym f) ∙ sym g ∙ not-true t h)
+
+-- the bytes that operators begin with
+infixr 5 _nor_
+pub data NoneBegins (b : ℕ) : Joints → Type 0 where
+  neither : NoneBegins b []
+  _nor_ : {n : ℕ} {q : Op} {js : Joints} → (b ≡ beginning n → ⊥) → NoneBegins b js → NoneBegins b ((n, q) ∷ js)
+
+no-may : {b : ℕ} {js : Joints} → NoneBegins b js → mayJoin js b ≡ false
+no-may neither = refl
+no-may {b} (_nor_ {n} d h) = rw (ne-eqb b (beginning n) d) (no-may h)
+
+module _ (l : ℕ) {b : ℕ} {js : Joints} (e : jointsOf l ≡ js) where
+  pub may-begin : (n : ℕ) → mayJoin js n ≡ true → b ≡ n → true ≡ mayJoin (jointsOf l) b
+  may-begin n h f = rw (e, f) (sym h)
+
+  pub may-not : NoneBegins b js → false ≡ mayJoin (jointsOf l) b
+  may-not h = rw (e, no-may h)
+
 -- A number in a list of cases, or in none of them
 infixr 5 _but_
 pub data NoneOf {C : Type 0} (k : ℕ) : List (ℕ × C) → Type 0 where
@@ -198,6 +277,10 @@ module _ {X A : Type 0} {text : List ℕ} (name : String) (R S : X → Reader A)
   with-none stopped = stopped
   with-none (absent {c} e) = onto {c = c} {d = c} (λ x. if-other name (R x) (S x) _ (rw e nowhere)) (λ i. i)
 
+  pub with-look : (r : Made) → eqb (firstIn text r) (beginning (number name)) ≡ false → Leads (λ x. ifKey name (R x) (S x)) S text r r
+  with-look NoReading h = stopped
+  with-look (Next c o) h = onto {c = c} {d = c} (λ x. if-other name (R x) (S x) _ (other-first (drop (c .at) text) (number name) h)) (λ i. i)
+
 -- How a sum begins
 module _ {text : List ℕ} {r : Made} where
   sum-minus : {m : Made} → Leads (only (ifKey "-" negated (may "+" plainly))) (only negated) text r m → Leads (only (read sum)) (only negated) text r m
@@ -219,3 +302,8 @@ module _ {text : List ℕ} {r : Made} where
 
     pub lead-other : (k ≡ number "-" → ⊥) → (k ≡ number "+" → ⊥) → SignIs text r (signed.By k m) → LeadIs text r (Plain r)
     lead-other d e h = (sum-plain (with-other "-" _ _ d h) (with-other "+" _ _ e h), omega arith, λ j. omega arith)
+
+  pub lead-look : {b : ℕ} {t : Bool} → b ≡ firstIn text r → t ≡ mayLead b → not t ≡ true → LeadIs text r (Plain r)
+  lead-look {b} {t} f g h =
+      let n = or-false (eqb (firstIn text r) (beginning (number "+"))) (eqb (firstIn text r) (beginning (number "-"))) (ap mayLead (sym f) ∙ sym g ∙ not-true t h) in
+      (sum-plain (with-look "-" _ _ r (n .1)) (with-look "+" _ _ r (n .0)), omega arith, λ j. omega arith)

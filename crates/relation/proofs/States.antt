@@ -126,6 +126,14 @@ module _ {X A : Type 0} {R S : X → Reader A} {pre : X → List ℕ} {code : A 
   same h (refused e) = refused (λ x. h x _ ∙ e x)
   same h (given grow tail e f i w) = given grow tail (λ x. h x _ ∙ e x) f i w
 
+-- The same states by other names
+module _ {X A : Type 0} {R : X → Reader A} {pre : X → List ℕ} {code : A → List ℕ} {text ops ops' : List ℕ} {r s q : Made} where
+  pub from-state : r ≡ q → Reads R pre code text ops q ops' s → Reads R pre code text ops r ops' s
+  from-state e y = rw e y
+
+  pub to-state : s ≡ q → Reads R pre code text ops r ops' s → Reads R pre code text ops r ops' q
+  to-state e y = rw e at y
+
 module _ {A : Type 0} {code : A → List ℕ} {text : List ℕ} where
   -- nothing is read
   pub idle : {ops : List ℕ} (s : Made) → Gives give code code text ops ops s s

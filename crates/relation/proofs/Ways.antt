@@ -1,9 +1,9 @@
 -- One law for each way out of the readers of a relation. Assumes nothing.
-use Prim.Native.Nat.{ℕ, suc, _+_}
-use mathlib.Core.Path.{_≡_, refl, ap, _∙_}
+use Prim.Native.Nat.{ℕ, suc, _+_, _≤_}
+use mathlib.Core.Path.{_≡_, refl, ap, subst, _∙_}
 use mathlib.Core.List.{List, [], _∷_, _++_}
 use native.Mathlib.Omega.{arith}
-use lib.ListN.{drop}
+use lib.ListN.{length, drop}
 use Rattle.nibl.specs.Words.{number}
 use Rattle.nibl.specs.Grammar.{Joints, sumJoints}
 use Rattle.nibl.specs.Tree.{Op, Expr, negate, modulo, two}
@@ -12,9 +12,10 @@ use Rattle.nibl.proofs.Sound.{read-term, read-relation, read-related}
 use Rattle.relation.specs.Code.{values}
 use Rattle.codes.specs.Codes.{op, codeOperator, codeNegate, codeMod}
 use Rattle.codes.specs.Operators.{opNumber}
-use Rattle.relation.specs.Makes.{Written, Gives, stopped, refused, Reads, Makes, Leads, onto, only, bare, Over, Stood, stood, Absent, absent, KeyIs, JointIs, LeadIs, seconding, whole, prefix, bracket, pair, other, AtomIs, missing, goes}
+use Rattle.relation.specs.Makes.{ahead, need, Begins, Written, Gives, stopped, refused, Reads, Makes, Leads, onto, only, bare, Over, Stood, stood, Absent, absent, KeyIs, JointIs, LeadIs, seconding, whole, prefix, bracket, pair, other, AtomIs, missing, goes}
 use Rattle.relation.specs.declared.Made.{Made}
 use Rattle.relation.specs.declared.Made.the-variants.{Next, NoReading}
+use Rattle.relation.specs.declared.Joined.{Joined}
 use Rattle.relation.specs.declared.Joined.the-variants as joined
 use Rattle.relation.specs.declared.Lead.the-variants.{Minus, Plain}
 use Rattle.relation.specs.declared.Atom.the-variants as atom
@@ -34,6 +35,16 @@ negate-code a = refl
 modulo-code : (a b : Expr) → values (modulo a b) ≡ values a ++ (values b ++ (op codeMod 0 ∷ []))
 unfolding values
 modulo-code a b = refl
+
+joint-of : (js : Joints) (text : List ℕ) (x : Joined) {r q : Made} → r ≡ q → JointIs js text q x → JointIs js text r x
+joint-of js text x e j = rw e j
+
+-- The operands that were joined up to s since s₀: with those that follow, whatever they are, they are all that follow s₀
+pub record Joining (R : Expr → Reader Expr) (text ops₀ : List ℕ) (s₀ : Made) (ops : List ℕ) (s : Made) : Type 0 where
+  pub low : ahead text s ≤ ahead text s₀
+  pub few : (k : ℕ) → need k text s ≤ need k text s₀
+  pub on : (ops2 : List ℕ) (t : Made) → Reads R values values text ops s ops2 t → Reads R values values text ops₀ s₀ ops2 t
+  pub size : length ops ≡ length ops₀
 
 module _ {text : List ℕ} where
   -- a reader, and what follows what it reads
@@ -68,6 +79,33 @@ module _ {text : List ℕ} where
     pub join-end : {ops : List ℕ} {r : Made} → JointIs js text r joined.Alone → Reads R values values text ops r ops r
     join-end h = record { low = omega arith; few = λ k. omega arith; gives = led (alone-leads h) (idle _) }
 
+  -- Operands joined in turn, by a reader that goes on with itself
+  module _ (js : Joints) (p : Part) (R : Expr → Reader Expr) (law : (a : Expr) (s : List ℕ) → R a s ≡ moreOperands read js p R a s) where
+    pub joining-on : {ops₀ ops ops1 ops2 : List ℕ} {s₀ s q m f t : Made} {v : ℕ} → Joining R text ops₀ s₀ ops s → s ≡ q → JointIs js text q (joined.By v m)
+        → Makes (read p) values text ops m ops1 f → Written v ops1 f ops2 t → length ops2 ≡ length ops → Joining R text ops₀ s₀ ops2 t
+    joining-on {m = m} {v = v} g e i y w z =
+        let j = joint-of js text (joined.By v m) e i in
+        let o = stood-over (j .next) in
+        record {
+          low = omega (arith, g .low, y .low, o .low, written-ahead w text);
+          few = λ k. omega (arith, g .few k, o .spare k, y .few (suc k), written-need w text k);
+          on = λ ops3 u x. g .on ops3 u (join-on js p R R law j y w x);
+          size = z ∙ g .size;
+        }
+
+    pub joining-end : {ops₀ ops : List ℕ} {s₀ s q : Made} → Joining R text ops₀ s₀ ops s → s ≡ q → JointIs js text q joined.Alone → Reads R values values text ops₀ s₀ ops q
+    joining-end {ops = ops} {s = s} g e i = subst (Reads R values values text _ _ ops) e (g .on ops s (join-end js p R R law (joint-of js text joined.Alone e i)))
+
+  pub joining-none : (R : Expr → Reader Expr) (ops : List ℕ) (s : Made) → Joining R text ops s ops s
+  joining-none R ops s = record { low = omega arith; few = λ k. omega arith; on = λ ops2 t y. y; size = refl }
+
+  -- no reading is passed on
+  pub no-reading : {X A : Type 0} {R : X → Reader A} {pre : X → List ℕ} {code : A → List ℕ} {ops : List ℕ} {r : Made} → r ≡ NoReading → Reads R pre code text ops r ops NoReading
+  no-reading e = rw e record { low = omega arith; few = λ k. omega arith; gives = stopped }
+
+  pub joining-stop : {R : Expr → Reader Expr} {ops₀ ops : List ℕ} {s₀ s : Made} → Joining R text ops₀ s₀ ops s → s ≡ NoReading → Reads R values values text ops₀ s₀ ops NoReading
+  joining-stop {ops = ops} g e = g .on ops NoReading (no-reading e)
+
   module _ {ops ops1 : List ℕ} {r s : Made} where
     pub term-is : {ops2 : List ℕ} {t : Made} → Makes (read factor) values text ops r ops1 s → Reads (λ a. read (factors a)) values values text ops1 s ops2 t
         → Makes (read term) values text ops r ops2 t
@@ -79,6 +117,9 @@ module _ {text : List ℕ} where
 
     pub relation-end : Makes (read sum) values text ops r ops1 s → JointIs sumJoints text s joined.Alone → Makes (read relation) values text ops r ops1 s
     relation-end y j = sequel read-relation y (join-end sumJoints sum (λ a. read (related a)) give read-related j)
+
+  pub sum-stop : {ops ops1 : List ℕ} {r : Made} → Makes (read sum) values text ops r ops1 NoReading → Makes (read relation) values text ops r ops1 NoReading
+  sum-stop y = sequel read-relation y (no-reading refl)
 
   -- The sum
   module _ {ops ops1 ops2 : List ℕ} {r m s t : Made} where
@@ -95,6 +136,19 @@ module _ {text : List ℕ} where
           few = λ k. omega (arith, l .1 .spare k, y .few (suc k), written-need w text k, z .few k);
           gives = led (l .0) (same (λ x s. mapped (read term) negate (λ a. read (terms a)) s) (chain (closing (λ x a. negate a) (λ x a. negate-code a) (y .gives) w) (z .gives)));
         }
+
+  -- The first term of a sum
+  pub begins-plain : {ops ops1 : List ℕ} {r m s : Made} → LeadIs text r (Plain m) → Makes (read term) values text ops m ops1 s → Begins text ops r ops1 s
+  begins-plain l y = record { low = omega (arith, l .1, y .low); few = λ k. omega (arith, l .2 k, y .few k); on = λ ops2 t z. sum-plain l y z }
+
+  pub begins-minus : {ops ops1 ops2 : List ℕ} {r m s t : Made} → LeadIs text r (Minus m) → Makes (read term) values text ops m ops1 s → Written (op codeNegate 0) ops1 s ops2 t
+      → Begins text ops r ops2 t
+  begins-minus l y w =
+      record {
+        low = omega (arith, l .1 .low, y .low, written-ahead w text);
+        few = λ k. omega (arith, l .1 .spare k, y .few (suc k), written-need w text k);
+        on = λ ops3 u z. sum-minus l y w z;
+      }
 
   -- The factor
   failing : {ops ops' : List ℕ} (m : Made) → Gives (only fail) bare values text ops ops' m NoReading

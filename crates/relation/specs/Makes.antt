@@ -1,7 +1,7 @@
 -- What the contracts of the readers say. A reader goes from a state to a state: a cursor and the number of operations so far, or no reading.
 use Prim.Native.Nat.{ℕ, suc, _+_, _-_, _≤_, _<_}
 use mathlib.Core.Path.{_≡_}
-use mathlib.Core.Bool.{false}
+use mathlib.Core.Bool.{Bool, false, _||_}
 use mathlib.Core.List.{List, [], _∷_, _++_}
 use mathlib.Core.Option.{Option, none, some}
 use lib.ListN.{length, drop, set}
@@ -10,7 +10,10 @@ use lib.Dec.{eqb}
 use Rattle.nibl.specs.Grammar.{Joints, factorJoints, termJoints, sumJoints}
 use Rattle.nibl.specs.Tree.{Op, Expr, negate, modulo}
 use Rattle.nibl.specs.Read.{Found, nothing, found, Reader, aSign, aJoint, choose, fail, give, key, _>>=_, factorCases, read, factor, term, sum, relation, terms}
+use Rattle.nibl.specs.Words.{number}
 use Rattle.word.specs.declared.Cursor.{Cursor}
+use Rattle.word.specs.Found.{firstOf, beginning}
+use Rattle.nibl.specs.Bytes.{isSpace, past}
 use Rattle.relation.specs.Code.{values}
 use Rattle.codes.specs.Codes.{op, codeOperator}
 use Rattle.codes.specs.Operators.{opNumber, operatorCount}
@@ -123,6 +126,19 @@ joinsTerms = 1
 abbrev pub jointsOf : ℕ → Joints
 jointsOf n = choose ((joinsFactors, factorJoints) ∷ (joinsTerms, termJoints) ∷ []) sumJoints n
 
+-- the first byte of what stands next, 0 where nothing does
+abbrev pub firstIn : List ℕ → Made → ℕ
+firstIn text NoReading = 0
+firstIn text (Next c o) = firstOf (past isSpace (drop (c .at) text))
+
+-- whether an operator of a list can begin with a byte, and whether a sign before a sum can
+abbrev pub mayJoin : Joints → ℕ → Bool
+mayJoin [] b = false
+mayJoin (j ∷ js) b = eqb b (beginning (j .0)) || mayJoin js b
+
+abbrev pub mayLead : ℕ → Bool
+mayLead b = eqb b (beginning (number "+")) || eqb b (beginning (number "-"))
+
 -- an operator's number, or how many there are where there is none
 abbrev pub numberOf : Option Op → ℕ
 numberOf none = operatorCount
@@ -147,6 +163,12 @@ negated = read term >>= (λ a. read (terms (negate a)))
 abbrev pub LeadIs : List ℕ → Made → Lead → Type 0
 LeadIs text r (Minus m) = Leads (only (read sum)) (only negated) text r m × Over text r m
 LeadIs text r (Plain m) = Leads (only (read sum)) (only plainly) text r m × (ahead text m ≤ ahead text r) × ((k : ℕ) → need k text m ≤ need k text r)
+
+-- the first term of a sum is read from r to s: with the terms joined to it, whatever they are, it is the sum
+pub record Begins (text ops : List ℕ) (r : Made) (ops' : List ℕ) (s : Made) : Type 0 where
+  pub low : ahead text s ≤ ahead text r
+  pub few : (k : ℕ) → need k text s ≤ need k text r
+  pub on : (ops2 : List ℕ) (t : Made) → Reads (λ a. read (terms a)) values values text ops' s ops2 t → Makes (read sum) values text ops r ops2 t
 
 -- the parts of a factor
 abbrev pub bracketing : Reader Expr

@@ -1,7 +1,8 @@
 // The readers of a relation. They call each other in a cycle while the unread bytes of the text fall, and write
 // the operations of what they read into a lent list of numbers, which has room for one to each byte. Each goes
 // from a state to a state, so that readers follow one another with no test between them: where one finds no
-// reading, the rest of them pass that on.
+// reading, the rest of them pass that on. What does the work is handed the state's two numbers instead (`.._from`):
+// a state goes through memory, and there it costs more than the reading.
 use word::Cursor;
 use word::Word;
 use word::sign;
@@ -10,7 +11,7 @@ ghost use mathlib.Core.Path.{_≡_};
 ghost use lib.ListN.{length};
 ghost use Rattle.nibl.specs.Read.{read, factor, term, sum, relation, factors, terms};
 ghost use Rattle.relation.specs.Code.{values};
-ghost use Rattle.relation.specs.Makes.{need, filled, SignIs, KeyIs, numberOf, jointsOf, JointIs, LeadIs, FormIs, cases, AtomIs, Written, Reads, Makes};
+ghost use Rattle.relation.specs.Makes.{need, filled, SignIs, KeyIs, numberOf, jointsOf, JointIs, LeadIs, FormIs, cases, AtomIs, Written, Reads, Makes, Begins, firstIn, mayJoin, mayLead};
 ghost use Rattle.nibl.specs.Grammar.{jointOf};
 
 // The cursor past what was read and the number of operations so far, or no reading.
@@ -122,10 +123,51 @@ fn operator(level: u8, k: u8) -> u8
     }
 }
 
-// The operator that joins factors, terms or sums, where one stands next.
+// The first byte of what stands next; 0 where nothing does.
+fn first_of(text: &[u8], r: Made) -> u8
+    ensures { λ b. ⌜ b ≡ firstIn (now (text .entry)) r ⌝ }
+{
+    let Made::Next(c, _) = r else {
+        return 0;
+    };
+    word::first_at(text, c)
+}
+
+// Whether an operator that joins factors, terms or sums can begin with a byte.
+fn may_join(level: u8, b: u8) -> bool
+    ensures { λ r. ⌜ r ≡ mayJoin (jointsOf level) b ⌝ }
+{
+    if level == FACTORS {
+        return match b {
+            sign::TIMES => true,
+            sign::DIVIDE => true,
+            b'A' => true,
+            _ => false,
+        };
+    }
+    if level == TERMS {
+        return match b {
+            sign::PLUS => true,
+            sign::MINUS => true,
+            b'O' => true,
+            _ => false,
+        };
+    }
+    match b {
+        sign::EQUAL => true,
+        sign::LESS => true,
+        sign::GREATER => true,
+        _ => false,
+    }
+}
+
+// The operator that joins factors, terms or sums, where one stands next. No word is read where none can begin.
 fn joint_at(text: &[u8], r: Made, level: u8) -> Joined
     ensures { λ j. ⌜ JointIs (jointsOf level) (now (text .entry)) r j ⌝ }
 {
+    if !may_join(level, first_of(text, r)) {
+        return Joined::Alone;
+    }
     let w = sign_at(text, r);
     let Signed::By(k, m) = w else {
         return Joined::Alone;
@@ -191,11 +233,11 @@ fn atom_at(text: &[u8], r: Made) -> Atom
 }
 
 // A variable, a constant, STAT or TOP; a relation in parentheses; "@" or NOT before a factor; MOD of two relations.
-pub fn read_factor(text: &[u8], r: Made, ops: &mut [u32]) -> Made
-    requires { ⌜ need 0 (now text) r ≤ length (now ops) ⌝ }
-    ensures { λ s. ⌜ Makes (read factor) values (now (text .entry)) (now (ops .entry)) r (now (ops .exit)) s ⌝ }
+fn factor_from(text: &[u8], c: Cursor, o: usize, ops: &mut [u32]) -> Made
+    requires { ⌜ need 0 (now text) (Made.Next c o) ≤ length (now ops) ⌝ }
+    ensures { λ s. ⌜ Makes (read factor) values (now (text .entry)) (now (ops .entry)) (Made.Next c o) (now (ops .exit)) s ⌝ }
 {
-    let a = atom_at(text, r);
+    let a = atom_at(text, Made::Next(c, o));
     match a {
         Atom::Whole(v, m) => write(ops, m, v),
         Atom::Prefix(v, m) => {
@@ -218,28 +260,55 @@ pub fn read_factor(text: &[u8], r: Made, ops: &mut [u32]) -> Made
     }
 }
 
-// A factor and those joined to it.
+// A factor from a state on.
+pub fn read_factor(text: &[u8], r: Made, ops: &mut [u32]) -> Made
+    requires { ⌜ need 0 (now text) r ≤ length (now ops) ⌝ }
+    ensures { λ s. ⌜ Makes (read factor) values (now (text .entry)) (now (ops .entry)) r (now (ops .exit)) s ⌝ }
+{
+    let Made::Next(c, o) = r else {
+        return Made::NoReading;
+    };
+    factor_from(text, c, o, ops)
+}
+
+// A factor, and those joined to it by * / AND.
+fn term_from(text: &[u8], c: Cursor, o: usize, ops: &mut [u32]) -> Made
+    requires { ⌜ need 0 (now text) (Made.Next c o) ≤ length (now ops) ⌝ }
+    ensures { λ s. ⌜ Makes (read term) values (now (text .entry)) (now (ops .entry)) (Made.Next c o) (now (ops .exit)) s ⌝ }
+{
+    let mut s = factor_from(text, c, o, ops);
+    loop {
+        let Made::Next(d, n) = s else {
+            return Made::NoReading;
+        };
+        let j = joint_at(text, Made::Next(d, n), FACTORS);
+        let Joined::By(v, m) = j else {
+            return Made::Next(d, n);
+        };
+        let f = read_factor(text, m, ops);
+        s = write(ops, f, v);
+    }
+}
+
+// A term from a state on.
 fn read_term(text: &[u8], r: Made, ops: &mut [u32]) -> Made
     requires { ⌜ need 0 (now text) r ≤ length (now ops) ⌝ }
     ensures { λ s. ⌜ Makes (read term) values (now (text .entry)) (now (ops .entry)) r (now (ops .exit)) s ⌝ }
 {
-    let f = read_factor(text, r, ops);
-    more_factors(text, f, ops)
+    let Made::Next(c, o) = r else {
+        return Made::NoReading;
+    };
+    term_from(text, c, o, ops)
 }
 
-// The factors that are joined by * / AND.
-fn more_factors(text: &[u8], r: Made, ops: &mut [u32]) -> Made
-    requires { ⌜ need 0 (now text) r ≤ length (now ops) ⌝ }
-    ensures { λ s. ⌜ Reads (λ a. read (factors a)) values values (now (text .entry)) (now (ops .entry)) r (now (ops .exit)) s ⌝ }
+// Whether a sign before a sum can begin with a byte.
+fn may_lead(b: u8) -> bool
+    ensures { λ r. ⌜ r ≡ mayLead b ⌝ }
 {
-    let j = joint_at(text, r, FACTORS);
-    match j {
-        Joined::By(v, m) => {
-            let f = read_factor(text, m, ops);
-            let g = write(ops, f, v);
-            more_factors(text, g, ops)
-        }
-        Joined::Alone => r,
+    match b {
+        sign::PLUS => true,
+        sign::MINUS => true,
+        _ => false,
     }
 }
 
@@ -247,6 +316,9 @@ fn more_factors(text: &[u8], r: Made, ops: &mut [u32]) -> Made
 fn lead_at(text: &[u8], r: Made) -> Lead
     ensures { λ l. ⌜ LeadIs (now (text .entry)) r l ⌝ }
 {
+    if !may_lead(first_of(text, r)) {
+        return Lead::Plain(r);
+    }
     let w = sign_at(text, r);
     let Signed::By(k, m) = w else {
         return Lead::Plain(r);
@@ -260,53 +332,77 @@ fn lead_at(text: &[u8], r: Made) -> Lead
     Lead::Plain(r)
 }
 
-// A sign or none, a term, and those joined to it.
+// A sign or none, and the first term of a sum.
+fn first_term(text: &[u8], c: Cursor, o: usize, ops: &mut [u32]) -> Made
+    requires { ⌜ need 0 (now text) (Made.Next c o) ≤ length (now ops) ⌝ }
+    ensures { λ s. ⌜ Begins (now (text .entry)) (now (ops .entry)) (Made.Next c o) (now (ops .exit)) s ⌝ }
+{
+    let l = lead_at(text, Made::Next(c, o));
+    match l {
+        Lead::Minus(m) => {
+            let t = read_term(text, m, ops);
+            write(ops, t, codes::NEGATE)
+        }
+        Lead::Plain(m) => read_term(text, m, ops),
+    }
+}
+
+// A sign or none, a term, and those joined to it by + - OR.
+fn sum_from(text: &[u8], c: Cursor, o: usize, ops: &mut [u32]) -> Made
+    requires { ⌜ need 0 (now text) (Made.Next c o) ≤ length (now ops) ⌝ }
+    ensures { λ s. ⌜ Makes (read sum) values (now (text .entry)) (now (ops .entry)) (Made.Next c o) (now (ops .exit)) s ⌝ }
+{
+    let mut s = first_term(text, c, o, ops);
+    loop {
+        let Made::Next(d, n) = s else {
+            return Made::NoReading;
+        };
+        let j = joint_at(text, Made::Next(d, n), TERMS);
+        let Joined::By(v, m) = j else {
+            return Made::Next(d, n);
+        };
+        let f = read_term(text, m, ops);
+        s = write(ops, f, v);
+    }
+}
+
+// A sum from a state on.
 fn read_sum(text: &[u8], r: Made, ops: &mut [u32]) -> Made
     requires { ⌜ need 0 (now text) r ≤ length (now ops) ⌝ }
     ensures { λ s. ⌜ Makes (read sum) values (now (text .entry)) (now (ops .entry)) r (now (ops .exit)) s ⌝ }
 {
-    let l = lead_at(text, r);
-    match l {
-        Lead::Minus(m) => {
-            let t = read_term(text, m, ops);
-            let n = write(ops, t, codes::NEGATE);
-            more_terms(text, n, ops)
-        }
-        Lead::Plain(m) => {
-            let t = read_term(text, m, ops);
-            more_terms(text, t, ops)
-        }
-    }
-}
-
-// The terms that are joined by + - OR.
-fn more_terms(text: &[u8], r: Made, ops: &mut [u32]) -> Made
-    requires { ⌜ need 0 (now text) r ≤ length (now ops) ⌝ }
-    ensures { λ s. ⌜ Reads (λ a. read (terms a)) values values (now (text .entry)) (now (ops .entry)) r (now (ops .exit)) s ⌝ }
-{
-    let j = joint_at(text, r, TERMS);
-    match j {
-        Joined::By(v, m) => {
-            let t = read_term(text, m, ops);
-            let g = write(ops, t, v);
-            more_terms(text, g, ops)
-        }
-        Joined::Alone => r,
-    }
+    let Made::Next(c, o) = r else {
+        return Made::NoReading;
+    };
+    sum_from(text, c, o, ops)
 }
 
 // A sum, and another that it is compared with, if any.
-pub fn read_relation(text: &[u8], r: Made, ops: &mut [u32]) -> Made
-    requires { ⌜ need 0 (now text) r ≤ length (now ops) ⌝ }
-    ensures { λ s. ⌜ Makes (read relation) values (now (text .entry)) (now (ops .entry)) r (now (ops .exit)) s ⌝ }
+fn relation_from(text: &[u8], c: Cursor, o: usize, ops: &mut [u32]) -> Made
+    requires { ⌜ need 0 (now text) (Made.Next c o) ≤ length (now ops) ⌝ }
+    ensures { λ s. ⌜ Makes (read relation) values (now (text .entry)) (now (ops .entry)) (Made.Next c o) (now (ops .exit)) s ⌝ }
 {
-    let f = read_sum(text, r, ops);
-    let j = joint_at(text, f, SUMS);
+    let f = sum_from(text, c, o, ops);
+    let Made::Next(d, n) = f else {
+        return Made::NoReading;
+    };
+    let j = joint_at(text, Made::Next(d, n), SUMS);
     match j {
         Joined::By(v, m) => {
             let g = read_sum(text, m, ops);
             write(ops, g, v)
         }
-        Joined::Alone => f,
+        Joined::Alone => Made::Next(d, n),
     }
+}
+
+// A relation from a state on.
+pub fn read_relation(text: &[u8], r: Made, ops: &mut [u32]) -> Made
+    requires { ⌜ need 0 (now text) r ≤ length (now ops) ⌝ }
+    ensures { λ s. ⌜ Makes (read relation) values (now (text .entry)) (now (ops .entry)) r (now (ops .exit)) s ⌝ }
+{
+    let Made::Next(c, o) = r else {
+        return Made::NoReading;
+    };
+    relation_from(text, c, o, ops)
 }

@@ -304,7 +304,7 @@ fn round(work: u16, bytes: &mut [u8], ops: &mut [u32]) -> u16
         2..=4 => edits(bytes),
         5..=7 => finds(bytes),
         8 => check(bytes),
-        9 => steps(bytes, Session::fresh()),
+        9 | 12 | 13 => steps(bytes, Session::fresh()),
         10 => typed(bytes, Session::fresh()),
         11 => typed(bytes, full()),
         _ => 0,

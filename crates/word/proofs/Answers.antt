@@ -119,7 +119,7 @@ step-blank : (table : List (List ℕ)) (b : ℕ) (s : List ℕ) → isSpace b �
 unfolding stepIn
 step-blank table b s e = rw (e, stepIn) refl
 
-step-word : (table : List (List ℕ)) (b : ℕ) (s : List ℕ) → isSpace b ≡ false → stepIn table (b ∷ s) ≡ wordStep table b s
+pub step-word : (table : List (List ℕ)) (b : ℕ) (s : List ℕ) → isSpace b ≡ false → stepIn table (b ∷ s) ≡ wordStep table b s
 unfolding stepIn
 step-word table b s e = rw (e, stepIn) refl
 
@@ -128,11 +128,11 @@ past-blank : (table : List (List ℕ)) (b : ℕ) (s : List ℕ) → stepIn table
 past-blank table b s ih true e = step-blank table b s e ∙ ih ∙ ap (stepIn table) (sym (past-go isSpace b s e))
 past-blank table b s ih false e = ap (stepIn table) (sym (past-stop isSpace (b ∷ s) e))
 
-step-past : (table : List (List ℕ)) (s : List ℕ) → stepIn table s ≡ stepIn table (past isSpace s)
+pub step-past : (table : List (List ℕ)) (s : List ℕ) → stepIn table s ≡ stepIn table (past isSpace s)
 step-past table [] = refl
 step-past table (b ∷ s) = past-blank table b s (step-past table s) (isSpace b) refl
 
-step-end : (table : List (List ℕ)) → stepIn table [] ≡ atEnd
+pub step-end : (table : List (List ℕ)) → stepIn table [] ≡ atEnd
 unfolding stepIn
 step-end table = refl
 

@@ -1,9 +1,9 @@
 -- What the contracts of the word reader say, beyond the definition of words.
-use Prim.Native.Nat.{ℕ, suc, _+_, _-_, _*_, _≤_, _<_}
+use Prim.Native.Nat.{ℕ, zero, suc, _+_, _-_, _*_, _≤_, _<_}
 use mathlib.Core.Path.{_≡_}
-use mathlib.Core.Bool.{Bool, true, false}
+use mathlib.Core.Bool.{Bool, true, false, _||_}
 use mathlib.Core.List.{List, [], _∷_, map}
-use lib.Dec.{eqb}
+use lib.Dec.{eqb, leb}
 use lib.ListN.{length, drop}
 use lib.Seq.{slice}
 use Rattle.nibl.specs.Bytes.{if_then_else_, classSpace, classCapital, isSpace, isDigit, isCapital, isHexDigit, isQuotable, front, past, decimalValue}
@@ -91,3 +91,21 @@ quotedAt s = quotedStep (front isQuotable s) (past isQuotable s)
 abbrev pub symbolAt : List ℕ → Step
 symbolAt [] = wrong
 symbolAt (b ∷ s) = if isSymbol b then symbolStep b s else wrong
+
+-- the first byte of a text, 0 where it has none
+abbrev pub firstOf : List ℕ → ℕ
+firstOf [] = 0
+firstOf (b ∷ s) = b
+
+abbrev pub spelling : List (List ℕ) → ℕ → List ℕ
+spelling [] n = []
+spelling (w ∷ ws) zero = w
+spelling (w ∷ ws) (suc n) = spelling ws n
+
+-- the byte that a sign begins with: a keyword by its first letter, <= and <> by "<", >= by ">", a symbol by itself
+abbrev pub beginning : ℕ → ℕ
+beginning k =
+    if leb firstKeyword k then firstOf (spelling keywords (k - firstKeyword))
+    else if eqb k 1 || eqb k 3 then 60
+    else if eqb k 2 then 62
+    else k

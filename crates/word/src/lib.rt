@@ -5,10 +5,10 @@ ghost use mathlib.Core.Path.{_≡_};
 ghost use mathlib.Core.Bool.{true};
 ghost use lib.ListN.{length, drop, getD};
 ghost use lib.Seq.{slice};
-ghost use Rattle.nibl.specs.Bytes.{isDigit, isCapital, isHexDigit, isQuotable, front};
+ghost use Rattle.nibl.specs.Bytes.{isDigit, isCapital, isHexDigit, isSpace, isQuotable, front, past};
 ghost use Rattle.nibl.specs.Words.{keywords, commands, isSymbol, pairs, numberOr};
 ghost use Rattle.nibl.specs.Read.{stepIn};
-ghost use Rattle.word.specs.Found.{passing, keyOf, longestKeyword, firstKeyword, keyIndex, tableOf, keysOf, hexDigit};
+ghost use Rattle.word.specs.Found.{passing, keyOf, longestKeyword, firstKeyword, keyIndex, tableOf, keysOf, hexDigit, firstOf};
 ghost use Rattle.word.specs.Found.{WordIs, lettersAt, decimalAt, hexAt, quotedAt, symbolAt};
 
 pub mod sign;
@@ -351,4 +351,16 @@ pub fn command_at(text: &[u8], c: Cursor) -> Word
 {
     let from = c.at;
     word_in(text, from, true)
+}
+
+// The first byte of the word at a cursor, past any spaces; 0 where nothing but spaces follows.
+pub fn first_at(text: &[u8], c: Cursor) -> u8
+    ensures { λ r. ⌜ r ≡ firstOf (past isSpace (drop (c .at) (now (text .entry)))) ⌝ }
+{
+    let from = c.at;
+    let i = run_end(text, from, class::SPACE);
+    if text.len() <= i {
+        return 0;
+    }
+    text[i]
 }

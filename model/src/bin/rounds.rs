@@ -164,16 +164,43 @@ fn walks(page: &[u8]) -> u16 {
     })
 }
 
-/// A loop of assignments that has no end.
-fn looping() -> Vec<u8> {
-    let mut page = empty_page(256);
-    let texts = [" FOR I=1 TO 1000", " A=A+I*2:B=A-1", " NEXT I:GOTO 0"];
-    for (number, text) in (0..).zip(texts) {
+/// A page of these lines.
+fn program(length: usize, lines: impl IntoIterator<Item = (u16, &'static str)>) -> Vec<u8> {
+    let mut page = empty_page(length);
+    for (number, text) in lines {
         let program = read(&page);
         let number = LineNumber(number);
         assert!(store(&mut page, &program, number, text.as_bytes()));
     }
     page
+}
+
+/// A loop of assignments that has no end.
+fn assigning() -> Vec<u8> {
+    let texts = [" FOR I=1 TO 1000", " A=A+I*2:B=A-1", " NEXT I:GOTO 0"];
+    program(256, (0..).zip(texts))
+}
+
+/// Two loops in one another, with an IF in the inner one.
+fn nested() -> Vec<u8> {
+    let texts = [
+        " FOR I=1 TO 1000",
+        " FOR J=1 TO 1000",
+        " A=I*3-J/7",
+        " IF A>J B=B+1",
+        " NEXT J",
+        " NEXT I",
+        " GOTO 10",
+    ];
+    program(256, (10..).step_by(10).zip(texts))
+}
+
+/// A GOSUB to the last of 336 lines, again and again.
+fn calling() -> Vec<u8> {
+    let front = [(0, " GOSUB 335"), (1, " GOTO 0")];
+    let between = (2..335).map(|number| (number, " A=A+B*2"));
+    let lines = front.into_iter().chain(between);
+    program(4096, lines.chain([(335, " RETURN")]))
 }
 
 /// A run from the program's start, lent no more than the page: its steps, and variable A.
@@ -250,7 +277,9 @@ fn input(work: &str) -> Option<Vec<u8>> {
         "0" => Some(text()),
         "1" | "2" | "3" | "4" | "8" | "10" | "11" => Some(full_page(&RULES)),
         "5" | "6" | "7" => Some(lines()),
-        "9" => Some(looping()),
+        "9" => Some(assigning()),
+        "12" => Some(nested()),
+        "13" => Some(calling()),
         _ => None,
     }
 }
@@ -297,7 +326,7 @@ fn run(input: &[u8]) -> Option<u16> {
         "8" => Some(repeat(rounds, || {
             read_page(black_box(page)).is_some().into()
         })),
-        "9" => Some(repeat(rounds, || steps(black_box(page)))),
+        "9" | "12" | "13" => Some(repeat(rounds, || steps(black_box(page)))),
         "10" => Some(repeat(rounds, || typed(black_box(page), Record::default()))),
         "11" => Some(repeat(rounds, || typed(black_box(page), full()))),
         _ => None,

@@ -1,0 +1,167 @@
+-- The first byte of a sign: what a look at one byte tells of the word that stands there. Assumes nothing.
+use Prim.Native.Nat.{ℕ, zero, suc, _+_, _-_, _≤_, _<_}
+use mathlib.Core.Path.{_≡_, _∙_, refl, ap, sym, subst}
+use mathlib.Core.Bool.{Bool, true, false, _&&_, _||_, false≢true}
+use mathlib.Core.List.{List, [], _∷_}
+use mathlib.Core.Option.{Option, none, some}
+use native.Mathlib.Omega.{arith}
+use borrow.Author.Tests.{eqb-true, eq-eqb, le-leb}
+use lib.Dec.{eqb, leb}
+use lib.ListN.{length, drop, getD, drop-of-length-le}
+use Rattle.nibl.specs.Bytes.{if_then_else_, same, isSpace, isCapital, isDigit, isHexDigit, isQuotable, starts, front, past, decimalValue}
+use Rattle.nibl.specs.Words.{variable, decimal, hex, string, sign, keywords, indexFrom, isSymbol, pairs}
+use Rattle.nibl.specs.Read.{Step, atEnd, wrong, got, signOr, lettersStep, digitsStep, hexStep, quotedStep, pairOr, symbolStep, wordStep, stepIn}
+use Rattle.word.specs.Found.{firstOf, spelling, beginning, firstKeyword}
+use Rattle.word.proofs.Runs.{and-left, and-right, at-byte, front-go, parted, runEnd, rest-at}
+use Rattle.word.proofs.Answers.{step-past, step-word, step-end}
+
+-- The byte that `first_at` finds
+module _ (text : List ℕ) (from i : ℕ) (e : i ≡ runEnd isSpace text from) where
+  pub first-none : length text ≤ i → 0 ≡ firstOf (past isSpace (drop from text))
+  first-none h = rw (rest-at isSpace text from i e, drop-of-length-le text h) refl
+
+  pub first-byte : i < length text → getD text i 0 ≡ firstOf (past isSpace (drop from text))
+  first-byte h = rw (rest-at isSpace text from i e, at-byte text i h) refl
+
+-- whether a step that is a sign begins with a byte
+abbrev begun : ℕ → Step → Bool
+begun b atEnd = true
+begun b wrong = true
+begun b (got (variable v) t) = true
+begun b (got (decimal n) t) = true
+begun b (got (hex n) t) = true
+begun b (got (string bs) t) = true
+begun b (got (sign k) t) = eqb (beginning k) b
+
+-- Keywords
+same-first : (v w : List ℕ) → same v w ≡ true → firstOf v ≡ firstOf w
+same-first [] [] e = refl
+same-first [] (y ∷ w) e = absurd (false≢true e)
+same-first (x ∷ v) [] e = absurd (false≢true e)
+same-first (x ∷ v) (y ∷ w) e = eqb-true x y (and-left (eqb x y) (same v w) e)
+
+record Indexed (n : ℕ) (ks : List (List ℕ)) (w : List ℕ) (k : ℕ) : Type 0 where
+  high : n ≤ k
+  letter : firstOf (spelling ks (k - n)) ≡ firstOf w
+
+index-step : (n : ℕ) (x : List ℕ) (ks : List (List ℕ)) (w : List ℕ) (k : ℕ) → (indexFrom (suc n) ks w ≡ some k → Indexed (suc n) ks w k)
+    → (t : Bool) → same x w ≡ t → (if t then some n else indexFrom (suc n) ks w) ≡ some k → Indexed n (x ∷ ks) w k
+index-step n x ks w k ih true s e =
+    let f : n ≡ k = cc in
+    let z : k - n ≡ zero = omega arith in
+    record { high = omega arith; letter = rw z (same-first x w s) }
+index-step n x ks w k ih false s e =
+    let h = ih e in
+    let z : k - n ≡ suc (k - suc n) = omega (arith, h .high) in
+    record { high = omega (arith, h .high); letter = rw z (h .letter) }
+
+index-first : (n : ℕ) (ks : List (List ℕ)) (w : List ℕ) (k : ℕ) → indexFrom n ks w ≡ some k → Indexed n ks w k
+index-first n [] w k e = let i : _≡_ {A = ℕ} 0 1 = cc in absurd (omega arith)
+index-first n (x ∷ ks) w k e = index-step n x ks w k (index-first (suc n) ks w k) (same x w) refl e
+
+signed-first : (w t : List ℕ) (o : Option ℕ) → indexFrom firstKeyword keywords w ≡ o → begun (firstOf w) (signOr o t) ≡ true
+signed-first w t none e = refl
+signed-first w t (some k) e =
+    let h = index-first firstKeyword keywords w k e in
+    rw (le-leb firstKeyword k (h .high)) (eq-eqb (firstOf (spelling keywords (k - firstKeyword))) (firstOf w) (h .letter))
+
+letters-first : (w t : List ℕ) → begun (firstOf w) (lettersStep keywords w t) ≡ true
+letters-first [] t = refl
+letters-first (c ∷ []) t = refl
+letters-first (c ∷ d ∷ cs) t = signed-first (c ∷ d ∷ cs) t (indexFrom firstKeyword keywords (c ∷ d ∷ cs)) refl
+
+-- Words that are no signs
+module _ (b : ℕ) where
+  digits-first : (t : Bool) (n : ℕ) (s : List ℕ) → begun b (if t then got (decimal n) s else wrong) ≡ true
+  digits-first true n s = refl
+  digits-first false n s = refl
+
+  hex-first : (ds s : List ℕ) → begun b (hexStep ds s) ≡ true
+  hex-first [] s = refl
+  hex-first (d ∷ ds) s = refl
+
+  closed-first : (t : Bool) (bs s : List ℕ) → begun b (if t then got (string bs) s else wrong) ≡ true
+  closed-first true bs s = refl
+  closed-first false bs s = refl
+
+  quoted-first : (bs s : List ℕ) → begun b (quotedStep bs s) ≡ true
+  quoted-first bs [] = refl
+  quoted-first bs (c ∷ s) = closed-first (eqb c 34) bs s
+
+-- Symbols and pairs
+either : {C : Type 0} (p q : Bool) → (p ≡ true → C) → (q ≡ true → C) → p || q ≡ true → C
+either true q f g e = f refl
+either false q f g e = g e
+
+symbol-itself : (b : ℕ) → isSymbol b ≡ true → eqb (beginning b) b ≡ true
+symbol-itself b =
+    let at : (n : ℕ) → eqb (beginning n) n ≡ true → eqb b n ≡ true → eqb (beginning b) b ≡ true = λ n r e. rw (eqb-true b n e) r in
+    either _ (eqb b 64)
+    (either _ (eqb b 62)
+    (either _ (eqb b 61)
+    (either _ (eqb b 60)
+    (either _ (eqb b 59)
+    (either _ (eqb b 58)
+    (either _ (eqb b 47)
+    (either _ (eqb b 45)
+    (either _ (eqb b 44)
+    (either _ (eqb b 43)
+    (either _ (eqb b 42)
+    (either _ (eqb b 41) (either (eqb b 36) (eqb b 40) (at 36 refl) (at 40 refl)) (at 41 refl))
+    (at 42 refl))
+    (at 43 refl))
+    (at 44 refl))
+    (at 45 refl))
+    (at 47 refl))
+    (at 58 refl))
+    (at 59 refl))
+    (at 60 refl))
+    (at 61 refl))
+    (at 62 refl))
+    (at 64 refl)
+
+pair-first : (a b : ℕ) (s : List ℕ) (t u v : Bool) → (t ≡ true → a ≡ 60) → (u ≡ true → a ≡ 62) → (v ≡ true → a ≡ 60) → eqb (beginning a) a ≡ true
+    → begun a (pairOr (if t then some 1 else if u then some 2 else if v then some 3 else none) a b s) ≡ true
+pair-first a b s true u v f g h e = eq-eqb 60 a (sym (f refl))
+pair-first a b s false true v f g h e = eq-eqb 62 a (sym (g refl))
+pair-first a b s false false true f g h e = eq-eqb 60 a (sym (h refl))
+pair-first a b s false false false f g h e = e
+
+symbol-first : (a : ℕ) (s : List ℕ) → isSymbol a ≡ true → begun a (symbolStep a s) ≡ true
+symbol-first a [] e = symbol-itself a e
+symbol-first a (b ∷ s) e =
+    pair-first a b s (eqb a 60 && eqb b 61) (eqb a 62 && eqb b 61) (eqb a 60 && eqb b 62) (λ f. eqb-true a 60 (and-left (eqb a 60) (eqb b 61) f))
+    (λ f. eqb-true a 62 (and-left (eqb a 62) (eqb b 61) f)) (λ f. eqb-true a 60 (and-left (eqb a 60) (eqb b 62) f)) (symbol-itself a e)
+
+-- Any word
+module _ (b : ℕ) (s : List ℕ) where
+  by-symbol : (t : Bool) → isSymbol b ≡ t → begun b (if t then symbolStep b s else wrong) ≡ true
+  by-symbol true e = symbol-first b s e
+  by-symbol false e = refl
+
+  by-kind : (c : Bool) → isCapital b ≡ c → (d h q : Bool)
+      → begun b (if c then lettersStep keywords (front isCapital (b ∷ s)) (past isCapital (b ∷ s))
+      else if d then digitsStep (decimalValue 0 (front isDigit (b ∷ s))) (past isDigit (b ∷ s))
+      else if h then hexStep (front isHexDigit s) (past isHexDigit s)
+      else if q then quotedStep (front isQuotable s) (past isQuotable s)
+      else if isSymbol b then symbolStep b s
+      else wrong) ≡ true
+  by-kind true e d h q = subst (λ w. begun b (lettersStep keywords w (past isCapital (b ∷ s))) ≡ true) (sym (front-go isCapital b s e)) (letters-first (b ∷ front isCapital s) _)
+  by-kind false e true h q = digits-first b (leb (decimalValue 0 (front isDigit (b ∷ s))) 32767) _ _
+  by-kind false e false true q = hex-first b (front isHexDigit s) _
+  by-kind false e false false true = quoted-first b (front isQuotable s) (past isQuotable s)
+  by-kind false e false false false = by-symbol (isSymbol b) refl
+
+  word-first : begun b (wordStep keywords b s) ≡ true
+  unfolding wordStep
+  word-first = by-kind (isCapital b) refl (isDigit b) (eqb b 35) (eqb b 34)
+
+step-first : (s : List ℕ) → starts isSpace s ≡ false → begun (firstOf s) (stepIn keywords s) ≡ true
+step-first [] e = ap (begun 0) (step-end keywords)
+step-first (b ∷ s) e = ap (begun b) (step-word keywords b s e) ∙ word-first b s
+
+-- a sign begins with the first byte that is no space
+pub sign-begins : (s : List ℕ) {t : List ℕ} {k : ℕ} → stepIn keywords s ≡ got (sign k) t → beginning k ≡ firstOf (past isSpace s)
+sign-begins s {t} {k} e =
+    let f = firstOf (past isSpace s) in
+    eqb-true (beginning k) f (ap (begun f) (sym e ∙ step-past keywords s) ∙ step-first (past isSpace s) (parted isSpace s .stops))
