@@ -1,6 +1,6 @@
 -- A statement as far as it runs without the parts: its values first, then an operation that acts at once. Assumes nothing.
 use Prim.Native.Nat.{ℕ, _+_, _≤_, _<_}
-use mathlib.Core.Path.{_≡_, refl, sym, ap, _∙_}
+use mathlib.Core.Path.{_≡_, refl, sym, ap, subst, _∙_}
 use mathlib.Core.Bool.{true, false}
 use mathlib.Core.List.{List, []}
 use mathlib.Core.Option.{some}
@@ -14,11 +14,15 @@ use Rattle.world.specs.declared.jump.Way.{Way}
 use Rattle.operation.specs.Operations.{Sources, sourcesIn, begun, valuesFirst, effectBy, runOps}
 use Rattle.operation.specs.Stacks.{sources, stackOf}
 use Rattle.operation.proofs.Firsts.{runs-first}
+use Rattle.effect.specs.Worlds.{did, didIn}
 use Rattle.effect.specs.Acts.{actedTo, actBy}
 use Rattle.effect.proofs.Codes.{Given}
 use Rattle.effect.proofs.Acts.{act-does}
 use Rattle.statement.specs.Lending.{isOn}
-use Rattle.statement.specs.Plain.{Seen, Around, envFrom, partsFrom, worldFrom}
+use Rattle.nibl.specs.declared.ForStack.{ForStack}
+use Rattle.statement.specs.declared.Plain.{Plain}
+use Rattle.statement.specs.declared.Plain.the-variants as plain
+use Rattle.statement.specs.Plain.{Seen, Around, seen, envFrom, partsFrom, worldFrom, plainIn, plainHeight, plainAt, RunsPlainly}
 use Rattle.statement.proofs.Running.{went-on, went-off, effect-way}
 
 -- what is left of a list, on the variables so far, does what the whole list does
@@ -67,3 +71,21 @@ module _ (s : Seen) (a : Around) (short : length (s .page) ≤ 65535) (ops vars 
 
     pub plain-off : isOn r ≡ false → runOps (envFrom s a) (drop j ops) (worldFrom s a vars) vs ≡ done (wayOf r) (worldFrom s a us)
     plain-off t = plain-went ∙ went-off r _ _ t
+
+-- What the answer says of the whole statement: where it is at its end, and where it needs the parts
+module _ {ops page : List ℕ} {sense flags : ℕ} {fors : ForStack} {vars memory : List ℕ} {r : Plain} {vars′ values′ : List ℕ}
+    (runs : RunsPlainly ops page sense flags fors vars memory r vars′ values′)
+  where
+    abbrev sees : Seen
+    sees = seen page sense flags fors memory
+
+    pub plain-ends : {w : Way} → r ≡ plain.Ends w → (a : Around)
+        → didIn (did w (partsFrom sees a)) vars′ memory (a .output) ≡ runOps (envFrom sees a) ops (worldFrom sees a vars) []
+    plain-ends e a = ap (λ (x : Plain). plainIn sees a x ops vars′ values′) (sym e) ∙ runs .runs a
+
+    pub plain-needs : {i n : ℕ} → r ≡ plain.Needs i n → (a : Around)
+        → runOps (envFrom sees a) (drop i ops) (worldFrom sees a vars′) (stackOf values′ n) ≡ runOps (envFrom sees a) ops (worldFrom sees a vars) []
+    plain-needs e a = ap (λ (x : Plain). plainIn sees a x ops vars′ values′) (sym e) ∙ runs .runs a
+
+    pub plain-within : {i n : ℕ} → r ≡ plain.Needs i n → n ≤ i
+    plain-within e = subst (λ (x : Plain). plainHeight x ≤ plainAt x) e (runs .within)
