@@ -54,7 +54,7 @@ pub record Given : Type 0 where
   pub parts : Parts
 
 module _ (g : Given) where
-  abbrev world : World
+  abbrev pub world : World
   world = worldWith (g .vars) (g .parts) (g .memory) (g .output)
 
   abbrev code : ℕ → Done

@@ -11,12 +11,16 @@ ghost use Rattle.world.specs.Turns.{wayOf};
 ghost use Rattle.value.specs.Writes.{Writes};
 ghost use Rattle.operation.specs.Operations.{effectBy};
 ghost use Rattle.effect.specs.Worlds.{envWith, worldWith, did, didIn, withFlagsIn, withGosubsIn, withDosIn, withForsIn, partsAt, storedWay, wroteIn, KeepsVars, putStored, keepReply};
+ghost use Rattle.effect.specs.Acts.{acted, actBy, goesBack, endedIn};
+use nibl::ForStack;
+use nibl::Onward;
 use nibl::Parts;
 use nibl::Place;
 use value::Wrote;
 use world::input;
 use world::input::Reply;
 use world::jump;
+use world::jump::Back;
 use world::jump::ForTurn;
 use world::jump::Turn;
 use world::jump::Way;
@@ -28,6 +32,12 @@ use world::memory::StoreEnd;
 pub struct Did {
     pub way: Way,
     pub parts: Parts,
+}
+
+// How an operation ended that acts at once; or that it needs the parts, and is not done.
+pub enum AtOnce {
+    Ended(Way),
+    Not,
 }
 
 pub fn ends(way: Way, parts: Parts) -> Did
@@ -181,6 +191,33 @@ fn if_way(x: u16) -> Way
         return Way::Skip;
     }
     Way::On
+}
+
+// A NEXT that goes back to its FOR ends so; any other needs the parts.
+fn back_ends(b: Back) -> AtOnce
+    ensures { λ r. ⌜ endedIn r ≡ goesBack b ⌝ }
+{
+    match b {
+        Back::To(p) => AtOnce::Ended(Way::Go(Onward::After(p))),
+        Back::Not => AtOnce::Not,
+    }
+}
+
+// The operations that act at once, without the parts: an assignment to a variable, IF, GOTO, and NEXT where it goes back. They
+// change no more than the variables.
+pub fn act(code: u32, arg: u32, x: u16, page: &[u8], vars: &mut [u16], fors: ForStack) -> AtOnce
+    ensures { λ r. ⌜ acted r (now (vars .exit)) ≡ actBy (now (page .entry)) fors code arg x (now (vars .entry)) ⌝ }
+{
+    match code {
+        codes::SET_VARIABLE => {
+            jump::set_var(vars, arg, x);
+            AtOnce::Ended(Way::On)
+        }
+        codes::IF => AtOnce::Ended(if_way(x)),
+        codes::GOTO => AtOnce::Ended(jump::go_to(page, x)),
+        codes::NEXT => back_ends(jump::next_back(fors, vars, low_byte(arg))),
+        _ => AtOnce::Not,
+    }
 }
 
 // INPUT of a string: the reply and its CR go into memory.

@@ -2,6 +2,7 @@ pub mod Values
 pub mod Readings
 pub mod Compiles
 pub mod Stacks
+pub mod Firsts
 pub mod Replies
 pub mod Meaning
 pub mod Determined

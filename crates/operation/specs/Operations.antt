@@ -57,6 +57,22 @@ unfoldable pub workOut : Sources → List ℕ → List ℕ → Result (List ℕ)
 workOut s [] vs = is vs
 workOut s (o ∷ rest) vs = bind (valueStep s o vs) (λ us. workOut s rest us)
 
+-- what the operations on values that a list begins with leave: the operations behind them, and the values
+pub record Begun : Type 0 where
+  pub rest : List ℕ
+  pub stack : List ℕ
+
+abbrev pub begun : List ℕ → List ℕ → Begun
+begun rest stack = record { rest = rest; stack = stack }
+
+unfoldable pub valuesFirst : Sources → List ℕ → List ℕ → Result Begun
+valuesFirst s [] vs = is (begun [] vs)
+valuesFirst s (o ∷ rest) vs =
+    elim (ltb (codeIn o) effects) [
+      | true ↦ bind (valueStep s o vs) (λ us. valuesFirst s rest us)
+      | false ↦ is (begun (o ∷ rest) vs)
+    ]
+
 -- what an operation does to the world, x the value on top, y and z below it; any code but these is END's
 unfoldable pub effectBy : Env → ℕ → ℕ → ℕ → ℕ → ℕ → World → Done
 effectBy e code arg x y z w =

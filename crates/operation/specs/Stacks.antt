@@ -4,7 +4,7 @@ use mathlib.Core.List.{List, [], _∷_}
 use mathlib.Core.Bool.{true}
 use mathlib.Core.Option.{Option, none, some}
 use mathlib.Core.Path.{_≡_}
-use lib.ListN.{getD, set, length}
+use lib.ListN.{getD, set, length, drop}
 use Rattle.nibl.specs.Tree.{Expr}
 use Rattle.nibl.specs.Read.{replied}
 use Rattle.nibl.specs.Page.{used}
@@ -17,9 +17,11 @@ use Rattle.world.specs.declared.jump.Way.{Way}
 use Rattle.nibl.specs.Values.{Result, is, no, Value}
 use Rattle.line.specs.Answers.{listOf}
 use Rattle.line.specs.declared.ListRead.the-variants as list
-use Rattle.operation.specs.Operations.{Sources, workOut}
+use Rattle.operation.specs.Operations.{Sources, workOut, Begun, begun}
 use Rattle.operation.specs.declared.Height.{Height}
 use Rattle.operation.specs.declared.Height.the-variants as raised
+use Rattle.operation.specs.declared.Reached.{Reached}
+use Rattle.operation.specs.declared.Reached.the-variants as reached
 
 abbrev pub sources : List ℕ → ℕ → ℕ → List ℕ → List ℕ → Sources
 sources vars flags sense page memory = record { vars = vars; flags = flags; sense = sense; page = page; memory = memory }
@@ -36,6 +38,20 @@ stackAfter (raised.No n) values = no n
 abbrev pub heightOf : Height → ℕ
 heightOf (raised.Top n) = n
 heightOf (raised.No n) = 0
+
+-- how far the operations on values of a list lead, and the values then
+abbrev pub reachedIn : Reached → List ℕ → List ℕ → Result Begun
+reachedIn (reached.To i n) ops values = is (begun (drop i ops) (stackOf values n))
+reachedIn (reached.No n) ops values = no n
+
+-- the operation that is next; after a refusal the first one counts
+abbrev pub reachedAt : ℕ → Reached → ℕ
+reachedAt from (reached.To i n) = i
+reachedAt from (reached.No n) = from
+
+abbrev pub reachedHeight : Reached → ℕ
+reachedHeight (reached.To i n) = n
+reachedHeight (reached.No n) = 0
 
 -- the value that a list of operations leaves on top
 abbrev pub worked : Sources → List ℕ → Value

@@ -2,14 +2,15 @@
 // worked out by them, on a stack that is lent: its first `height` slots hold the values, the top last.
 ghost use Prim.Native.Nat.{_+_, _-_, _≤_, _<_};
 ghost use mathlib.Core.Path.{_≡_};
-ghost use lib.ListN.{length, getD};
+ghost use mathlib.Core.List.{[]};
+ghost use lib.ListN.{length, getD, drop};
 ghost use Rattle.nibl.specs.Page.{used};
 ghost use Rattle.nibl.specs.Meaning.{statOf};
 ghost use Rattle.value.specs.Operators.{valueOf};
 ghost use Rattle.codes.specs.Operators.{opOf};
 ghost use Rattle.nibl.specs.Read.{replied};
-ghost use Rattle.operation.specs.Operations.{takes, valueBy, valueStep, variablesOf};
-ghost use Rattle.operation.specs.Stacks.{sources, stackOf, stackAfter, heightOf, worked, ReplyRoom, Assigning, assigned, assigning};
+ghost use Rattle.operation.specs.Operations.{takes, valueBy, valueStep, valuesFirst, variablesOf};
+ghost use Rattle.operation.specs.Stacks.{sources, stackOf, stackAfter, heightOf, reachedIn, reachedHeight, reachedAt, worked, ReplyRoom, Assigning, assigned, assigning};
 use line::ListRead;
 use line::RelationRead;
 use value::Value;
@@ -21,6 +22,12 @@ use world::memory;
 // How high the stack is after an operation, or the stop number.
 pub enum Height {
     Top(usize),
+    No(u8),
+}
+
+// How far operations on values lead: up to the one that is next, and how high the stack is then; or the stop number.
+pub enum Reached {
+    To(usize, usize),
     No(u8),
 }
 
@@ -175,6 +182,41 @@ pub fn work_out(
         }
     }
     Value::Is(nth(values, height, 0))
+}
+
+// The operations on values that stand next, up to the first effect or the end of the list.
+pub fn values_first(
+    ops: &[u32],
+    from: usize,
+    vars: &[u16],
+    flags: u8,
+    sense: u8,
+    page: &[u8],
+    memory: &[u8],
+    values: &mut [u16],
+) -> Reached
+    requires { ⌜ (length (now ops) ≤ length (now values)) × (used (now page) < 65536) ⌝ }
+    ensures { λ r. ⌜ (reachedIn r (now (ops .entry)) (now (values .exit)) ≡ valuesFirst (sources (now (vars .entry)) flags sense (now (page .entry)) (now (memory .entry))) (drop from (now (ops .entry))) []) × (reachedHeight r ≤ reachedAt from r) × (from ≤ reachedAt from r) ⌝ }
+{
+    let mut height: usize = 0;
+    let mut i: usize = from;
+    while i < ops.len() {
+        let op = ops[i];
+        if codes::EFFECTS <= op % codes::CODES {
+            return Reached::To(i, height);
+        }
+        let r = value_step(op, vars, flags, sense, page, memory, values, height);
+        match r {
+            Height::Top(n) => {
+                height = n;
+                i += 1;
+            }
+            Height::No(n) => {
+                return Reached::No(n);
+            }
+        }
+    }
+    Reached::To(i, height)
 }
 
 // The relations of a reply are worked out in turn, each after the earlier assignments, for the variables that the

@@ -20,7 +20,8 @@ use Rattle.record.specs.Fit.{Fit}
 use Rattle.effect.specs.Worlds.{worldWith}
 use Rattle.nibl.specs.declared.Parts.{Parts}
 use Rattle.run.specs.StepEnds.{StepEnd, stepOf, tally}
-use Rattle.run.specs.Running.{TextRoom, ranTo, ranIn, pauseOf}
+use Rattle.run.specs.Fetching.{TextRoom}
+use Rattle.run.specs.Running.{ranTo, ranIn, pauseOf}
 use Rattle.run.proofs.Tallies.{Quiet, runs-out, runs-dry, after-at, quiet-run, tally-goes, tally-stops}
 use Rattle.run.proofs.Onwards.{StaysFit, reads, goes-after}
 

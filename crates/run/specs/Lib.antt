@@ -1,2 +1,3 @@
 pub mod StepEnds
+pub mod Fetching
 pub mod Running

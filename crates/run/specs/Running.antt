@@ -1,5 +1,5 @@
--- What a step and a run leave, and what must hold of what is lent.
-use Prim.Native.Nat.{ℕ, _+_, _≤_, _<_}
+-- What a run leaves, and what must hold of what is lent.
+use Prim.Native.Nat.{ℕ, _≤_}
 use mathlib.Core.Bool.{true}
 use mathlib.Core.List.{List}
 use mathlib.Core.Path.{_≡_}
@@ -8,23 +8,12 @@ use lib.ListN.{length}
 use Rattle.nibl.specs.Bytes.{if_then_else_}
 use Rattle.nibl.specs.Page.{isGood, placesOf}
 use Rattle.nibl.specs.Meaning.{World}
-use Rattle.nibl.specs.Calls.{Outcome, leftAll, answerOf, lineFrom}
+use Rattle.nibl.specs.Calls.{Outcome, leftAll, answerOf}
 use Rattle.nibl.specs.Record.{nowhere, pausedAt, sessionOf}
 use Rattle.nibl.specs.declared.Parts.{Parts}
 use Rattle.page.specs.Standing.{Stands}
 use Rattle.record.specs.Fit.{Fit}
-use Rattle.effect.specs.Worlds.{worldWith}
-use Rattle.run.specs.StepEnds.{StepEnd, ledTo, stepEnd}
-use Rattle.run.specs.declared.Stepped.{Stepped}
 use Rattle.run.specs.declared.Ran.{Ran}
-
-abbrev pub steppedIn : Stepped → List ℕ → List ℕ → List ℕ → StepEnd
-steppedIn s vars memory output = stepEnd (ledTo (s .led)) (s .at .0) (worldWith vars (s .parts) memory output)
-
--- the text that begins at a lies in the page, and there is an operation to each of its bytes
-pub record TextRoom (page : List ℕ) (a : ℕ) (ops : List ℕ) : Type 0 where
-  pub inside : a + length (lineFrom page a) < length page
-  pub room : length (lineFrom page a) ≤ length ops
 
 abbrev pub ranTo : ℕ → ℕ → ℕ → ℕ → Parts → Ran
 ranTo stop line steps paused parts = record { stop = stop; line = line; steps = steps; paused = paused; parts = parts }

@@ -1,25 +1,25 @@
-// One step of a program, and a run within a budget.
+// The steps of a program within a budget.
 // What a run needs besides is lent down: the operations of a statement and of a reply, their values, and the reply's bytes,
 // which are as many as the limit.
 ghost use Prim.Native.Nat.{_≤_};
 ghost use mathlib.Core.List.{[], _∷_};
 ghost use mathlib.Core.Path.{_≡_};
 ghost use lib.ListN.{length};
-ghost use Rattle.nibl.specs.Read.{member};
 ghost use Rattle.nibl.specs.Page.{lineOf};
-ghost use Rattle.nibl.specs.Calls.{lineFrom, stopAt, runFrom, runOutcome};
+ghost use Rattle.nibl.specs.Calls.{stopAt, runFrom, runOutcome};
 ghost use Rattle.nibl.specs.Record.{mark, place, positionOf};
 ghost use Rattle.world.specs.Turns.{wayOf};
 ghost use Rattle.effect.specs.Worlds.{envWith, worldWith};
-ghost use Rattle.statement.specs.Lending.{Fair};
-ghost use Rattle.run.specs.StepEnds.{ledTo, nextAfter, stepOf};
-ghost use Rattle.run.specs.Running.{TextRoom, MayRun, steppedIn, ranTo, ranIn, pauseOf};
+ghost use Rattle.run.specs.StepEnds.{ledTo, nextAfter};
+ghost use Rattle.run.specs.Fetching.{FetchRoom, fetchOf, fetchedIn, fetchedCount};
+ghost use Rattle.run.specs.Running.{MayRun, ranTo, ranIn, pauseOf};
 use nibl::Onward;
 use nibl::Parts;
 use nibl::Place;
 use page::Begins;
 use page::Where;
 use reader::MemberRead;
+use statement::Plain;
 use world::jump::Way;
 
 // Where a run goes on after a step, or the stop that it ends with.
@@ -28,11 +28,10 @@ pub enum Led {
     Stops(u8),
 }
 
-// Where a step leads, the place that ends its statement, and the parts then.
-pub struct Stepped {
-    pub led: Led,
-    pub at: Place,
-    pub parts: Parts,
+// The next member of a program, or that it is past its last line.
+pub enum Fetched {
+    Past,
+    Member(usize, Place, Place),
 }
 
 // How a run ended: its stop and that stop's line, how many steps it took, where it is paused, and the parts then.
@@ -56,58 +55,24 @@ fn led_by(way: Way, p: Place, cr: Place) -> Led
     }
 }
 
-// One step: the first member of the text that begins at `a`. What was typed is lent beside the page, for the function that
-// says where the running text is.
-fn step<'a>(
-    a: usize,
-    page: &'a [u8],
-    input: &[u8],
-    sense: u8,
-    vars: &mut [u16],
-    memory: &mut [u8],
-    output: &mut [u8],
-    reply: &mut [u8],
-    replies: &mut [u32],
-    values: &mut [u16],
-    ops: &mut [u32],
-    parts: Parts,
-    typed: &'a [u8],
-) -> Stepped
-    requires { ⌜ Fair (now page) (now ops) (now values) (now reply) (now replies) × TextRoom (now page) a (now ops) ⌝ }
-    ensures { λ r. ⌜ steppedIn r (now (vars .exit)) (now (memory .exit)) (now (output .exit)) ≡ stepOf (envWith (length (now (reply .entry))) (now (page .entry)) (now (input .entry)) sense (place mark)) a (worldWith (now (vars .entry)) parts (now (memory .entry)) (now (output .entry))) (member (lineFrom (now (page .entry)) a)) ⌝ }
+// Where the operations of the member are that is next: as many from the first one on, the place that ends the member, and that of
+// its record's CR. A text with no member is never asked for; it counts as the program's end. What was typed is lent beside the
+// page, for the function that says where the running text is.
+fn fetch<'a>(from: Onward, page: &'a [u8], typed: &'a [u8], ops: &mut [u32]) -> Fetched
+    requires { ⌜ FetchRoom (now page) (positionOf from) (now ops) ⌝ }
+    ensures { λ r. ⌜ (fetchedIn r (now (ops .exit)) ≡ fetchOf (now (page .entry)) (positionOf from)) × (fetchedCount r ≤ length (now (ops .entry))) ⌝ }
 {
+    let b = page::text_from(page, from);
+    let Begins::At(a) = b else {
+        return Fetched::Past;
+    };
     let text = page::running(page, typed, Where::Page(a));
     let n = text.len();
     let m = reader::read_member(text, ops);
     let MemberRead::Member(count, left) = m else {
-        return Stepped {
-            led: Led::Stops(5),
-            at: Place::at(a),
-            parts: parts,
-        };
+        return Fetched::Past;
     };
-    let at = Place::at(a + n - left);
-    let d = statement::run_ops(
-        &ops[..count],
-        at,
-        page,
-        input,
-        sense,
-        vars,
-        memory,
-        output,
-        reply,
-        replies,
-        values,
-        parts,
-    );
-    let way = d.way;
-    let next = d.parts;
-    Stepped {
-        led: led_by(way, at, Place::at(a + n)),
-        at: at,
-        parts: next,
-    }
+    Fetched::Member(count, Place::at(a + n - left), Place::at(a + n))
 }
 
 // The line of a statement that gave a stop; there is none for 0, for 14. No statement stops with 14, which crate demands
@@ -148,7 +113,22 @@ fn run_ends(stop: u8, line: u16, steps: u16, paused: u16, parts: Parts) -> Ran
     }
 }
 
-// A run: steps until it stops, is past the last line, or has spent its budget.
+// A statement's stop ends the run.
+fn stops(page: &[u8], stop: u8, at: Place, steps: u16, parts: Parts) -> Ran
+    requires { ⌜ at .0 ≤ 65534 ⌝ }
+    ensures { λ r. ⌜ r ≡ ranTo stop (stopAt stop (lineOf (now (page .entry)) (at .0) ∷ [])) steps (pauseOf stop (at .0)) parts ⌝ }
+{
+    run_ends(
+        stop,
+        line_of_stop(page, stop, at),
+        steps,
+        pause(stop, at),
+        parts,
+    )
+}
+
+// A run: steps until it stops, is past the last line, or has spent its budget. A step runs as far as it can without the parts,
+// so that most of them move nothing but the variables.
 pub fn run_steps<'a>(
     from: Onward,
     budget: usize,
@@ -173,40 +153,67 @@ pub fn run_steps<'a>(
     let mut left = budget;
     let mut steps: u16 = 0;
     loop {
-        let b = page::text_from(page, q);
-        let Begins::At(a) = b else {
+        let f = fetch(q, page, typed, ops);
+        let Fetched::Member(count, at, cr) = f else {
             return run_ends(0, nibl::NO_LINE, steps, nibl::NOWHERE, p);
         };
         if left == 0 {
             return run_ends(14, nibl::NO_LINE, steps, q.pause(), p);
         }
-        let s = step(
-            a,
-            page,
-            input,
-            sense,
-            vars,
-            memory,
-            output,
-            reply,
-            replies,
-            values,
-            ops,
-            p,
-            typed,
-        );
-        let next = s.parts;
-        let led = s.led;
-        let at = s.at;
-        p = next;
         left -= 1;
         steps += 1;
-        match led {
-            Led::To(o) => {
-                q = o;
+        let fors = p.fors;
+        let r = statement::run_plain(
+            &ops[..count],
+            page,
+            sense,
+            p.flags,
+            fors,
+            vars,
+            memory,
+            values,
+        );
+        match r {
+            Plain::Ends(way) => {
+                let led = led_by(way, at, cr);
+                match led {
+                    Led::To(o) => {
+                        q = o;
+                    }
+                    Led::Stops(n) => {
+                        return stops(page, n, at, steps, p);
+                    }
+                }
             }
-            Led::Stops(n) => {
-                return run_ends(n, line_of_stop(page, n, at), steps, pause(n, at), p);
+            Plain::Needs(i, height) => {
+                let d = statement::run_from(
+                    &ops[..count],
+                    i,
+                    height,
+                    at,
+                    page,
+                    input,
+                    sense,
+                    vars,
+                    memory,
+                    output,
+                    reply,
+                    replies,
+                    values,
+                    p,
+                );
+                let way = d.way;
+                let next = d.parts;
+                p = next;
+                let led = led_by(way, at, cr);
+                match led {
+                    Led::To(o) => {
+                        q = o;
+                    }
+                    Led::Stops(n) => {
+                        return stops(page, n, at, steps, p);
+                    }
+                }
             }
         }
     }

@@ -87,13 +87,13 @@ module _ (lim : ℕ) (input : List ℕ) (sense : ℕ) (page vs : List ℕ) (n : 
 -- ---- one operation of a list
 
 -- an effect, by its end
-went-on : (r : Way) (u : World) (k : World → Done) → isOn r ≡ true → went (done (wayOf r) u) k ≡ k u
+pub went-on : (r : Way) (u : World) (k : World → Done) → isOn r ≡ true → went (done (wayOf r) u) k ≡ k u
 went-on way.On u k h = refl
 went-on way.Skip u k h = let z : _≡_ {A = ℕ} 0 1 = cc in absurd (omega arith)
 went-on (way.Go q) u k h = let z : _≡_ {A = ℕ} 0 1 = cc in absurd (omega arith)
 went-on (way.Stop n) u k h = let z : _≡_ {A = ℕ} 0 1 = cc in absurd (omega arith)
 
-went-off : (r : Way) (u : World) (k : World → Done) → isOn r ≡ false → went (done (wayOf r) u) k ≡ done (wayOf r) u
+pub went-off : (r : Way) (u : World) (k : World → Done) → isOn r ≡ false → went (done (wayOf r) u) k ≡ done (wayOf r) u
 went-off way.On u k h = let z : _≡_ {A = ℕ} 0 1 = cc in absurd (omega arith)
 went-off way.Skip u k h = refl
 went-off (way.Go q) u k h = refl
@@ -122,7 +122,7 @@ module _ (e : Env) (ops : List ℕ) (w : World) (vs : List ℕ) (i : ℕ) where
     unfolding runOps
     last-way f g = ap (λ l. runOps e l w vs) split ∙ rw (f, runOps) (rw (g, runOps) refl)
 
-    effect-way : ltb (codeIn there) effects ≡ false → isLast (codeIn there) ≡ false
+    pub effect-way : ltb (codeIn there) effects ≡ false → isLast (codeIn there) ≡ false
         → runOps e (drop i ops) w vs ≡ went (effectBy e (codeIn there) (argumentIn there) (getD vs 0 0) (getD vs 1 0) (getD vs 2 0) w) (λ u. runOps e (drop (i + 1) ops) u [])
     unfolding runOps
     effect-way f g = ap (λ l. runOps e l w vs) split ∙ rw (f, runOps) (rw (g, runOps) refl)

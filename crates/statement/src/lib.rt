@@ -1,20 +1,34 @@
 // A statement's operations run. What that needs besides is lent: room for values, for a reply's bytes and its operations.
+ghost use Prim.Native.Nat.{_≤_};
 ghost use mathlib.Core.List.{[]};
 ghost use mathlib.Core.Path.{_≡_};
-ghost use lib.ListN.{length};
+ghost use lib.ListN.{length, drop};
 ghost use Rattle.nibl.specs.Stack.{noPlace};
 ghost use Rattle.operation.specs.Operations.{isLast, lastBy, runOps, variablesOf};
+ghost use Rattle.nibl.specs.Page.{used};
+ghost use Rattle.operation.specs.Stacks.{stackOf};
 ghost use Rattle.world.specs.Hearing.{hearing, heardIn};
 ghost use Rattle.effect.specs.Worlds.{envWith, worldWith, didIn};
 ghost use Rattle.statement.specs.Lending.{Fair, isOn, takesReply};
+ghost use Rattle.statement.specs.Plain.{RunsPlainly};
+use effect::AtOnce;
 use effect::Did;
+use nibl::ForStack;
 use nibl::Parts;
 use nibl::Place;
 use operation::Height;
+use operation::Reached;
 use world::input;
 use world::input::Reply;
 use world::jump::Way;
 use world::memory;
+
+// How far a statement runs without the parts: to its end; or up to an operation that needs them, and how high the stack is
+// then.
+pub enum Plain {
+    Ends(Way),
+    Needs(usize, usize),
+}
 
 // INPUT of values: the reply's relations for the variables of the operations that follow.
 fn input_values(
@@ -112,9 +126,51 @@ fn is_on(way: Way) -> bool
     }
 }
 
-// The operations of one statement.
-pub fn run_ops(
+// A statement as far as it runs without the parts: its values and the operations that act at once.
+pub fn run_plain(
     ops: &[u32],
+    page: &[u8],
+    sense: u8,
+    flags: u8,
+    fors: ForStack,
+    vars: &mut [u16],
+    memory: &[u8],
+    values: &mut [u16],
+) -> Plain
+    requires { ⌜ (length (now ops) ≤ length (now values)) × (length (now page) ≤ 65535) × (used (now page) ≤ 65535) ⌝ }
+    ensures { λ r. ⌜ RunsPlainly (now (ops .entry)) (now (page .entry)) sense flags fors (now (vars .entry)) (now (memory .entry)) r (now (vars .exit)) (now (values .exit)) ⌝ }
+{
+    let mut i: usize = 0;
+    loop {
+        let r = operation::values_first(ops, i, vars, flags, sense, page, memory, values);
+        match r {
+            Reached::No(n) => {
+                return Plain::Ends(Way::Stop(n));
+            }
+            Reached::To(j, height) => {
+                if ops.len() <= j {
+                    return Plain::Ends(Way::On);
+                }
+                let op = ops[j];
+                let x = operation::nth(values, height, 0);
+                let a = effect::act(op % codes::CODES, op / codes::CODES, x, page, vars, fors);
+                let AtOnce::Ended(way) = a else {
+                    return Plain::Needs(j, height);
+                };
+                if !is_on(way) {
+                    return Plain::Ends(way);
+                }
+                i = j + 1;
+            }
+        }
+    }
+}
+
+// The operations of a statement from one on, where so many values lie on the stack.
+pub fn run_from(
+    ops: &[u32],
+    from: usize,
+    filled: usize,
     here: Place,
     page: &[u8],
     input: &[u8],
@@ -127,12 +183,12 @@ pub fn run_ops(
     values: &mut [u16],
     parts: Parts,
 ) -> Did
-    requires { ⌜ Fair (now page) (now ops) (now values) (now reply) (now replies) ⌝ }
-    ensures { λ r. ⌜ didIn r (now (vars .exit)) (now (memory .exit)) (now (output .exit)) ≡ runOps (envWith (length (now (reply .entry))) (now (page .entry)) (now (input .entry)) sense here) (now (ops .entry)) (worldWith (now (vars .entry)) parts (now (memory .entry)) (now (output .entry))) [] ⌝ }
+    requires { ⌜ Fair (now page) (now ops) (now values) (now reply) (now replies) × (filled ≤ from) ⌝ }
+    ensures { λ r. ⌜ didIn r (now (vars .exit)) (now (memory .exit)) (now (output .exit)) ≡ runOps (envWith (length (now (reply .entry))) (now (page .entry)) (now (input .entry)) sense here) (drop from (now (ops .entry))) (worldWith (now (vars .entry)) parts (now (memory .entry)) (now (output .entry))) (stackOf (now (values .entry)) filled) ⌝ }
 {
     let mut p = parts;
-    let mut height: usize = 0;
-    let mut i: usize = 0;
+    let mut height: usize = filled;
+    let mut i: usize = from;
     while i < ops.len() {
         let op = ops[i];
         let code = op % codes::CODES;
@@ -194,4 +250,40 @@ pub fn run_ops(
         }
     }
     effect::ends(Way::On, p)
+}
+
+// The operations of one statement.
+pub fn run_ops(
+    ops: &[u32],
+    here: Place,
+    page: &[u8],
+    input: &[u8],
+    sense: u8,
+    vars: &mut [u16],
+    memory: &mut [u8],
+    output: &mut [u8],
+    reply: &mut [u8],
+    replies: &mut [u32],
+    values: &mut [u16],
+    parts: Parts,
+) -> Did
+    requires { ⌜ Fair (now page) (now ops) (now values) (now reply) (now replies) ⌝ }
+    ensures { λ r. ⌜ didIn r (now (vars .exit)) (now (memory .exit)) (now (output .exit)) ≡ runOps (envWith (length (now (reply .entry))) (now (page .entry)) (now (input .entry)) sense here) (now (ops .entry)) (worldWith (now (vars .entry)) parts (now (memory .entry)) (now (output .entry))) [] ⌝ }
+{
+    run_from(
+        ops,
+        0,
+        0,
+        here,
+        page,
+        input,
+        sense,
+        vars,
+        memory,
+        output,
+        reply,
+        replies,
+        values,
+        parts,
+    )
 }

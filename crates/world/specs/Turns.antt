@@ -23,6 +23,8 @@ use Rattle.world.specs.declared.jump.Way.{Way}
 use Rattle.world.specs.declared.jump.Way.the-variants as way
 use Rattle.world.specs.declared.jump.Turn.{Turn}
 use Rattle.world.specs.declared.jump.ForTurn.{ForTurn}
+use Rattle.world.specs.declared.jump.Back.{Back}
+use Rattle.world.specs.declared.jump.Back.the-variants as back
 
 -- the definition's word for a way, with its stop number
 abbrev pub wayOf : Way → Next
@@ -115,6 +117,29 @@ nextOn s vars v (topf.Entry f) = if not (eqb (f .var) v) then turnedForTo (stop 
 
 unfoldable pub nextTurn : ForStack → List ℕ → ℕ → TurnedFor
 nextTurn s vars v = nextOn s vars v (popFor s .top)
+
+-- the place that a NEXT goes back to, if it does, and the variables then
+pub record Backed : Type 0 where
+  pub to : Option ℕ
+  pub vars : List ℕ
+
+abbrev pub backedTo : Option ℕ → List ℕ → Backed
+backedTo to vars = record { to = to; vars = vars }
+
+abbrev pub backed : Back → List ℕ → Backed
+backed (back.To p) vars = backedTo (some (p .0)) vars
+backed back.Not vars = backedTo none vars
+
+-- by the count: a NEXT that does not go back is not done
+unfoldable pub backBy : List ℕ → ForEntry → Stepping → Backed
+backBy vars f c = if c .more then backedTo (some (f .place .0)) (c .vars) else backedTo none vars
+
+unfoldable pub backOn : List ℕ → ℕ → TopFor → Backed
+backOn vars v topf.Empty = backedTo none vars
+backOn vars v (topf.Entry f) = if not (eqb (f .var) v) then backedTo none vars else backBy vars f (addsStep vars v f)
+
+unfoldable pub nextBack : ForStack → List ℕ → ℕ → Backed
+nextBack s vars v = backOn vars v (popFor s .top)
 
 -- the world that a turn leaves: its stack, and the variables of a FOR or NEXT, in place of those before
 abbrev pub gosubsIn : World → Turned → Done

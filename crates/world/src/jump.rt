@@ -6,7 +6,7 @@ ghost use lib.ListN.{getD, set};
 ghost use Rattle.nibl.specs.Page.{find};
 ghost use Rattle.nibl.specs.Meaning.{go, goesOn};
 ghost use Rattle.page.specs.Walk.{reached};
-ghost use Rattle.world.specs.Turns.{wayOf, turned, turnedFor, stepping, wayTo, keepTurn, gosubTurn, returnTurn, doTurn, untilTurn, forTurn, addsStep, nextTurn};
+ghost use Rattle.world.specs.Turns.{wayOf, turned, turnedFor, stepping, wayTo, keepTurn, gosubTurn, returnTurn, doTurn, untilTurn, forTurn, addsStep, nextTurn, backed, nextBack};
 use nibl::ForEntry;
 use nibl::ForStack;
 use nibl::LineNumber;
@@ -35,6 +35,12 @@ pub struct Turn {
 pub struct ForTurn {
     pub way: Way,
     pub stack: ForStack,
+}
+
+// Where a NEXT goes back to, if it does.
+pub enum Back {
+    To(Place),
+    Not,
 }
 
 // A variable's value, and 0 where there is none of that number.
@@ -247,4 +253,24 @@ pub fn next_of(stack: ForStack, vars: &mut [u16], v: u8) -> ForTurn
         way: Way::On,
         stack: next,
     }
+}
+
+// NEXT, if it goes back to its FOR: then the stack is as it was, and is only looked at. If not, nothing is done.
+pub fn next_back(stack: ForStack, vars: &mut [u16], v: u8) -> Back
+    ensures { λ r. ⌜ backed r (now (vars .exit)) ≡ nextBack stack (now (vars .entry)) v ⌝ }
+{
+    let top = stack.top();
+    let TopFor::Entry(entry) = top else {
+        return Back::Not;
+    };
+    if entry.var != v {
+        return Back::Not;
+    }
+    let sum = value::add(var_of(vars, v as u32), entry.step);
+    if !goes_on(entry.step, sum, entry.limit) {
+        return Back::Not;
+    }
+    set_var(vars, v as u32, sum);
+    let p = entry.place;
+    Back::To(p)
 }

@@ -3,6 +3,7 @@
 use Prim.Native.Nat.{ℕ, zero, suc}
 use mathlib.Core.Path.{_≡_, refl, ap, sym, _∙_}
 use mathlib.Core.List.{List}
+use mathlib.Core.Option.{Option, none, some}
 use lib.ListN.{getD, set}
 use Rattle.nibl.proofs.Determined.{determined}
 use Rattle.nibl.specs.Page.{find}
@@ -18,7 +19,9 @@ use Rattle.world.specs.declared.jump.Way.{Way}
 use Rattle.world.specs.declared.jump.Way.the-variants as way
 use Rattle.world.specs.declared.jump.Turn.{Turn}
 use Rattle.world.specs.declared.jump.ForTurn.{ForTurn}
-use Rattle.world.specs.Turns.{wayOf, Turned, turned, TurnedFor, turnedFor, wayTo, gosubTurn, returnTurn, doTurn, untilTurn, forTurn, nextTurn}
+use Rattle.world.specs.declared.jump.Back.{Back}
+use Rattle.world.specs.declared.jump.Back.the-variants as back′
+use Rattle.world.specs.Turns.{wayOf, Turned, turned, TurnedFor, turnedFor, wayTo, gosubTurn, returnTurn, doTurn, untilTurn, forTurn, nextTurn, Backed, backed, nextBack}
 
 pub var-determined : (vars : List ℕ) (v a b : ℕ) → a ≡ getD vars v 0 → b ≡ getD vars v 0 → a ≡ b
 var-determined vars v = determined (getD vars v 0)
@@ -86,3 +89,25 @@ for-determined here s vars v first limit step = for-turn-determined (forTurn her
 pub next-determined : (s : ForStack) (vars : List ℕ) (v : ℕ) (a b : ForTurn) (u u′ : List ℕ)
     → turnedFor a u ≡ nextTurn s vars v → turnedFor b u′ ≡ nextTurn s vars v → (a ≡ b) × (u ≡ u′)
 next-determined s vars v = for-turn-determined (nextTurn s vars v)
+
+-- the answer of a NEXT that may go back, of the definition's word for it
+abbrev backAt : Option ℕ → Back
+backAt none = back′.Not
+backAt (some q) = back′.To (place q)
+
+back-at : (b : Back) (vars : List ℕ) → backAt (backed b vars .to) ≡ b
+back-at (back′.To p) vars = refl
+back-at back′.Not vars = refl
+
+pub back-determined : (s : ForStack) (vars : List ℕ) (v : ℕ) (a b : Back) (u u′ : List ℕ)
+    → backed a u ≡ nextBack s vars v → backed b u′ ≡ nextBack s vars v → (a ≡ b) × (u ≡ u′)
+back-determined s vars v a b u u′ p q =
+    let e = determined (nextBack s vars v) (backed a u) (backed b u′) p q in
+    (sym (back-at a u) ∙ ap (λ (x : Backed). backAt (x .to)) e ∙ back-at b u′, vars-same a b u u′ e)
+  where
+    vars-same : (a b : Back) (u u′ : List ℕ) → backed a u ≡ backed b u′ → u ≡ u′
+    vars-same a b u u′ e = sym (left a u) ∙ ap (λ (x : Backed). x .vars) e ∙ left b u′
+      where
+        left : (a : Back) (u : List ℕ) → backed a u .vars ≡ u
+        left (back′.To p) u = refl
+        left back′.Not u = refl

@@ -1,7 +1,7 @@
 -- What the turns are in the definition's world: its statement is the turn of the one stack, put in the place of that
 -- before; a refused one leaves the world as it was. Assumes nothing.
-use Prim.Native.Nat.{ℕ, _<_, _≤_}
-use mathlib.Core.Path.{_≡_, refl}
+use Prim.Native.Nat.{ℕ, suc, _<_, _≤_}
+use mathlib.Core.Path.{_≡_, refl, sym, ap}
 use mathlib.Core.List.{List}
 use mathlib.Core.Option.{Option, none, some}
 use native.Mathlib.Omega.{arith}
@@ -10,8 +10,9 @@ use lib.Dec.{ltb, eqb}
 use borrow.Author.Tests.{ltb-true}
 use Rattle.nibl.specs.Page.{find}
 use Rattle.nibl.specs.Stack.{popOf, popFor}
-use Rattle.nibl.specs.Meaning.{World, Env, done, go, stop, given, lineThere, gosubTo, returnBy, doHere, untilBy, forHere, nextBy}
+use Rattle.nibl.specs.Meaning.{World, Env, Next, done, on, go, stop, given, lineThere, gosubTo, returnBy, doHere, untilBy, forHere, nextBy}
 use Rattle.nibl.specs.Record.{place}
+use Rattle.nibl.specs.declared.ForStack.{ForStack}
 use Rattle.nibl.specs.declared.Top.{Top}
 use Rattle.nibl.specs.declared.Top.the-variants as top
 use Rattle.nibl.specs.declared.TopFor.{TopFor}
@@ -19,7 +20,7 @@ use Rattle.nibl.specs.declared.TopFor.the-variants as topf
 use Rattle.page.specs.Walk.{reached}
 use Rattle.page.proofs.Walk.{by-cases}
 use Rattle.page.proofs.Kept.{reached-all}
-use Rattle.world.specs.Turns.{wayTo, keepTurn, gosubTurn, returnOn, returnTurn, doTurn, untilOn, untilTurn, forTurn, addsStep, steppedOn, nextOn, nextTurn, gosubsIn, dosIn, forsIn}
+use Rattle.world.specs.Turns.{wayTo, keepTurn, gosubTurn, returnOn, returnTurn, doTurn, untilOn, untilTurn, forTurn, addsStep, steppedOn, nextOn, nextTurn, TurnedFor, turnedForTo, Backed, backedTo, backBy, backOn, nextBack, gosubsIn, dosIn, forsIn}
 
 pub goto-in : (w : World) (o : Option ℕ) → given (lineThere o) w (λ q. done (go q) w) ≡ done (wayTo o) w
 goto-in w none = refl
@@ -84,3 +85,43 @@ module _ (w : World) where
   pub next-in : (v : ℕ) → nextBy w v (popFor (w .session .fors) .top) ≡ forsIn w (nextTurn (w .session .fors) (w .session .vars) v)
   unfolding nextTurn
   next-in v = next-on v (popFor (w .session .fors) .top)
+
+-- A NEXT that goes back is the turn with the stack as it was; where it does not, the variables are as they were
+module _ (s : ForStack) (vars : List ℕ) (v : ℕ) where
+  abbrev backTo : Option ℕ → Next
+  backTo none = on
+  backTo (some q) = go (suc q)
+
+  abbrev backTurn : Backed → TurnedFor
+  backTurn b = turnedForTo (backTo (b .to)) s (b .vars)
+
+  never : {q : ℕ} {us us′ : List ℕ} → backedTo (some q) us ≡ backedTo none us′ → ⊥
+  never e = let f : _≡_ {A = Option ℕ} (some _) none = ap (λ (b : Backed). b .to) e in let z : _≡_ {A = ℕ} 0 1 = cc in omega arith
+
+  back-on : (t : TopFor) {q : ℕ} {us : List ℕ} → backedTo (some q) us ≡ backOn vars v t → nextOn s vars v t ≡ turnedForTo (go (suc q)) s us
+  unfolding nextOn steppedOn backOn backBy
+  back-on topf.Empty e = absurd (never e)
+  back-on (topf.Entry f) e =
+      by-cases (eqb (f .var) v)
+      (λ i. by-cases (addsStep vars v f .more)
+      (λ h. rw (i, h) (ap backTurn (sym (rw (i, h) at e))))
+      (λ h. absurd (never (rw (i, h) at e))))
+      (λ i. absurd (never (rw i at e)))
+
+  pub back-turns : {q : ℕ} {us : List ℕ} → backedTo (some q) us ≡ nextBack s vars v → nextTurn s vars v ≡ turnedForTo (go (suc q)) s us
+  unfolding nextTurn nextBack
+  back-turns e = back-on (popFor s .top) e
+
+  not-on : (t : TopFor) {us : List ℕ} → backedTo none us ≡ backOn vars v t → us ≡ vars
+  unfolding backOn backBy
+  not-on topf.Empty e = ap (λ (b : Backed). b .vars) e
+  not-on (topf.Entry f) e =
+      by-cases (eqb (f .var) v)
+      (λ i. by-cases (addsStep vars v f .more)
+      (λ h. absurd (never (sym (rw (i, h) at e))))
+      (λ h. ap (λ (b : Backed). b .vars) (rw (i, h) at e)))
+      (λ i. ap (λ (b : Backed). b .vars) (rw i at e))
+
+  pub back-none : {us : List ℕ} → backedTo none us ≡ nextBack s vars v → us ≡ vars
+  unfolding nextBack
+  back-none e = not-on (popFor s .top) e

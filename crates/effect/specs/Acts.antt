@@ -1,0 +1,53 @@
+-- The operations that act at once: what they do needs, besides the values, the page, the variables and the FOR stack, and
+-- changes the variables alone.
+use Prim.Native.Nat.{ℕ, suc, _%_}
+use mathlib.Core.List.{List}
+use mathlib.Core.Option.{Option, none, some}
+use lib.Dec.{eqb}
+use lib.ListN.{set}
+use Rattle.nibl.specs.Bytes.{if_then_else_}
+use Rattle.nibl.specs.Page.{find}
+use Rattle.nibl.specs.Meaning.{Next, on, skip, go}
+use Rattle.nibl.specs.declared.ForStack.{ForStack}
+use Rattle.page.specs.Walk.{reached}
+use Rattle.world.specs.Turns.{wayOf, wayTo, Backed, nextBack}
+use Rattle.world.specs.declared.jump.Back.{Back}
+use Rattle.world.specs.declared.jump.Back.the-variants as back
+use Rattle.codes.specs.Codes.{codeSetVariable, codeIf, codeGoto, codeNext}
+use Rattle.effect.specs.declared.AtOnce.{AtOnce}
+use Rattle.effect.specs.declared.AtOnce.the-variants as once
+
+-- how such an operation ended, none where it is not done, and the variables then
+pub record Acted : Type 0 where
+  pub next : Option Next
+  pub vars : List ℕ
+
+abbrev pub actedTo : Option Next → List ℕ → Acted
+actedTo next vars = record { next = next; vars = vars }
+
+abbrev pub endedIn : AtOnce → Option Next
+endedIn (once.Ended w) = some (wayOf w)
+endedIn once.Not = none
+
+abbrev pub acted : AtOnce → List ℕ → Acted
+acted a vars = actedTo (endedIn a) vars
+
+-- behind the place of a FOR
+abbrev pub backTo : Option ℕ → Option Next
+backTo none = none
+backTo (some q) = some (go (suc q))
+
+abbrev pub goesBack : Back → Option Next
+goesBack (back.To p) = some (go (suc (p .0)))
+goesBack back.Not = none
+
+abbrev pub backActed : Backed → Acted
+backActed b = actedTo (backTo (b .to)) (b .vars)
+
+unfoldable pub actBy : List ℕ → ForStack → ℕ → ℕ → ℕ → List ℕ → Acted
+actBy page fors code arg x vars =
+    if eqb code codeSetVariable then actedTo (some on) (set vars arg x)
+    else if eqb code codeIf then actedTo (some (if eqb x 0 then skip else on)) vars
+    else if eqb code codeGoto then actedTo (some (wayTo (reached (find page x)))) vars
+    else if eqb code codeNext then backActed (nextBack fors vars (arg % 256))
+    else actedTo none vars

@@ -1,0 +1,46 @@
+-- The member that is next in a program: what a fetch answers, however it comes by its operations.
+use Prim.Native.Nat.{ℕ, _+_, _-_, _≤_, _<_}
+use mathlib.Core.List.{List}
+use mathlib.Core.Option.{Option, none, some}
+use mathlib.Core.Path.{_≡_}
+use lib.ListN.{length, take}
+use Rattle.nibl.specs.Tree.{Member}
+use Rattle.nibl.specs.Read.{Found, nothing, found, member}
+use Rattle.nibl.specs.Calls.{lineFrom, textFrom}
+use Rattle.reader.specs.Code.{compile}
+use Rattle.run.specs.declared.Fetched.{Fetched}
+use Rattle.run.specs.declared.Fetched.the-variants as answer
+
+-- the member's operations, the place that ends it, and that of its record's CR; or none, past the last line
+pub data Fetch : Type 0 where
+  past : Fetch
+  fetched : List ℕ → ℕ → ℕ → Fetch
+
+abbrev pub fetchMember : List ℕ → ℕ → Found Member → Fetch
+fetchMember page a nothing = past
+fetchMember page a (found m s) = let n = length (lineFrom page a) in fetched (compile (m .statement)) (a + (n - m .left)) (a + n)
+
+abbrev pub fetchText : List ℕ → Option ℕ → Fetch
+fetchText page none = past
+fetchText page (some a) = fetchMember page a (member (lineFrom page a))
+
+unfoldable pub fetchOf : List ℕ → ℕ → Fetch
+fetchOf page q = fetchText page (textFrom page q)
+
+abbrev pub fetchedIn : Fetched → List ℕ → Fetch
+fetchedIn answer.Past ops = past
+fetchedIn (answer.Member n p cr) ops = fetched (take n ops) (p .0) (cr .0)
+
+abbrev pub fetchedCount : Fetched → ℕ
+fetchedCount answer.Past = 0
+fetchedCount (answer.Member n p cr) = n
+
+-- the text that begins at a lies in the page, and there is an operation to each of its bytes
+pub record TextRoom (page : List ℕ) (a : ℕ) (ops : List ℕ) : Type 0 where
+  pub inside : a + length (lineFrom page a) < length page
+  pub room : length (lineFrom page a) ≤ length ops
+
+-- so it is with the text that is next
+pub record FetchRoom (page : List ℕ) (q : ℕ) (ops : List ℕ) : Type 0 where
+  pub places : length page ≤ 65535
+  pub texts : (a : ℕ) → textFrom page q ≡ some a → TextRoom page a ops
