@@ -181,9 +181,9 @@ pub fn continue_run(
 ) -> Ended
     ensures { λ r. ⌜ leftAll (r .answer) (r .session) (now (page .exit)) (now (memory .exit)) (now (output .exit)) ≡ continueRun (lentAll rec (now (page .entry)) (now (memory .entry)) (now (input .entry)) (now (output .entry)) call) ⌝ }
 {
-    let first = first_refusal(rec, page, memory, input, output, call, LIMIT);
-    if first != 0 {
-        return ending::stopped(first, rec, call.inpos, call.outpos);
+    let refusal = first_refusal(rec, page, memory, input, output, call, LIMIT);
+    if refusal != 0 {
+        return ending::stopped(refusal, rec, call.inpos, call.outpos);
     }
     accepted_call(false, rec, page, memory, input, output, call)
 }
