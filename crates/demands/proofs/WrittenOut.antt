@@ -8,7 +8,7 @@ use Rattle.nibl.specs.Values.{digits}
 use Rattle.nibl.specs.Page.{Stored, recordsOf, usedBy, used}
 use Rattle.nibl.specs.Meaning.{World, Env, withSession, withMemory, withOutput, withInpos}
 use Rattle.nibl.specs.Record.{place, mark, nowhere, withVar, withFlags, withGosubs, withDos, withFors, withPaused, unpaused, stackless, cleared}
-use Rattle.nibl.specs.Calls.{Lent, Outcome, lentAll, leftAll, answerOf, noLine, stops, envAt, begun, lentEnv, listed, limit}
+use Rattle.nibl.specs.Calls.{Lent, Outcome, Ran, ran, stepped, runOutcome, lentAll, leftAll, answerOf, noLine, stops, envAt, begun, lentEnv, listed, limit}
 use Rattle.nibl.specs.declared.PlaceStack.{PlaceStack}
 use Rattle.nibl.specs.declared.ForStack.{ForStack}
 use Rattle.nibl.specs.declared.Session.{Session}
@@ -82,6 +82,16 @@ pub what-a-stop-leaves : (n : ℕ) (w : World) (page : List ℕ)
       output = w .output;
     }
 what-a-stop-leaves n w page = refl
+
+-- a run of no step yet, and one of a step more, by its line; the answer's stop is the run's, and its steps are the number of these lines
+pub a-run-not-begun : (n q : ℕ) (w : World) → ran n q w ≡ record { stop = n; lines = []; at = q; world = w }
+a-run-not-begun n q w = refl
+
+pub a-run-of-one-more : (l : ℕ) (r : Ran) → stepped l r ≡ record { stop = r .stop; lines = l ∷ r .lines; at = r .at; world = r .world }
+a-run-of-one-more l r = refl
+
+pub what-a-run-answers : (r : Ran) (page : List ℕ) → (runOutcome r page .answer .stop ≡ r .stop) × (runOutcome r page .answer .steps ≡ length (r .lines))
+what-a-run-answers r page = (refl, refl)
 
 -- the room of a program: two bytes for the end mark, and for each record its text's length plus 4
 pub room-of-no-record : usedBy [] ≡ 2
