@@ -141,6 +141,11 @@ pub record-unended : {at n : ℕ} {page t : List ℕ} → RecordAt page at n t �
 record-unended {at = at} {t = t} a e =
     false≢true (sym (written-end (a .high) (a .low) t (a .after) (omega (arith, a .number, a .small))) ∙ ap isEnd (sym (a .bytes)) ∙ e)
 
+-- "or the immediate mark": on a page that is not too long it is none of the places
+pub the-mark-is-no-place : {page : List ℕ} {p : ℕ} → length page ≤ 4096 → IsPlace page p → p ≡ mark → ⊥
+the-mark-is-no-place {page = page} h (endsMember {at = at} {t = t} b a r i) e =
+    omega (arith, ap length (a .bytes), length-drop at page, length-append t (13 ∷ a .after))
+
 module _ (lim : ℕ) (page : List ℕ) where
   -- the records from a boundary on, whose places are places of the page, and whose lines are the page's
   pub record Onward (at : ℕ) : Type 0 where

@@ -41,6 +41,7 @@ pub mod Gathered
 pub mod Valued
 pub mod Work
 pub mod OnPage
+pub mod WrittenOut
 pub mod Refusals
 pub mod Exactly
 pub mod Stopped

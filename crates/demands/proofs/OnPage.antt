@@ -1,5 +1,5 @@
--- On a good page the line that GOTO and GOSUB go to, 8, and TOP are said of the bytes: where a record of that number stands, that none does, and the bytes up to
--- the end mark with it. Assumes nothing.
+-- On a good page its records, the line that GOTO and GOSUB go to, 8, and TOP are said of the bytes: where a record of that number stands, that none does, and the
+-- bytes up to the end mark with it. Assumes nothing.
 use Prim.Native.Nat.{ℕ, suc, _+_, _≤_}
 use mathlib.Core.Path.{_≡_, sym, ap, subst, _∙_}
 use mathlib.Core.Bool.{true≢false}
@@ -7,19 +7,19 @@ use mathlib.Core.List.{List}
 use mathlib.Core.Logic.{_↔_}
 use native.Mathlib.Nat.{zero-add}
 use native.Mathlib.Omega.{arith}
-use lib.ListN.{length}
+use lib.ListN.{length, drop}
 use lib.Dec.{eqb}
 use borrow.Author.Tests.{eqb-true, eqb-false}
 use Rattle.nibl.specs.Page.{Stored, isEnd, lineAt, lengthAt, recordsOf, size, usedBy, programBytes}
 use Rattle.nibl.specs.Calls.{limit}
 use Rattle.page.proofs.Walk.{by-cases}
-use Rattle.page.proofs.Program.{program-length}
+use Rattle.page.proofs.Program.{end-bytes, program-length}
 use Rattle.page.proofs.Laid.{Whole, Laid, good-laid}
 use Rattle.page.proofs.Laid as laid
 use Rattle.demands.specs.Items.{In, first, further}
 use Rattle.demands.specs.Good.{RecordAt, Boundary, start, behind, GoodPage}
 use Rattle.demands.specs.Work.{LineAt, thisLine, laterLine, NoLine}
-use Rattle.demands.specs.OnPage.{LineStands, MarkStands}
+use Rattle.demands.specs.OnPage.{RecordsStand, noMore, oneMore, LineStands, MarkStands}
 use Rattle.demands.proofs.Good.{good-exact, whole-record, record-unended}
 
 -- a record that stands where one was found is that one
@@ -28,6 +28,10 @@ same-size w a = sym (w .long) ∙ ap lengthAt (a .bytes)
 
 same-line : {lim at n : ℕ} {page t : List ℕ} {r : Stored} → Whole lim page at r → RecordAt page at n t → r .line ≡ n
 same-line w a = sym (w .line) ∙ ap lineAt (a .bytes) ∙ sym (a .number)
+
+records-of : {lim low at : ℕ} {page : List ℕ} {rs : List Stored} → Laid lim page low at rs → RecordsStand page at rs
+records-of {at = at} {page = page} (laid.ends e) = noMore (record { after = drop 2 (drop at page); bytes = end-bytes (drop at page) e })
+records-of (laid.laid l w p) = oneMore (whole-record w) (records-of p)
 
 module _ (page : List ℕ) where
   -- the records from a boundary on: what is found among them is found in the page, and what they use with what lies before is all
@@ -67,6 +71,10 @@ module _ (page : List ℕ) where
   module _ (good : GoodPage limit page) where
     known : Laid limit page 0 0 (recordsOf page)
     known = good-laid limit page (omega arith) (good-exact limit page (omega arith) .1 good)
+
+    -- the records that are edited and listed are those that stand there, byte for byte
+    pub the-records-stand : RecordsStand page 0 (recordsOf page)
+    the-records-stand = records-of known
 
     -- the line that is found is the one that stands there
     pub a-line-stands : (n q : ℕ) → LineAt n 0 (recordsOf page) q ↔ LineStands page n q

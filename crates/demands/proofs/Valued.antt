@@ -1,5 +1,5 @@
 -- An expression is worth what document 01 says, and nothing else. Assumes nothing.
-use Prim.Native.Nat.{ℕ, zero, suc, _+_, _-_, _*_, _/_, _%_, _^_, _<_}
+use Prim.Native.Nat.{ℕ, zero, suc, _+_, _-_, _*_, _/_, _%_, _^_, _≤_, _<_}
 use mathlib.Core.Path.{_≡_, refl, sym, ap, subst}
 use mathlib.Core.Bool.{Bool, true, false, not, _&&_, true≢false}
 use mathlib.Core.List.{List, [], _∷_, _++_}
@@ -248,6 +248,11 @@ decimal-of (suc k) n h = by (decimal-of k (n / 10)) (ltb n 10) refl where
   by f true t = oneDigit (ltb-true n 10 t)
   by f false t =
       subst (Decimal n) (sym (digits-before (suc k) (n / 10) [] ((48 + n % 10) ∷ []))) (moreDigits (ltb-false n 10 t) (f (omega (arith, p))))
+
+-- the digits that LIST writes and a text's room counts
+pub a-lines-digits : (n : ℕ) → n ≤ 32767 → Decimal n (digits n)
+unfolding digits
+a-lines-digits n h = decimal-of 4 n (omega arith)
 
 decimal-unique : {n : ℕ} {ds es : List ℕ} → Decimal n ds → Decimal n es → ds ≡ es
 decimal-unique (oneDigit h) (oneDigit g) = refl
