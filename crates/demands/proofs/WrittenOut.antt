@@ -114,24 +114,24 @@ module _ (s : Session) where
 
   -- "clears the three stacks": nothing is on them, and what their slots hold stays
   pub stacks-cleared : stackless s ≡ record {
-        vars = s .vars;
-        flags = s .flags;
-        gosubs = record { depth = 0; places = s .gosubs .places };
-        dos = record { depth = 0; places = s .dos .places };
-        fors = record { depth = 0; entries = s .fors .entries };
-        paused = s .paused;
-      }
+    vars = s .vars;
+    flags = s .flags;
+    gosubs = record { depth = 0; places = s .gosubs .places };
+    dos = record { depth = 0; places = s .dos .places };
+    fors = record { depth = 0; entries = s .fors .entries };
+    paused = s .paused;
+  }
   stacks-cleared = refl
 
   -- "CLEAR zeroes variables and clears stacks"
   pub variables-and-stacks-cleared : cleared s ≡ record {
-        vars = replicate 26 0;
-        flags = s .flags;
-        gosubs = stackless s .gosubs;
-        dos = stackless s .dos;
-        fors = stackless s .fors;
-        paused = s .paused;
-      }
+    vars = replicate 26 0;
+    flags = s .flags;
+    gosubs = stackless s .gosubs;
+    dos = stackless s .dos;
+    fors = stackless s .fors;
+    paused = s .paused;
+  }
   variables-and-stacks-cleared = refl
 
   -- one part of a record changed
