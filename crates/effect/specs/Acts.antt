@@ -1,6 +1,7 @@
--- The operations that act at once: what they do needs, besides the values, the page, the variables and the FOR stack, and
--- changes the variables alone.
+-- The operations that act at once: what they do needs, besides the values, the page, the variables and a look at two stacks, and
+-- changes the variables alone. GOSUB and RETURN change their stack alone, and end the statement.
 use Prim.Native.Nat.{ℕ, suc, _%_}
+use mathlib.Core.Bool.{Bool, _||_}
 use mathlib.Core.List.{List}
 use mathlib.Core.Option.{Option, none, some}
 use lib.Dec.{eqb}
@@ -8,12 +9,13 @@ use lib.ListN.{set}
 use Rattle.nibl.specs.Bytes.{if_then_else_}
 use Rattle.nibl.specs.Page.{find}
 use Rattle.nibl.specs.Meaning.{Next, on, skip, go}
+use Rattle.nibl.specs.declared.Place.{Place}
+use Rattle.nibl.specs.declared.PlaceStack.{PlaceStack}
 use Rattle.nibl.specs.declared.ForStack.{ForStack}
 use Rattle.page.specs.Walk.{reached}
-use Rattle.world.specs.Turns.{wayOf, wayTo, Backed, nextBack}
+use Rattle.world.specs.Turns.{wayOf, wayTo, Turned, gosubTurn, returnTurn, backOf, Backed, nextBack, untilBack}
 use Rattle.world.specs.declared.jump.Back.{Back}
-use Rattle.world.specs.declared.jump.Back.the-variants as back
-use Rattle.codes.specs.Codes.{codeSetVariable, codeIf, codeGoto, codeNext}
+use Rattle.codes.specs.Codes.{codeSetVariable, codeIf, codeGoto, codeGosub, codeReturn, codeUntil, codeNext}
 use Rattle.effect.specs.declared.AtOnce.{AtOnce}
 use Rattle.effect.specs.declared.AtOnce.the-variants as once
 
@@ -32,22 +34,28 @@ endedIn once.Not = none
 abbrev pub acted : AtOnce → List ℕ → Acted
 acted a vars = actedTo (endedIn a) vars
 
--- behind the place of a FOR
+-- behind the place of a DO or a FOR
 abbrev pub backTo : Option ℕ → Option Next
 backTo none = none
 backTo (some q) = some (go (suc q))
 
 abbrev pub goesBack : Back → Option Next
-goesBack (back.To p) = some (go (suc (p .0)))
-goesBack back.Not = none
+goesBack b = backTo (backOf b)
 
 abbrev pub backActed : Backed → Acted
 backActed b = actedTo (backTo (b .to)) (b .vars)
 
-unfoldable pub actBy : List ℕ → ForStack → ℕ → ℕ → ℕ → List ℕ → Acted
-actBy page fors code arg x vars =
+unfoldable pub actBy : List ℕ → PlaceStack → ForStack → ℕ → ℕ → ℕ → List ℕ → Acted
+actBy page dos fors code arg x vars =
     if eqb code codeSetVariable then actedTo (some on) (set vars arg x)
     else if eqb code codeIf then actedTo (some (if eqb x 0 then skip else on)) vars
     else if eqb code codeGoto then actedTo (some (wayTo (reached (find page x)))) vars
+    else if eqb code codeUntil then actedTo (backTo (untilBack x dos)) vars
     else if eqb code codeNext then backActed (nextBack fors vars (arg % 256))
     else actedTo none vars
+
+abbrev pub isCall : ℕ → Bool
+isCall code = eqb code codeGosub || eqb code codeReturn
+
+unfoldable pub callTurn : List ℕ → Place → PlaceStack → ℕ → ℕ → Turned
+callTurn page here gosubs code x = if eqb code codeGosub then gosubTurn here gosubs (reached (find page x)) else returnTurn gosubs

@@ -7,15 +7,16 @@ ghost use lib.Dec.{leb, eqb};
 ghost use lib.ListN.{length, set};
 ghost use Rattle.nibl.specs.Bytes.{if_then_else_};
 ghost use Rattle.nibl.specs.Meaning.{on, skip, stop};
-ghost use Rattle.world.specs.Turns.{wayOf};
+ghost use Rattle.world.specs.Turns.{wayOf, turned};
 ghost use Rattle.value.specs.Writes.{Writes};
 ghost use Rattle.operation.specs.Operations.{effectBy};
 ghost use Rattle.effect.specs.Worlds.{envWith, worldWith, did, didIn, withFlagsIn, withGosubsIn, withDosIn, withForsIn, partsAt, storedWay, wroteIn, KeepsVars, putStored, keepReply};
-ghost use Rattle.effect.specs.Acts.{acted, actBy, goesBack, endedIn};
+ghost use Rattle.effect.specs.Acts.{acted, actBy, goesBack, endedIn, isCall, callTurn};
 use nibl::ForStack;
 use nibl::Onward;
 use nibl::Parts;
 use nibl::Place;
+use nibl::PlaceStack;
 use value::Wrote;
 use world::input;
 use world::input::Reply;
@@ -193,7 +194,7 @@ fn if_way(x: u16) -> Way
     Way::On
 }
 
-// A NEXT that goes back to its FOR ends so; any other needs the parts.
+// A NEXT or an UNTIL that goes back ends so; any other needs the parts.
 fn back_ends(b: Back) -> AtOnce
     ensures { λ r. ⌜ endedIn r ≡ goesBack b ⌝ }
 {
@@ -203,10 +204,18 @@ fn back_ends(b: Back) -> AtOnce
     }
 }
 
-// The operations that act at once, without the parts: an assignment to a variable, IF, GOTO, and NEXT where it goes back. They
-// change no more than the variables.
-pub fn act(code: u32, arg: u32, x: u16, page: &[u8], vars: &mut [u16], fors: ForStack) -> AtOnce
-    ensures { λ r. ⌜ acted r (now (vars .exit)) ≡ actBy (now (page .entry)) fors code arg x (now (vars .entry)) ⌝ }
+// The operations that act at once, without the parts: an assignment to a variable, IF, GOTO, and UNTIL and NEXT where they go
+// back. They change no more than the variables.
+pub fn act(
+    code: u32,
+    arg: u32,
+    x: u16,
+    page: &[u8],
+    vars: &mut [u16],
+    dos: PlaceStack,
+    fors: ForStack,
+) -> AtOnce
+    ensures { λ r. ⌜ acted r (now (vars .exit)) ≡ actBy (now (page .entry)) dos fors code arg x (now (vars .entry)) ⌝ }
 {
     match code {
         codes::SET_VARIABLE => {
@@ -215,9 +224,27 @@ pub fn act(code: u32, arg: u32, x: u16, page: &[u8], vars: &mut [u16], fors: For
         }
         codes::IF => AtOnce::Ended(if_way(x)),
         codes::GOTO => AtOnce::Ended(jump::go_to(page, x)),
+        codes::UNTIL => back_ends(jump::until_back(dos, x)),
         codes::NEXT => back_ends(jump::next_back(fors, vars, low_byte(arg))),
         _ => AtOnce::Not,
     }
+}
+
+// Whether an operation is GOSUB or RETURN, which need no more of the parts than their stack, and end the statement.
+pub fn is_call(code: u32) -> bool
+    ensures { λ r. ⌜ r ≡ isCall code ⌝ }
+{
+    code == codes::GOSUB || code == codes::RETURN
+}
+
+// GOSUB, and RETURN for any other code.
+pub fn call_turn(code: u32, x: u16, here: Place, page: &[u8], gosubs: PlaceStack) -> Turn
+    ensures { λ r. ⌜ turned r ≡ callTurn (now (page .entry)) here gosubs code x ⌝ }
+{
+    if code == codes::GOSUB {
+        return jump::go_sub(page, x, here, gosubs);
+    }
+    jump::return_from(gosubs)
 }
 
 // INPUT of a string: the reply and its CR go into memory.

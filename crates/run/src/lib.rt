@@ -162,12 +162,14 @@ pub fn run_steps<'a>(
         }
         left -= 1;
         steps += 1;
+        let dos = p.dos;
         let fors = p.fors;
         let r = statement::run_plain(
             &ops[..count],
             page,
             sense,
             p.flags,
+            dos,
             fors,
             vars,
             memory,
@@ -175,6 +177,21 @@ pub fn run_steps<'a>(
         );
         match r {
             Plain::Ends(way) => {
+                let led = led_by(way, at, cr);
+                match led {
+                    Led::To(o) => {
+                        q = o;
+                    }
+                    Led::Stops(n) => {
+                        return stops(page, n, at, steps, p);
+                    }
+                }
+            }
+            Plain::Calls(code, x) => {
+                let t = effect::call_turn(code, x, at, page, p.gosubs);
+                let way = t.way;
+                let stack = t.stack;
+                p.gosubs = stack;
                 let led = led_by(way, at, cr);
                 match led {
                     Led::To(o) => {

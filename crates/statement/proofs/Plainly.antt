@@ -9,17 +9,18 @@ use lib.ListN.{length, drop, getD}
 use Rattle.nibl.specs.Values.{is, no}
 use Rattle.nibl.specs.Meaning.{World, Env, stop, Done, done, went}
 use Rattle.codes.specs.Codes.{codeIn, argumentIn}
-use Rattle.world.specs.Turns.{wayOf}
+use Rattle.world.specs.Turns.{wayOf, gosubsIn}
 use Rattle.world.specs.declared.jump.Way.{Way}
 use Rattle.operation.specs.Operations.{Sources, sourcesIn, begun, valuesFirst, effectBy, runOps}
 use Rattle.operation.specs.Stacks.{sources, stackOf}
 use Rattle.operation.proofs.Firsts.{runs-first}
 use Rattle.effect.specs.Worlds.{did, didIn}
-use Rattle.effect.specs.Acts.{actedTo, actBy}
+use Rattle.effect.specs.Acts.{actedTo, actBy, isCall, callTurn}
 use Rattle.effect.proofs.Codes.{Given}
-use Rattle.effect.proofs.Acts.{act-does}
+use Rattle.effect.proofs.Acts.{act-does, call-does, call-last}
 use Rattle.statement.specs.Lending.{isOn}
 use Rattle.nibl.specs.declared.ForStack.{ForStack}
+use Rattle.nibl.specs.declared.PlaceStack.{PlaceStack}
 use Rattle.statement.specs.declared.Plain.{Plain}
 use Rattle.statement.specs.declared.Plain.the-variants as plain
 use Rattle.statement.specs.Plain.{Seen, Around, seen, envFrom, partsFrom, worldFrom, plainIn, plainHeight, plainAt, RunsPlainly}
@@ -60,7 +61,7 @@ module _ (s : Seen) (a : Around) (short : length (s .page) ≤ 65535) (ops vars 
     parts = partsFrom s a;
   }
 
-  module _ (r : Way) {us : List ℕ} (e : actedTo (some (wayOf r)) us ≡ actBy (s .page) (s .fors) (codeIn there) (argumentIn there) x vars) where
+  module _ (r : Way) {us : List ℕ} (e : actedTo (some (wayOf r)) us ≡ actBy (s .page) (s .dos) (s .fors) (codeIn there) (argumentIn there) x vars) where
     plain-went : runOps (envFrom s a) (drop j ops) (worldFrom s a vars) vs ≡ went (done (wayOf r) (worldFrom s a us)) (λ u. runOps (envFrom s a) (drop (j + 1) ops) u [])
     plain-went =
         let d = act-does given (codeIn there) (rw top at e) in
@@ -72,16 +73,29 @@ module _ (s : Seen) (a : Around) (short : length (s .page) ≤ 65535) (ops vars 
     pub plain-off : isOn r ≡ false → runOps (envFrom s a) (drop j ops) (worldFrom s a vars) vs ≡ done (wayOf r) (worldFrom s a us)
     plain-off t = plain-went ∙ went-off r _ _ t
 
--- What the answer says of the whole statement: where it is at its end, and where it needs the parts
-module _ {ops page : List ℕ} {sense flags : ℕ} {fors : ForStack} {vars memory : List ℕ} {r : Plain} {vars′ values′ : List ℕ}
-    (runs : RunsPlainly ops page sense flags fors vars memory r vars′ values′)
+  -- GOSUB and RETURN
+  pub plain-called : isCall (codeIn there) ≡ true → runOps (envFrom s a) (drop j ops) (worldFrom s a vars) vs ≡ gosubsIn (worldFrom s a vars) (callTurn (s .page) (a .here) (a .gosubs) (codeIn there) x)
+  plain-called e =
+      let d = call-does given (codeIn there) e in
+      effect-way (envFrom s a) ops (worldFrom s a vars) vs j h (le-ltb _ _ (d .1)) (d .2)
+      ∙ ap (λ (u : Done). went u (λ u. runOps (envFrom s a) (drop (j + 1) ops) u [])) (d .0)
+      ∙ call-last (worldFrom s a vars) (λ u. runOps (envFrom s a) (drop (j + 1) ops) u []) (s .page) (a .here) (a .gosubs) (codeIn there) (getD vs 0 0)
+      ∙ ap (λ (n : ℕ). gosubsIn (worldFrom s a vars) (callTurn (s .page) (a .here) (a .gosubs) (codeIn there) n)) (sym top)
+
+-- What the answer says of the whole statement: where it is at its end, where it calls, and where it needs the parts
+module _ {ops page : List ℕ} {sense flags : ℕ} {dos : PlaceStack} {fors : ForStack} {vars memory : List ℕ} {r : Plain} {vars′ values′ : List ℕ}
+    (runs : RunsPlainly ops page sense flags dos fors vars memory r vars′ values′)
   where
     abbrev sees : Seen
-    sees = seen page sense flags fors memory
+    sees = seen page sense flags dos fors memory
 
     pub plain-ends : {w : Way} → r ≡ plain.Ends w → (a : Around)
         → didIn (did w (partsFrom sees a)) vars′ memory (a .output) ≡ runOps (envFrom sees a) ops (worldFrom sees a vars) []
     plain-ends e a = ap (λ (x : Plain). plainIn sees a x ops vars′ values′) (sym e) ∙ runs .runs a
+
+    pub plain-calls : {c x : ℕ} → r ≡ plain.Calls c x → (a : Around)
+        → gosubsIn (worldFrom sees a vars′) (callTurn page (a .here) (a .gosubs) c x) ≡ runOps (envFrom sees a) ops (worldFrom sees a vars) []
+    plain-calls e a = ap (λ (x : Plain). plainIn sees a x ops vars′ values′) (sym e) ∙ runs .runs a
 
     pub plain-needs : {i n : ℕ} → r ≡ plain.Needs i n → (a : Around)
         → runOps (envFrom sees a) (drop i ops) (worldFrom sees a vars′) (stackOf values′ n) ≡ runOps (envFrom sees a) ops (worldFrom sees a vars) []

@@ -8,19 +8,20 @@ use Rattle.nibl.specs.declared.Place.{Place}
 use Rattle.nibl.specs.declared.PlaceStack.{PlaceStack}
 use Rattle.nibl.specs.declared.ForStack.{ForStack}
 use Rattle.nibl.specs.declared.Parts.{Parts}
+use Rattle.world.specs.Turns.{gosubsIn}
 use Rattle.operation.specs.Operations.{runOps}
 use Rattle.operation.specs.Stacks.{stackOf}
+use Rattle.effect.specs.Acts.{callTurn}
 use Rattle.effect.specs.Worlds.{envWith, worldWith, did, didIn}
 use Rattle.statement.specs.declared.Plain.{Plain}
 use Rattle.statement.specs.declared.Plain.the-variants as plain
 
--- what such a statement does not see: the limit, the input, its place, the other stacks, the positions and the output
+-- what such a statement does not see: the limit, the input, its place, the stack of GOSUB, the positions and the output
 pub record Around : Type 0 where
   pub lim : ℕ
   pub input : List ℕ
   pub here : Place
   pub gosubs : PlaceStack
-  pub dos : PlaceStack
   pub inpos : ℕ
   pub outpos : ℕ
   pub output : List ℕ
@@ -30,6 +31,7 @@ pub record Seen : Type 0 where
   pub page : List ℕ
   pub sense : ℕ
   pub flags : ℕ
+  pub dos : PlaceStack
   pub fors : ForStack
   pub memory : List ℕ
 
@@ -38,7 +40,7 @@ module _ (s : Seen) (a : Around) where
   envFrom = envWith (a .lim) (s .page) (a .input) (s .sense) (a .here)
 
   abbrev pub partsFrom : Parts
-  partsFrom = record { flags = s .flags; gosubs = a .gosubs; dos = a .dos; fors = s .fors; inpos = a .inpos; outpos = a .outpos }
+  partsFrom = record { flags = s .flags; gosubs = a .gosubs; dos = s .dos; fors = s .fors; inpos = a .inpos; outpos = a .outpos }
 
   abbrev pub worldFrom : List ℕ → World
   worldFrom vars = worldWith vars partsFrom (s .memory) (a .output)
@@ -46,19 +48,22 @@ module _ (s : Seen) (a : Around) where
   -- where it is at its end, and what is left to do where it is not
   abbrev pub plainIn : Plain → List ℕ → List ℕ → List ℕ → Done
   plainIn (plain.Ends w) ops vars values = didIn (did w partsFrom) vars (s .memory) (a .output)
+  plainIn (plain.Calls c x) ops vars values = gosubsIn (worldFrom vars) (callTurn (s .page) (a .here) (a .gosubs) c x)
   plainIn (plain.Needs i n) ops vars values = runOps envFrom (drop i ops) (worldFrom vars) (stackOf values n)
 
-abbrev pub seen : List ℕ → ℕ → ℕ → ForStack → List ℕ → Seen
-seen page sense flags fors memory = record { page = page; sense = sense; flags = flags; fors = fors; memory = memory }
+abbrev pub seen : List ℕ → ℕ → ℕ → PlaceStack → ForStack → List ℕ → Seen
+seen page sense flags dos fors memory = record { page = page; sense = sense; flags = flags; dos = dos; fors = fors; memory = memory }
 
 abbrev pub plainHeight : Plain → ℕ
 plainHeight (plain.Ends w) = 0
+plainHeight (plain.Calls c x) = 0
 plainHeight (plain.Needs i n) = n
 
 abbrev pub plainAt : Plain → ℕ
 plainAt (plain.Ends w) = 0
+plainAt (plain.Calls c x) = 0
 plainAt (plain.Needs i n) = i
 
-pub record RunsPlainly (ops page : List ℕ) (sense flags : ℕ) (fors : ForStack) (vars memory : List ℕ) (r : Plain) (vars′ values′ : List ℕ) : Type 0 where
-  pub runs : (a : Around) → (let s = seen page sense flags fors memory in plainIn s a r ops vars′ values′ ≡ runOps (envFrom s a) ops (worldFrom s a vars) [])
+pub record RunsPlainly (ops page : List ℕ) (sense flags : ℕ) (dos : PlaceStack) (fors : ForStack) (vars memory : List ℕ) (r : Plain) (vars′ values′ : List ℕ) : Type 0 where
+  pub runs : (a : Around) → (let s = seen page sense flags dos fors memory in plainIn s a r ops vars′ values′ ≡ runOps (envFrom s a) ops (worldFrom s a vars) [])
   pub within : plainHeight r ≤ plainAt r

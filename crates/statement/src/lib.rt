@@ -16,6 +16,7 @@ use effect::Did;
 use nibl::ForStack;
 use nibl::Parts;
 use nibl::Place;
+use nibl::PlaceStack;
 use operation::Height;
 use operation::Reached;
 use world::input;
@@ -23,10 +24,11 @@ use world::input::Reply;
 use world::jump::Way;
 use world::memory;
 
-// How far a statement runs without the parts: to its end; or up to an operation that needs them, and how high the stack is
-// then.
+// How far a statement runs without the parts: to its end; up to GOSUB or RETURN, by its code and the value on top; or up to
+// an operation that needs them, and how high the stack is then.
 pub enum Plain {
     Ends(Way),
+    Calls(u32, u16),
     Needs(usize, usize),
 }
 
@@ -132,13 +134,14 @@ pub fn run_plain(
     page: &[u8],
     sense: u8,
     flags: u8,
+    dos: PlaceStack,
     fors: ForStack,
     vars: &mut [u16],
     memory: &[u8],
     values: &mut [u16],
 ) -> Plain
     requires { ⌜ (length (now ops) ≤ length (now values)) × (length (now page) ≤ 65535) × (used (now page) ≤ 65535) ⌝ }
-    ensures { λ r. ⌜ RunsPlainly (now (ops .entry)) (now (page .entry)) sense flags fors (now (vars .entry)) (now (memory .entry)) r (now (vars .exit)) (now (values .exit)) ⌝ }
+    ensures { λ r. ⌜ RunsPlainly (now (ops .entry)) (now (page .entry)) sense flags dos fors (now (vars .entry)) (now (memory .entry)) r (now (vars .exit)) (now (values .exit)) ⌝ }
 {
     let mut i: usize = 0;
     loop {
@@ -153,8 +156,19 @@ pub fn run_plain(
                 }
                 let op = ops[j];
                 let x = operation::nth(values, height, 0);
-                let a = effect::act(op % codes::CODES, op / codes::CODES, x, page, vars, fors);
+                let a = effect::act(
+                    op % codes::CODES,
+                    op / codes::CODES,
+                    x,
+                    page,
+                    vars,
+                    dos,
+                    fors,
+                );
                 let AtOnce::Ended(way) = a else {
+                    if effect::is_call(op % codes::CODES) {
+                        return Plain::Calls(op % codes::CODES, x);
+                    }
                     return Plain::Needs(j, height);
                 };
                 if !is_on(way) {

@@ -126,9 +126,12 @@ pub record Backed : Type 0 where
 abbrev pub backedTo : Option ℕ → List ℕ → Backed
 backedTo to vars = record { to = to; vars = vars }
 
+abbrev pub backOf : Back → Option ℕ
+backOf (back.To p) = some (p .0)
+backOf back.Not = none
+
 abbrev pub backed : Back → List ℕ → Backed
-backed (back.To p) vars = backedTo (some (p .0)) vars
-backed back.Not vars = backedTo none vars
+backed b vars = backedTo (backOf b) vars
 
 -- by the count: a NEXT that does not go back is not done
 unfoldable pub backBy : List ℕ → ForEntry → Stepping → Backed
@@ -140,6 +143,14 @@ backOn vars v (topf.Entry f) = if not (eqb (f .var) v) then backedTo none vars e
 
 unfoldable pub nextBack : ForStack → List ℕ → ℕ → Backed
 nextBack s vars v = backOn vars v (popFor s .top)
+
+-- the place that an UNTIL goes back to, if it does
+unfoldable pub untilBackOn : ℕ → Top → Option ℕ
+untilBackOn x top.Empty = none
+untilBackOn x (top.At p) = if eqb x 0 then some (p .0) else none
+
+unfoldable pub untilBack : ℕ → PlaceStack → Option ℕ
+untilBack x s = untilBackOn x (popOf s .top)
 
 -- the world that a turn leaves: its stack, and the variables of a FOR or NEXT, in place of those before
 abbrev pub gosubsIn : World → Turned → Done

@@ -6,7 +6,7 @@ ghost use lib.ListN.{getD, set};
 ghost use Rattle.nibl.specs.Page.{find};
 ghost use Rattle.nibl.specs.Meaning.{go, goesOn};
 ghost use Rattle.page.specs.Walk.{reached};
-ghost use Rattle.world.specs.Turns.{wayOf, turned, turnedFor, stepping, wayTo, keepTurn, gosubTurn, returnTurn, doTurn, untilTurn, forTurn, addsStep, nextTurn, backed, nextBack};
+ghost use Rattle.world.specs.Turns.{wayOf, turned, turnedFor, stepping, wayTo, keepTurn, gosubTurn, returnTurn, doTurn, untilTurn, forTurn, addsStep, nextTurn, backOf, backed, nextBack, untilBack};
 use nibl::ForEntry;
 use nibl::ForStack;
 use nibl::LineNumber;
@@ -37,7 +37,7 @@ pub struct ForTurn {
     pub stack: ForStack,
 }
 
-// Where a NEXT goes back to, if it does.
+// Where a NEXT or an UNTIL goes back to, if it does.
 pub enum Back {
     To(Place),
     Not,
@@ -272,5 +272,19 @@ pub fn next_back(stack: ForStack, vars: &mut [u16], v: u8) -> Back
     }
     set_var(vars, v as u32, sum);
     let p = entry.place;
+    Back::To(p)
+}
+
+// UNTIL, if it goes back to its DO: the stack is only looked at.
+pub fn until_back(stack: PlaceStack, x: u16) -> Back
+    ensures { λ r. ⌜ backOf r ≡ untilBack x stack ⌝ }
+{
+    let top = stack.top();
+    let Top::At(p) = top else {
+        return Back::Not;
+    };
+    if 0 < x {
+        return Back::Not;
+    }
     Back::To(p)
 }

@@ -17,10 +17,11 @@ use Rattle.record.specs.Fit.{Fit}
 use Rattle.world.specs.declared.jump.Way.{Way}
 use Rattle.operation.specs.Operations.{runOps}
 use Rattle.effect.specs.declared.Did.{Did}
-use Rattle.effect.specs.Worlds.{worldWith, envWith, did, didIn}
+use Rattle.world.specs.Turns.{gosubsIn}
+use Rattle.effect.specs.Worlds.{worldWith, envWith, did, didIn, withGosubsIn}
 use Rattle.statement.specs.Lending.{Fair}
 use Rattle.statement.specs.Plain.{Around}
-use Rattle.statement.proofs.Plainly.{plain-ends, plain-needs, plain-within}
+use Rattle.statement.proofs.Plainly.{plain-ends, plain-calls, plain-needs, plain-within}
 use Rattle.run.specs.StepEnds.{StepEnd, ledTo, doneEnd, stepOf, tally}
 use Rattle.run.specs.Running.{MayRun, ranTo, ranIn, pauseOf}
 use Rattle.run.proofs.Starts.{ready-fair}
@@ -117,16 +118,16 @@ module _ (k : tie.After-known-told Inv-loop μ-loop) where
 -- after the operations that run without the parts
 module _ (s : tie.After-run-plain Inv-loop μ-loop) where
   abbrev taken : tie.After-known-told Inv-loop μ-loop
-  taken = s .before .before .before .before .before .before .before
+  taken = s .before .before .before .before .before .before .before .before
 
   abbrev loop : tie.At-loop Inv-loop μ-loop
-  loop = s .before .before .before .before .before .before .before .before .before .before .before .before .before .before
+  loop = s .before .before .before .before .before .before .before .before .before .before .before .before .before .before .before
 
   abbrev vars-plain : List ℕ
-  vars-plain = s .run-plain .last .1 .1 .1 .1 .1 .0
+  vars-plain = s .run-plain .last .1 .1 .1 .1 .1 .1 .0
 
   abbrev values-plain : List ℕ
-  values-plain = s .run-plain .last .1 .1 .1 .1 .1 .1 .1 .0
+  values-plain = s .run-plain .last .1 .1 .1 .1 .1 .1 .1 .1 .0
 
   -- the world around
   abbrev around : Around
@@ -135,14 +136,13 @@ module _ (s : tie.After-run-plain Inv-loop μ-loop) where
     input = start loop .args .input .now;
     here = at taken;
     gosubs = loop .loop .p .gosubs;
-    dos = loop .loop .p .dos;
     inpos = loop .loop .p .inpos;
     outpos = loop .loop .p .outpos;
     output = loop .loop .output;
   }
 
   some-left : loop .loop .left ≡ 0 → ⊥
-  some-left = s .before .before .before .before .before .before .if1 .left
+  some-left = s .before .before .before .before .before .before .before .if1 .left
 
   one-left : 0 < loop .loop .left
   one-left = let h = some-left in omega arith
@@ -249,7 +249,7 @@ add-steps c =
     omega arith
 
 run-plain-requires : tie.Need-run-plain-requires Inv-loop μ-loop
-run-plain-requires c κs = let k = c .before .before .before .before .before .before in let f = fair (head k) in let t = f .top in (values-room k, f .places, omega arith)
+run-plain-requires c κs = let k = c .before .before .before .before .before .before .before in let f = fair (head k) in let t = f .top in (values-room k, f .places, omega arith)
 
 -- where the step ended without the parts
 module _ (c : tie.After-known-told2 Inv-loop μ-loop) where
@@ -266,7 +266,22 @@ module _ (c : tie.After-known-told2 Inv-loop μ-loop) where
       ≡ runOps (envWith (length (loop plainly .loop .reply)) (page (loop plainly)) (start (loop plainly) .args .input .now) (start (loop plainly) .args .sense) (at (taken plainly))) (ops (taken plainly)) (world (loop plainly)) []
   plain-done = plain-ends (plainly .run-plain .ensures) (c .before .r .given .1) (around plainly)
 
--- and where it needed them
+-- where it came to GOSUB or RETURN
+module _ (c : tie.After-call-turn Inv-loop μ-loop) where
+  abbrev calling : tie.After-run-plain Inv-loop μ-loop
+  calling = c .before .before .before .before .before .before .before .before
+
+  abbrev called : Did
+  called = did (c .call-turn .result .way) (withGosubsIn (loop calling .loop .p) (c .call-turn .result .stack))
+
+  call-done : didIn called (vars-plain calling) (loop calling .loop .memory) (loop calling .loop .output)
+      ≡ runOps (envWith (length (loop calling .loop .reply)) (page (loop calling)) (start (loop calling) .args .input .now) (start (loop calling) .args .sense) (at (taken calling))) (ops (taken calling)) (world (loop calling)) []
+  call-done =
+      let l = loop calling in
+      ap (gosubsIn (worldWith (vars-plain calling) (l .loop .p) (l .loop .memory) (l .loop .output))) (c .call-turn .ensures)
+      ∙ plain-calls (calling .run-plain .ensures) (c .before .before .r2 .given .1) (around calling)
+
+-- and where it needed the parts
 module _ (c : tie.After-run-from Inv-loop μ-loop) where
   abbrev needed : tie.After-run-plain Inv-loop μ-loop
   needed = c .before .before .before .before .before .before .before .before .before .before .before .before .before .before .before
@@ -282,7 +297,7 @@ module _ (c : tie.After-run-from Inv-loop μ-loop) where
 
   rest-done : didIn (c .run-from .result) vars-left memory-left output-left
       ≡ runOps (envWith (length (loop needed .loop .reply)) (page (loop needed)) (start (loop needed) .args .input .now) (start (loop needed) .args .sense) (at (taken needed))) (ops (taken needed)) (world (loop needed)) []
-  rest-done = c .run-from .ensures ∙ plain-needs (needed .run-plain .ensures) (c .before .before .before .before .before .before .before .before .before .r2 .given .1) (around needed)
+  rest-done = c .run-from .ensures ∙ plain-needs (needed .run-plain .ensures) (c .before .before .before .before .before .before .before .before .before .r3 .given .1) (around needed)
 
 loop-less : tie.Need-loop-less Inv-loop μ-loop
 loop-less c = omega (arith, one-left (c .before .before .before .before .before .before .before .before .before .before .before))
@@ -299,13 +314,13 @@ loop-again c =
       omega (arith, one-left s),
       stands s (ended e) (vars-plain s) (l .loop .memory) (l .loop .output) (plain-done e) x g,
       still-fits s (ended e) (vars-plain s) (l .loop .memory) (l .loop .output) (plain-done e),
-      s .run-plain .kept .1 .1 .1 .1 .1 .0 ∙ i .3,
+      s .run-plain .kept .1 .1 .1 .1 .1 .1 .0 ∙ i .3,
       i .4,
       i .5,
       i .6,
       i .7,
-      s .run-plain .kept .1 .1 .1 .1 .1 .1 .1 .0 ∙ i .8,
-      s .before .before .before .before .before .before .before .before .before .before .before .before .fetch .kept .1 .1 .1 .0 ∙ i .9,
+      s .run-plain .kept .1 .1 .1 .1 .1 .1 .1 .1 .0 ∙ i .8,
+      s .before .before .before .before .before .before .before .before .before .before .before .before .before .fetch .kept .1 .1 .1 .0 ∙ i .9,
       i .10 ∙ goes-on s (ended e) (vars-plain s) (l .loop .memory) (l .loop .output) (plain-done e) x g,
     )
 
@@ -320,58 +335,94 @@ returns-3 c =
     rw (c .stops .ensures)
     (stops-so s (ended e) (vars-plain s) (l .loop .memory) (l .loop .output) (plain-done e) (c .before .before .led2 .given .0 .0) (sym (c .before .before .before .before .led-by .ensures) ∙ ap ledTo (c .before .before .led2 .given .1)))
 
+loop-less-2 : tie.Need-loop-less-2 Inv-loop μ-loop
+loop-less-2 c = omega (arith, one-left (c .before .before .before .before .before .before .before .before .before .before .before .before .before))
+
+loop-again-2 : tie.Need-loop-again-2 Inv-loop μ-loop
+loop-again-2 c =
+    let e = c .before .before .before .before .before in
+    let s = c .before .before .before .before .before .before .before .before .before .before .before .before .before in
+    let l = loop s in
+    let i = l .loop .inv in
+    let x = positionOf (c .before .led3 .given .0 .0) in
+    let g = sym (c .before .before .before .led-by2 .ensures) ∙ ap ledTo (c .before .led3 .given .1) in
+    let b = i .0 in (
+      omega (arith, one-left s),
+      stands s (called e) (vars-plain s) (l .loop .memory) (l .loop .output) (call-done e) x g,
+      still-fits s (called e) (vars-plain s) (l .loop .memory) (l .loop .output) (call-done e),
+      s .run-plain .kept .1 .1 .1 .1 .1 .1 .0 ∙ i .3,
+      i .4,
+      i .5,
+      i .6,
+      i .7,
+      s .run-plain .kept .1 .1 .1 .1 .1 .1 .1 .1 .0 ∙ i .8,
+      s .before .before .before .before .before .before .before .before .before .before .before .before .before .fetch .kept .1 .1 .1 .0 ∙ i .9,
+      i .10 ∙ goes-on s (called e) (vars-plain s) (l .loop .memory) (l .loop .output) (call-done e) x g,
+    )
+
+stops-requires-2 : tie.Need-stops-requires-2 Inv-loop μ-loop
+stops-requires-2 c κs = let e = c .before .before .before .before .before in let s = c .before .before .before .before .before .before .before .before .before .before .before .before .before in let l = loop s in omega (arith, place-small s (called e) (vars-plain s) (l .loop .memory) (l .loop .output) (call-done e))
+
+returns-4 : tie.Need-returns-4 Inv-loop μ-loop
+returns-4 c =
+    let e = c .before .before .before .before .before .before in
+    let s = c .before .before .before .before .before .before .before .before .before .before .before .before .before .before in
+    let l = loop s in
+    rw (c .stops2 .ensures)
+    (stops-so s (called e) (vars-plain s) (l .loop .memory) (l .loop .output) (call-done e) (c .before .before .led4 .given .0 .0) (sym (c .before .before .before .before .led-by2 .ensures) ∙ ap ledTo (c .before .before .led4 .given .1)))
+
 run-from-requires : tie.Need-run-from-requires Inv-loop μ-loop
 run-from-requires c κs =
     let s = c .before .before .before .before .before .before .before .before .before .before .before .before .before .before in
-    let k = c .before .before .before .before .before .before .before .before .before .before .before .before .before .before .before .before .before .before .before .before .before in
+    let k = c .before .before .before .before .before .before .before .before .before .before .before .before .before .before .before .before .before .before .before .before .before .before in
     let l = loop s in
     let f = fair l in
     let i = l .loop .inv in
     let a = i .6 in
     let b = i .7 in
     let d = i .8 in
-    let v = s .run-plain .kept .1 .1 .1 .1 .1 .1 .1 .0 in
+    let v = s .run-plain .kept .1 .1 .1 .1 .1 .1 .1 .1 .0 in
     let r = f .replyOps in
     let u = f .replyValues in
     let w = f .short in (
       record { places = f .places; top = f .top; stack = omega (arith, values-room k); replyOps = omega arith; replyValues = omega arith; short = omega arith },
-      plain-within (s .run-plain .ensures) (c .before .before .before .before .before .before .before .before .r2 .given .1),
+      plain-within (s .run-plain .ensures) (c .before .before .before .before .before .before .before .before .r3 .given .1),
     )
 
-loop-less-2 : tie.Need-loop-less-2 Inv-loop μ-loop
-loop-less-2 c = omega (arith, one-left (c .before .before .before .before .before .before .before .before .before .before .before .before .before .before .before .before .before .before .before .before .before .before .before .before .before .before .before .before .before .before .before .before))
+loop-less-3 : tie.Need-loop-less-3 Inv-loop μ-loop
+loop-less-3 c = omega (arith, one-left (c .before .before .before .before .before .before .before .before .before .before .before .before .before .before .before .before .before .before .before .before .before .before .before .before .before .before .before .before .before .before .before .before))
 
-loop-again-2 : tie.Need-loop-again-2 Inv-loop μ-loop
-loop-again-2 c =
+loop-again-3 : tie.Need-loop-again-3 Inv-loop μ-loop
+loop-again-3 c =
     let r = c .before .before .before .before .before .before .before .before .before .before .before .before .before .before .before .before .before in
     let s = needed r in
     let l = loop s in
     let k = r .run-from .kept in
     let i = l .loop .inv in
-    let x = positionOf (c .before .led3 .given .0 .0) in
-    let g = sym (c .before .before .before .led-by2 .ensures) ∙ ap ledTo (c .before .led3 .given .1) in
+    let x = positionOf (c .before .led5 .given .0 .0) in
+    let g = sym (c .before .before .before .led-by3 .ensures) ∙ ap ledTo (c .before .led5 .given .1) in
     let b = i .0 in (
       omega (arith, one-left s),
       stands s (r .run-from .result) (vars-left r) (memory-left r) (output-left r) (rest-done r) x g,
       still-fits s (r .run-from .result) (vars-left r) (memory-left r) (output-left r) (rest-done r),
-      k .1 .1 .1 .1 .1 .1 .1 .0 ∙ s .run-plain .kept .1 .1 .1 .1 .1 .0 ∙ i .3,
+      k .1 .1 .1 .1 .1 .1 .1 .0 ∙ s .run-plain .kept .1 .1 .1 .1 .1 .1 .0 ∙ i .3,
       k .1 .1 .1 .1 .1 .1 .1 .1 .0 ∙ i .4,
       k .1 .1 .1 .1 .1 .1 .1 .1 .1 .0 ∙ i .5,
       k .1 .1 .1 .1 .1 .1 .1 .1 .1 .1 .0 ∙ i .6,
       k .1 .1 .1 .1 .1 .1 .1 .1 .1 .1 .1 .0 ∙ i .7,
-      k .1 .1 .1 .1 .1 .1 .1 .1 .1 .1 .1 .1 .0 ∙ s .run-plain .kept .1 .1 .1 .1 .1 .1 .1 .0 ∙ i .8,
-      s .before .before .before .before .before .before .before .before .before .before .before .before .fetch .kept .1 .1 .1 .0 ∙ i .9,
+      k .1 .1 .1 .1 .1 .1 .1 .1 .1 .1 .1 .1 .0 ∙ s .run-plain .kept .1 .1 .1 .1 .1 .1 .1 .1 .0 ∙ i .8,
+      s .before .before .before .before .before .before .before .before .before .before .before .before .before .fetch .kept .1 .1 .1 .0 ∙ i .9,
       i .10 ∙ goes-on s (r .run-from .result) (vars-left r) (memory-left r) (output-left r) (rest-done r) x g,
     )
 
-stops-requires-2 : tie.Need-stops-requires-2 Inv-loop μ-loop
-stops-requires-2 c κs = let r = c .before .before .before .before .before .before .before .before .before .before .before .before .before .before .before .before .before in omega (arith, place-small (needed r) (r .run-from .result) (vars-left r) (memory-left r) (output-left r) (rest-done r))
+stops-requires-3 : tie.Need-stops-requires-3 Inv-loop μ-loop
+stops-requires-3 c κs = let r = c .before .before .before .before .before .before .before .before .before .before .before .before .before .before .before .before .before in omega (arith, place-small (needed r) (r .run-from .result) (vars-left r) (memory-left r) (output-left r) (rest-done r))
 
-returns-4 : tie.Need-returns-4 Inv-loop μ-loop
-returns-4 c =
+returns-5 : tie.Need-returns-5 Inv-loop μ-loop
+returns-5 c =
     let r = c .before .before .before .before .before .before .before .before .before .before .before .before .before .before .before .before .before .before in
-    rw (c .stops2 .ensures)
-    (stops-so (needed r) (r .run-from .result) (vars-left r) (memory-left r) (output-left r) (rest-done r) (c .before .before .led4 .given .0 .0) (sym (c .before .before .before .before .led-by2 .ensures) ∙ ap ledTo (c .before .before .led4 .given .1)))
+    rw (c .stops3 .ensures)
+    (stops-so (needed r) (r .run-from .result) (vars-left r) (memory-left r) (output-left r) (rest-done r) (c .before .before .led6 .given .0 .0) (sym (c .before .before .before .before .led-by3 .ensures) ∙ ap ledTo (c .before .before .led6 .given .1)))
 
 pub run-steps-spec : {M : Type 1} → statement M
 run-steps-spec =
@@ -404,8 +455,8 @@ run-steps-spec =
     returns-2
     sub-left
     add-steps
-    (λ c. omega (arith, fits (c .before .before)))
-    (λ c. sym (few (c .before .before .before)))
+    (λ c. omega (arith, fits (c .before .before .before)))
+    (λ c. sym (few (c .before .before .before .before)))
     run-plain-requires
     (λ c. search needs)
     (λ c κs. search needs)
@@ -414,29 +465,45 @@ run-steps-spec =
     loop-again
     (λ c. search needs)
     stops-requires
-    (λ c. c .before .before .before .before .before .before .before .before .before .before .before .before .run-plain .kept .1 .1 .1 .1 .1 .0 ∙ c .before .before .before .before .before .before .before .before .before .before .before .before .before .before .before .before .before .before .before .before .before .before .before .before .before .before .loop .inv .3)
-    (λ c. c .before .before .before .before .before .before .before .before .before .before .before .before .before .before .before .before .before .before .before .before .before .before .before .before .before .before .loop .inv .4)
-    (λ c. c .before .before .before .before .before .before .before .before .before .before .before .before .before .before .before .before .before .before .before .before .before .before .before .before .before .before .loop .inv .5)
-    (λ c. c .before .before .before .before .before .before .before .before .before .before .before .before .before .before .before .before .before .before .before .before .before .before .before .before .before .before .loop .inv .6)
-    (λ c. c .before .before .before .before .before .before .before .before .before .before .before .before .before .before .before .before .before .before .before .before .before .before .before .before .before .before .loop .inv .7)
-    (λ c. c .before .before .before .before .before .before .before .before .before .before .before .before .run-plain .kept .1 .1 .1 .1 .1 .1 .1 .0 ∙ c .before .before .before .before .before .before .before .before .before .before .before .before .before .before .before .before .before .before .before .before .before .before .before .before .before .before .loop .inv .8)
-    (λ c. c .before .before .before .before .before .before .before .before .before .before .before .before .before .before .before .before .before .before .before .before .before .before .before .before .fetch .kept .1 .1 .1 .0 ∙ c .before .before .before .before .before .before .before .before .before .before .before .before .before .before .before .before .before .before .before .before .before .before .before .before .before .before .loop .inv .9)
+    (λ c. c .before .before .before .before .before .before .before .before .before .before .before .before .run-plain .kept .1 .1 .1 .1 .1 .1 .0 ∙ c .before .before .before .before .before .before .before .before .before .before .before .before .before .before .before .before .before .before .before .before .before .before .before .before .before .before .before .loop .inv .3)
+    (λ c. c .before .before .before .before .before .before .before .before .before .before .before .before .before .before .before .before .before .before .before .before .before .before .before .before .before .before .before .loop .inv .4)
+    (λ c. c .before .before .before .before .before .before .before .before .before .before .before .before .before .before .before .before .before .before .before .before .before .before .before .before .before .before .before .loop .inv .5)
+    (λ c. c .before .before .before .before .before .before .before .before .before .before .before .before .before .before .before .before .before .before .before .before .before .before .before .before .before .before .before .loop .inv .6)
+    (λ c. c .before .before .before .before .before .before .before .before .before .before .before .before .before .before .before .before .before .before .before .before .before .before .before .before .before .before .before .loop .inv .7)
+    (λ c. c .before .before .before .before .before .before .before .before .before .before .before .before .run-plain .kept .1 .1 .1 .1 .1 .1 .1 .1 .0 ∙ c .before .before .before .before .before .before .before .before .before .before .before .before .before .before .before .before .before .before .before .before .before .before .before .before .before .before .before .loop .inv .8)
+    (λ c. c .before .before .before .before .before .before .before .before .before .before .before .before .before .before .before .before .before .before .before .before .before .before .before .before .before .fetch .kept .1 .1 .1 .0 ∙ c .before .before .before .before .before .before .before .before .before .before .before .before .before .before .before .before .before .before .before .before .before .before .before .before .before .before .before .loop .inv .9)
     returns-3
     (λ c. search needs)
-    (λ c. omega (arith, fits (c .before .before .before .before .before .before .before .before .before .before .before .before .before .before)))
-    (λ c. sym (few (c .before .before .before .before .before .before .before .before .before .before .before .before .before .before .before)))
-    run-from-requires
+    (λ c κs. search needs)
     (λ c κs. search needs)
     (λ c. search needs)
     loop-less-2
     loop-again-2
     (λ c. search needs)
     stops-requires-2
-    (λ c. let r = c .before .before .before .before .before .before .before .before .before .before .before .before .before .before .before .before .before .before in r .run-from .kept .1 .1 .1 .1 .1 .1 .1 .0 ∙ needed r .run-plain .kept .1 .1 .1 .1 .1 .0 ∙ loop (needed r) .loop .inv .3)
+    (λ c. c .before .before .before .before .before .before .before .before .before .before .before .before .before .before .run-plain .kept .1 .1 .1 .1 .1 .1 .0 ∙ c .before .before .before .before .before .before .before .before .before .before .before .before .before .before .before .before .before .before .before .before .before .before .before .before .before .before .before .before .before .loop .inv .3)
+    (λ c. c .before .before .before .before .before .before .before .before .before .before .before .before .before .before .before .before .before .before .before .before .before .before .before .before .before .before .before .before .before .loop .inv .4)
+    (λ c. c .before .before .before .before .before .before .before .before .before .before .before .before .before .before .before .before .before .before .before .before .before .before .before .before .before .before .before .before .before .loop .inv .5)
+    (λ c. c .before .before .before .before .before .before .before .before .before .before .before .before .before .before .before .before .before .before .before .before .before .before .before .before .before .before .before .before .before .loop .inv .6)
+    (λ c. c .before .before .before .before .before .before .before .before .before .before .before .before .before .before .before .before .before .before .before .before .before .before .before .before .before .before .before .before .before .loop .inv .7)
+    (λ c. c .before .before .before .before .before .before .before .before .before .before .before .before .before .before .run-plain .kept .1 .1 .1 .1 .1 .1 .1 .1 .0 ∙ c .before .before .before .before .before .before .before .before .before .before .before .before .before .before .before .before .before .before .before .before .before .before .before .before .before .before .before .before .before .loop .inv .8)
+    (λ c. c .before .before .before .before .before .before .before .before .before .before .before .before .before .before .before .before .before .before .before .before .before .before .before .before .before .before .before .fetch .kept .1 .1 .1 .0 ∙ c .before .before .before .before .before .before .before .before .before .before .before .before .before .before .before .before .before .before .before .before .before .before .before .before .before .before .before .before .before .loop .inv .9)
+    returns-4
+    (λ c. search needs)
+    (λ c. omega (arith, fits (c .before .before .before .before .before .before .before .before .before .before .before .before .before .before .before)))
+    (λ c. sym (few (c .before .before .before .before .before .before .before .before .before .before .before .before .before .before .before .before)))
+    run-from-requires
+    (λ c κs. search needs)
+    (λ c. search needs)
+    loop-less-3
+    loop-again-3
+    (λ c. search needs)
+    stops-requires-3
+    (λ c. let r = c .before .before .before .before .before .before .before .before .before .before .before .before .before .before .before .before .before .before in r .run-from .kept .1 .1 .1 .1 .1 .1 .1 .0 ∙ needed r .run-plain .kept .1 .1 .1 .1 .1 .1 .0 ∙ loop (needed r) .loop .inv .3)
     (λ c. let r = c .before .before .before .before .before .before .before .before .before .before .before .before .before .before .before .before .before .before in r .run-from .kept .1 .1 .1 .1 .1 .1 .1 .1 .0 ∙ loop (needed r) .loop .inv .4)
     (λ c. let r = c .before .before .before .before .before .before .before .before .before .before .before .before .before .before .before .before .before .before in r .run-from .kept .1 .1 .1 .1 .1 .1 .1 .1 .1 .0 ∙ loop (needed r) .loop .inv .5)
     (λ c. let r = c .before .before .before .before .before .before .before .before .before .before .before .before .before .before .before .before .before .before in r .run-from .kept .1 .1 .1 .1 .1 .1 .1 .1 .1 .1 .0 ∙ loop (needed r) .loop .inv .6)
     (λ c. let r = c .before .before .before .before .before .before .before .before .before .before .before .before .before .before .before .before .before .before in r .run-from .kept .1 .1 .1 .1 .1 .1 .1 .1 .1 .1 .1 .0 ∙ loop (needed r) .loop .inv .7)
-    (λ c. let r = c .before .before .before .before .before .before .before .before .before .before .before .before .before .before .before .before .before .before in r .run-from .kept .1 .1 .1 .1 .1 .1 .1 .1 .1 .1 .1 .1 .0 ∙ needed r .run-plain .kept .1 .1 .1 .1 .1 .1 .1 .0 ∙ loop (needed r) .loop .inv .8)
-    (λ c. let s = needed (c .before .before .before .before .before .before .before .before .before .before .before .before .before .before .before .before .before .before) in s .before .before .before .before .before .before .before .before .before .before .before .before .fetch .kept .1 .1 .1 .0 ∙ loop s .loop .inv .9)
-    returns-4)
+    (λ c. let r = c .before .before .before .before .before .before .before .before .before .before .before .before .before .before .before .before .before .before in r .run-from .kept .1 .1 .1 .1 .1 .1 .1 .1 .1 .1 .1 .1 .0 ∙ needed r .run-plain .kept .1 .1 .1 .1 .1 .1 .1 .1 .0 ∙ loop (needed r) .loop .inv .8)
+    (λ c. let s = needed (c .before .before .before .before .before .before .before .before .before .before .before .before .before .before .before .before .before .before) in s .before .before .before .before .before .before .before .before .before .before .before .before .before .fetch .kept .1 .1 .1 .0 ∙ loop s .loop .inv .9)
+    returns-5)

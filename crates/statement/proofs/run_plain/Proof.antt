@@ -8,25 +8,25 @@ use native.Mathlib.Omega.{arith}
 use borrow.Author.Tests.{not-true, not-false}
 use lib.ListN.{length, drop, getD}
 use Rattle.codes.specs.Codes.{codeIn, argumentIn}
-use Rattle.world.specs.Turns.{wayOf}
+use Rattle.world.specs.Turns.{wayOf, gosubsIn}
 use Rattle.world.specs.declared.jump.Way.{Way}
 use Rattle.operation.specs.Operations.{runOps}
 use Rattle.operation.specs.Stacks.{stackOf}
-use Rattle.effect.specs.Acts.{actedTo, actBy}
+use Rattle.effect.specs.Acts.{actedTo, actBy, callTurn}
 use Rattle.effect.proofs.Acts.{act-not}
 use Rattle.statement.specs.Plain.{Seen, Around, seen, envFrom, worldFrom}
 use Rattle.statement.proofs.Running.{run-end}
-use Rattle.statement.proofs.Plainly.{Reaches, plain-refused, plain-reached, plain-on, plain-off}
+use Rattle.statement.proofs.Plainly.{Reaches, plain-refused, plain-reached, plain-on, plain-off, plain-called}
 use borrow.Author.Needs.{needs}
 use Rattle.statement.proofs.run_plain.Statement.{statement}
 use Rattle.statement.proofs.run_plain.Tie as tie
 
 abbrev Inv-loop : tie.InvT-loop
-Inv-loop ops page sense flags fors vars₀ memory values₀ i₀ vars values i =
-    (length vars ≡ length vars₀) × (length values ≡ length values₀) × Reaches (seen page sense flags fors memory) ops vars₀ i vars
+Inv-loop ops page sense flags dos fors vars₀ memory values₀ i₀ vars values i =
+    (length vars ≡ length vars₀) × (length values ≡ length values₀) × Reaches (seen page sense flags dos fors memory) ops vars₀ i vars
 
 abbrev μ-loop : tie.MeasureT-loop
-μ-loop ops page sense flags fors vars₀ memory values₀ i₀ vars values i = length ops - i
+μ-loop ops page sense flags dos fors vars₀ memory values₀ i₀ vars values i = length ops - i
 
 -- at the head of the loop: what is seen, and the list
 module _ (l : tie.At-loop Inv-loop μ-loop) where
@@ -37,7 +37,7 @@ module _ (l : tie.At-loop Inv-loop μ-loop) where
   ops = start .args .ops .now
 
   abbrev sees : Seen
-  sees = seen (start .args .page .now) (start .args .sense) (start .args .flags) (start .args .fors) (start .args .memory .now)
+  sees = seen (start .args .page .now) (start .args .sense) (start .args .flags) (start .args .dos) (start .args .fors) (start .args .memory .now)
 
 loop-holds : tie.Need-loop-holds Inv-loop μ-loop
 loop-holds c = (refl, refl, record { at = λ a. refl })
@@ -82,15 +82,40 @@ returns-2 c =
       within = omega arith;
     }
 
+-- where it does not act at once: the variables are as they were
+module _ (c : tie.After-enum-told Inv-loop μ-loop) where
+  abbrev waits : tie.After-known-told2 Inv-loop μ-loop
+  waits = c .before .before .before .before .before .before .before .before .before .before
+
+  some-next : next waits < length (ops (head waits))
+  some-next = omega (arith, c .before .before .before .before .before .before .before .before .before .if1 .left)
+
+  same-vars : c .before .before .before .before .act .last .1 .1 .1 .1 .0 ≡ head waits .loop .vars
+  same-vars =
+      let n = start (head waits) .args in
+      act-not (n .page .now) (n .dos) (n .fors) (argumentIn (there waits)) (c .before .before .before .before .before .before .nth .result) (head waits .loop .vars) (codeIn (there waits)) (rw (c .enum-told .given .1) at (c .before .before .before .before .act .ensures))
+
 returns-3 : tie.Need-returns-3 Inv-loop μ-loop
 returns-3 c =
-    let k = c .before .before .before .before .before .before .before .before .before .before in
+    let d = c .before .before in
+    let k = waits d in
     let l = head k in
-    let n = start l .args in
-    let e = act-not (n .page .now) (n .fors) (argumentIn (there k)) (c .before .before .before .before .before .before .nth .result) (l .loop .vars) (codeIn (there k)) (rw (c .enum-told .given .1) at (c .before .before .before .before .act .ensures)) in
     record {
-      runs = λ a. sym (reached k a ∙ ap (λ (v : List ℕ). runOps (envFrom (sees l) a) (drop (next k) (ops l)) (worldFrom (sees l) a v) (stack k)) (sym e));
-      within = rw (c .before .before .before .before .before .before .before .before .before .before .before .r2 .given .1) at (c .before .before .before .before .before .before .before .before .before .before .before .before .before .before .before .values-first .ensures .1);
+      runs = λ a. sym
+          (reached k a
+          ∙ plain-called (sees l) a (start l .pre .1) (ops l) (l .loop .vars) (stack k) (next k) (some-next d) (c .before .before .before .before .before .before .before .before .nth .ensures) (sym (c .before .is-call .ensures) ∙ c .if2 .taken)
+          ∙ ap (λ (v : List ℕ). gosubsIn (worldFrom (sees l) a v) (callTurn (start l .args .page .now) (a .here) (a .gosubs) (codeIn (there k)) (c .before .before .before .before .before .before .before .before .nth .result))) (sym (same-vars d)));
+      within = omega arith;
+    }
+
+returns-4 : tie.Need-returns-4 Inv-loop μ-loop
+returns-4 c =
+    let d = c .before .before in
+    let k = waits d in
+    let l = head k in
+    record {
+      runs = λ a. sym (reached k a ∙ ap (λ (v : List ℕ). runOps (envFrom (sees l) a) (drop (next k) (ops l)) (worldFrom (sees l) a v) (stack k)) (sym (same-vars d)));
+      within = rw (c .before .before .before .before .before .before .before .before .before .before .before .before .before .r2 .given .1) at (c .before .before .before .before .before .before .before .before .before .before .before .before .before .before .before .before .before .values-first .ensures .1);
     }
 
 -- where an operation acted at once, and how it ended
@@ -107,18 +132,18 @@ module _ (c : tie.After-is-on Inv-loop μ-loop) where
   some-left : next before < length (ops (head before))
   some-left = omega (arith, c .before .before .before .before .before .before .before .before .before .before .before .if1 .left)
 
-  is-acted : (let n = start (head before) .args in actedTo (some (wayOf way)) vars ≡ actBy (n .page .now) (n .fors) (codeIn (there before)) (argumentIn (there before)) (c .before .before .before .before .before .before .before .before .nth .result) (head before .loop .vars))
+  is-acted : (let n = start (head before) .args in actedTo (some (wayOf way)) vars ≡ actBy (n .page .now) (n .dos) (n .fors) (codeIn (there before)) (argumentIn (there before)) (c .before .before .before .before .before .before .before .before .nth .result) (head before .loop .vars))
   is-acted = rw (c .before .before .a .given .1) at (c .before .before .before .before .before .before .act .ensures)
 
-returns-4 : tie.Need-returns-4 Inv-loop μ-loop
-returns-4 c =
+returns-5 : tie.Need-returns-5 Inv-loop μ-loop
+returns-5 c =
     let b = c .before in
     let k = before b in
     let l = head k in
     record {
       runs = λ a. sym
           (reached k a
-          ∙ plain-off (sees l) a (start l .pre .1) (ops l) (l .loop .vars) (stack k) (next k) (some-left b) (c .before .before .before .before .before .before .before .before .before .nth .ensures) (way b) (is-acted b) (sym (c .before .is-on .ensures) ∙ not-true _ (c .if2 .taken)));
+          ∙ plain-off (sees l) a (start l .pre .1) (ops l) (l .loop .vars) (stack k) (next k) (some-left b) (c .before .before .before .before .before .before .before .before .before .nth .ensures) (way b) (is-acted b) (sym (c .before .is-on .ensures) ∙ not-true _ (c .if3 .taken)));
       within = omega arith;
     }
 
@@ -137,7 +162,7 @@ loop-again c =
       c .before .before .before .before .before .before .before .before .before .before .before .before .before .before .before .before .before .before .values-first .kept .1 .1 .1 .1 .1 .1 .1 .0 ∙ l .loop .inv .1,
       record {
         at = λ a. reached k a
-            ∙ plain-on (sees l) a (start l .pre .1) (ops l) (l .loop .vars) (stack k) (next k) (some-left b) (c .before .before .before .before .before .before .before .before .before .nth .ensures) (way b) (is-acted b) (sym (c .before .is-on .ensures) ∙ not-false _ (c .if2 .left));
+            ∙ plain-on (sees l) a (start l .pre .1) (ops l) (l .loop .vars) (stack k) (next k) (some-left b) (c .before .before .before .before .before .before .before .before .before .nth .ensures) (way b) (is-acted b) (sym (c .before .is-on .ensures) ∙ not-false _ (c .if3 .left));
       },
     )
 
@@ -163,13 +188,17 @@ run-plain-spec =
     (λ c κs. search needs)
     (λ c. search needs)
     (λ c. search needs)
-    (λ c. c .before .before .before .before .act .kept .1 .1 .1 .1 .0 ∙ c .before .before .before .before .before .before .before .before .before .before .before .before .before .before .before .before .before .before .loop .inv .0)
-    (λ c. c .before .before .before .before .before .before .before .before .before .before .before .before .before .before .before .values-first .kept .1 .1 .1 .1 .1 .1 .1 .0 ∙ c .before .before .before .before .before .before .before .before .before .before .before .before .before .before .before .before .before .before .loop .inv .1)
+    (λ c κs. search needs)
+    (λ c. c .before .before .before .before .before .before .act .kept .1 .1 .1 .1 .0 ∙ c .before .before .before .before .before .before .before .before .before .before .before .before .before .before .before .before .before .before .before .before .loop .inv .0)
+    (λ c. c .before .before .before .before .before .before .before .before .before .before .before .before .before .before .before .before .before .values-first .kept .1 .1 .1 .1 .1 .1 .1 .0 ∙ c .before .before .before .before .before .before .before .before .before .before .before .before .before .before .before .before .before .before .before .before .loop .inv .1)
     returns-3
+    (λ c. c .before .before .before .before .before .before .act .kept .1 .1 .1 .1 .0 ∙ c .before .before .before .before .before .before .before .before .before .before .before .before .before .before .before .before .before .before .before .before .loop .inv .0)
+    (λ c. c .before .before .before .before .before .before .before .before .before .before .before .before .before .before .before .before .before .values-first .kept .1 .1 .1 .1 .1 .1 .1 .0 ∙ c .before .before .before .before .before .before .before .before .before .before .before .before .before .before .before .before .before .before .before .before .loop .inv .1)
+    returns-4
     (λ c κs. search needs)
     (λ c. c .before .before .before .before .before .before .before .act .kept .1 .1 .1 .1 .0 ∙ c .before .before .before .before .before .before .before .before .before .before .before .before .before .before .before .before .before .before .before .before .before .loop .inv .0)
     (λ c. c .before .before .before .before .before .before .before .before .before .before .before .before .before .before .before .before .before .before .values-first .kept .1 .1 .1 .1 .1 .1 .1 .0 ∙ c .before .before .before .before .before .before .before .before .before .before .before .before .before .before .before .before .before .before .before .before .before .loop .inv .1)
-    returns-4
+    returns-5
     add-i
     loop-less
     loop-again)

@@ -21,7 +21,7 @@ use Rattle.world.specs.declared.jump.Turn.{Turn}
 use Rattle.world.specs.declared.jump.ForTurn.{ForTurn}
 use Rattle.world.specs.declared.jump.Back.{Back}
 use Rattle.world.specs.declared.jump.Back.the-variants as back′
-use Rattle.world.specs.Turns.{wayOf, Turned, turned, TurnedFor, turnedFor, wayTo, gosubTurn, returnTurn, doTurn, untilTurn, forTurn, nextTurn, Backed, backed, nextBack}
+use Rattle.world.specs.Turns.{wayOf, Turned, turned, TurnedFor, turnedFor, wayTo, gosubTurn, returnTurn, doTurn, untilTurn, forTurn, nextTurn, backOf, backed, nextBack, untilBack}
 
 pub var-determined : (vars : List ℕ) (v a b : ℕ) → a ≡ getD vars v 0 → b ≡ getD vars v 0 → a ≡ b
 var-determined vars v = determined (getD vars v 0)
@@ -95,19 +95,18 @@ abbrev backAt : Option ℕ → Back
 backAt none = back′.Not
 backAt (some q) = back′.To (place q)
 
-back-at : (b : Back) (vars : List ℕ) → backAt (backed b vars .to) ≡ b
-back-at (back′.To p) vars = refl
-back-at back′.Not vars = refl
+back-at : (b : Back) → backAt (backOf b) ≡ b
+back-at (back′.To p) = refl
+back-at back′.Not = refl
 
-pub back-determined : (s : ForStack) (vars : List ℕ) (v : ℕ) (a b : Back) (u u′ : List ℕ)
+back-same : (a b : Back) → backOf a ≡ backOf b → a ≡ b
+back-same a b e = sym (back-at a) ∙ ap backAt e ∙ back-at b
+
+pub next-back-determined : (s : ForStack) (vars : List ℕ) (v : ℕ) (a b : Back) (u u′ : List ℕ)
     → backed a u ≡ nextBack s vars v → backed b u′ ≡ nextBack s vars v → (a ≡ b) × (u ≡ u′)
-back-determined s vars v a b u u′ p q =
+next-back-determined s vars v a b u u′ p q =
     let e = determined (nextBack s vars v) (backed a u) (backed b u′) p q in
-    (sym (back-at a u) ∙ ap (λ (x : Backed). backAt (x .to)) e ∙ back-at b u′, vars-same a b u u′ e)
-  where
-    vars-same : (a b : Back) (u u′ : List ℕ) → backed a u ≡ backed b u′ → u ≡ u′
-    vars-same a b u u′ e = sym (left a u) ∙ ap (λ (x : Backed). x .vars) e ∙ left b u′
-      where
-        left : (a : Back) (u : List ℕ) → backed a u .vars ≡ u
-        left (back′.To p) u = refl
-        left back′.Not u = refl
+    (back-same a b (λ i. e i .to), λ i. e i .vars)
+
+pub until-back-determined : (x : ℕ) (s : PlaceStack) (a b : Back) → backOf a ≡ untilBack x s → backOf b ≡ untilBack x s → a ≡ b
+until-back-determined x s a b p q = back-same a b (determined (untilBack x s) (backOf a) (backOf b) p q)

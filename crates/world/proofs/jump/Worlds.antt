@@ -13,6 +13,7 @@ use Rattle.nibl.specs.Stack.{popOf, popFor}
 use Rattle.nibl.specs.Meaning.{World, Env, Next, done, on, go, stop, given, lineThere, gosubTo, returnBy, doHere, untilBy, forHere, nextBy}
 use Rattle.nibl.specs.Record.{place}
 use Rattle.nibl.specs.declared.ForStack.{ForStack}
+use Rattle.nibl.specs.declared.PlaceStack.{PlaceStack}
 use Rattle.nibl.specs.declared.Top.{Top}
 use Rattle.nibl.specs.declared.Top.the-variants as top
 use Rattle.nibl.specs.declared.TopFor.{TopFor}
@@ -20,7 +21,7 @@ use Rattle.nibl.specs.declared.TopFor.the-variants as topf
 use Rattle.page.specs.Walk.{reached}
 use Rattle.page.proofs.Walk.{by-cases}
 use Rattle.page.proofs.Kept.{reached-all}
-use Rattle.world.specs.Turns.{wayTo, keepTurn, gosubTurn, returnOn, returnTurn, doTurn, untilOn, untilTurn, forTurn, addsStep, steppedOn, nextOn, nextTurn, TurnedFor, turnedForTo, Backed, backedTo, backBy, backOn, nextBack, gosubsIn, dosIn, forsIn}
+use Rattle.world.specs.Turns.{wayTo, keepTurn, gosubTurn, returnOn, returnTurn, doTurn, untilOn, untilTurn, forTurn, addsStep, steppedOn, nextOn, nextTurn, TurnedFor, turnedForTo, turnedTo, Backed, backedTo, backBy, backOn, nextBack, untilBackOn, untilBack, gosubsIn, dosIn, forsIn}
 
 pub goto-in : (w : World) (o : Option ℕ) → given (lineThere o) w (λ q. done (go q) w) ≡ done (wayTo o) w
 goto-in w none = refl
@@ -125,3 +126,24 @@ module _ (s : ForStack) (vars : List ℕ) (v : ℕ) where
   pub back-none : {us : List ℕ} → backedTo none us ≡ nextBack s vars v → us ≡ vars
   unfolding nextBack
   back-none e = not-on (popFor s .top) e
+
+-- and so is an UNTIL that goes back
+module _ (x : ℕ) (s : PlaceStack) where
+  nowhere : {q : ℕ} → _≡_ {A = Option ℕ} (some q) none → ⊥
+  nowhere e = let z : _≡_ {A = ℕ} 0 1 = cc in omega arith
+
+  placeOf : Option ℕ → ℕ
+  placeOf none = 0
+  placeOf (some q) = q
+
+  until-back-on : (t : Top) {q : ℕ} → some q ≡ untilBackOn x t → untilOn x s t ≡ turnedTo (go (suc q)) s
+  unfolding untilOn untilBackOn placeOf
+  until-back-on top.Empty e = absurd (nowhere e)
+  until-back-on (top.At p) e =
+      by-cases (eqb x 0)
+      (λ h. let f = rw h at e in let g = ap placeOf f in rw h (ap (λ (n : ℕ). turnedTo (go (suc n)) s) (sym g)))
+      (λ h. absurd (nowhere (rw h at e)))
+
+  pub until-turns : {q : ℕ} → some q ≡ untilBack x s → untilTurn x s ≡ turnedTo (go (suc q)) s
+  unfolding untilTurn untilBack
+  until-turns e = until-back-on (popOf s .top) e
