@@ -69,7 +69,7 @@ where
     /// let answer = gate.take_line(b"PRINT 7/2\r", &mut output, Call::at(0, 0, 0));
     /// assert_eq!(&output[..answer.outpos], b" 3 \r\n");
     /// let answer = gate.take_line(b"PRIMT 7/2\r", &mut output, Call::at(0, 0, 0));
-    /// assert_eq!(answer.stop.to_string(), "5: no reading");
+    /// assert_eq!(answer.stop.to_string(), "5: over-long or no reading");
     /// ```
     pub fn take_line(&mut self, input: &[u8], output: &mut [u8], call: Call) -> Answer {
         let (page, memory) = (self.page.as_mut(), self.memory.as_mut());

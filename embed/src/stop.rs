@@ -66,10 +66,14 @@ const TABLE: [(Stop, &str, &str); 20] = [
         "only in a line with a number",
         "nothing was run",
     ),
-    (Stop::NoReading, "no reading", "nothing was stored"),
+    (
+        Stop::NoReading,
+        "over-long or no reading",
+        "nothing was stored",
+    ),
     (
         Stop::BadReply,
-        "a reply not in its form",
+        "over-long or wrong reply",
         "it was taken, nothing given",
     ),
     (
@@ -100,7 +104,7 @@ const TABLE: [(Stop, &str, &str); 20] = [
     ),
     (
         Stop::DivisionByZero,
-        "division by 0",
+        "division or MOD by 0",
         "the rest was not done",
     ),
     (Stop::Paused, "paused", "the run can be continued"),
@@ -125,7 +129,7 @@ const TABLE: [(Stop, &str, &str); 20] = [
         "the record does not fit the page",
         "nothing was changed",
     ),
-    (Stop::End, "END", "all statements before it have run"),
+    (Stop::End, "END", "nothing was run after it"),
 ];
 
 impl Stop {
@@ -166,7 +170,7 @@ impl Stop {
     /// What it means.
     ///
     /// ```
-    /// assert_eq!(nibl::Stop::NoReading.words(), "no reading");
+    /// assert_eq!(nibl::Stop::NoReading.words(), "over-long or no reading");
     /// ```
     pub fn words(self) -> &'static str {
         self.row().1
@@ -182,7 +186,7 @@ impl Stop {
     }
 }
 
-/// The number and the words: `5: no reading`.
+/// The number and the words: `5: over-long or no reading`.
 impl fmt::Display for Stop {
     fn fmt(&self, f: &mut fmt::Formatter) -> fmt::Result {
         write!(f, "{}: {}", self.number(), self.words())

@@ -131,7 +131,7 @@ pub fn drive_by(line: &[u8], make: impl Fn(&mut Case) -> Reading<Answer>) -> Str
         Ok(outcome) => outcome,
         Err(Unread::Skip) => "{\"skip\":true}".to_string(),
         Err(Unread::Error(what)) => {
-            let what: String = what.chars().filter(|c| !"\"\\".contains(*c)).collect();
+            let what = what.replace('\\', "\\\\").replace('"', "\\\"");
             format!("{{\"error\":\"{what}\"}}")
         }
     }

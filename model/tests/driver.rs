@@ -136,6 +136,7 @@ fn what_is_no_case() {
         assert!(drive(line.as_bytes()).starts_with("{\"error\":"), "{line}");
     }
     assert!(drive(b"{\"\xff\":1}").starts_with("{\"error\":"));
+    assert_eq!(drive(b"{"), r#"{"error":"no '\"' at byte 1"}"#);
 }
 
 #[test]

@@ -109,13 +109,17 @@ fn memory(name: &str, words: &[&str]) -> Result<Command, String> {
     Ok(Command::MemorySet(address, values?))
 }
 
-/// A number in decimal, or in hex behind `#` as NIBL has it; commas between thousands are free.
+/// A number in decimal, or in hex behind `#` as NIBL has it; commas may stand between thousands, and nowhere else.
 fn number(name: &str, word: &str, limit: u64) -> Result<u64, String> {
     let read = match word.strip_prefix('#') {
         Some(hex) if hex.starts_with('+') => None,
         Some(hex) => u64::from_str_radix(hex, 16).ok(),
-        None if word.starts_with(['+', ',']) => None,
-        None => word.replace(',', "").parse().ok(),
+        None if word.starts_with('+') => None,
+        None => word
+            .replace(',', "")
+            .parse()
+            .ok()
+            .filter(|number| !word.contains(',') || grouped(*number) == word),
     };
     read.filter(|number| *number <= limit).ok_or_else(|| {
         format!(
@@ -190,7 +194,7 @@ mod tests {
             fault(".memory 0 300"),
             ".memory needs a number from 0 to 255, and 300 is none"
         );
-        for word in ["+5", "#+5", "#", ",", "5X", "#G"] {
+        for word in ["+5", "#+5", "#", ",", "5X", "#G", "1,2", "1,0000", "1,000,"] {
             assert!(fault(&format!(".memory {word}")).ends_with("is none"));
         }
     }

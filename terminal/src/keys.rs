@@ -45,7 +45,7 @@ enum State {
     Sequence(Vec<u8>),
 }
 
-/// Takes bytes one at a time and gives a key where one is complete.
+/// Takes bytes one at a time and gives the keys that are complete.
 #[derive(Debug, Default)]
 pub struct Decoder {
     state: State,
@@ -58,7 +58,21 @@ pub struct Decoder {
 }
 
 impl Decoder {
-    pub fn feed(&mut self, byte: u8) -> Option<Key> {
+    pub fn feed(&mut self, byte: u8) -> impl Iterator<Item = Key> {
+        let cut = self.cut_short(byte);
+        [cut, self.next(byte)].into_iter().flatten()
+    }
+
+    /// The mark for what is no UTF-8, where this byte does not go on with the character that has begun.
+    fn cut_short(&mut self, byte: u8) -> Option<Key> {
+        if self.partial.is_empty() || matches!(byte, 128..=191) {
+            return None;
+        }
+        self.partial.clear();
+        Some(Key::Char(char::REPLACEMENT_CHARACTER))
+    }
+
+    fn next(&mut self, byte: u8) -> Option<Key> {
         match std::mem::take(&mut self.state) {
             State::Plain => self.plain(byte),
             State::Escape => {
@@ -182,7 +196,7 @@ mod tests {
 
     fn keys(bytes: &[u8]) -> Vec<Key> {
         let mut decoder = Decoder::default();
-        bytes.iter().filter_map(|b| decoder.feed(*b)).collect()
+        bytes.iter().flat_map(|b| decoder.feed(*b)).collect()
     }
 
     fn typed(text: &str) -> Vec<Key> {
@@ -244,11 +258,11 @@ mod tests {
     #[test]
     fn an_escape_alone_is_given_up() {
         let mut decoder = Decoder::default();
-        assert_eq!(decoder.feed(ESC), None);
+        assert_eq!(decoder.feed(ESC).next(), None);
         assert!(decoder.is_waiting());
         decoder.give_up();
         assert!(!decoder.is_waiting());
-        assert_eq!(decoder.feed(b'A'), Some(Key::Char('A')));
+        assert_eq!(decoder.feed(b'A').next(), Some(Key::Char('A')));
     }
 
     #[test]
@@ -265,5 +279,15 @@ mod tests {
     fn characters_of_several_bytes() {
         assert_eq!(keys("ä€🐄".as_bytes()), typed("ä€🐄"));
         assert_eq!(keys(b"\xffA"), typed("\u{fffd}A"));
+    }
+
+    #[test]
+    fn a_character_that_is_cut_short_is_seen() {
+        assert_eq!(keys(b"K\xe4se"), typed("K\u{fffd}se"));
+        assert_eq!(keys(b"\xe2\x82\xc3\xa4"), typed("\u{fffd}ä"));
+        assert_eq!(
+            keys(b"\xc3\r"),
+            [Key::Char(char::REPLACEMENT_CHARACTER), Key::Enter]
+        );
     }
 }

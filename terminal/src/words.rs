@@ -104,7 +104,7 @@ mod tests {
     fn a_refused_line_and_a_pause() {
         assert_eq!(
             sentence(&reply(Stop::NoReading, None, 0)),
-            "5: no reading; nothing was stored"
+            "5: over-long or no reading; nothing was stored"
         );
         let paused = reply(Stop::Paused, None, 10_000);
         assert_eq!(
@@ -158,7 +158,7 @@ mod tests {
         };
         assert_eq!(
             sentence(&wrong),
-            "5: no reading; nothing was stored; the pause has ended"
+            "5: over-long or no reading; nothing was stored; the pause has ended"
         );
     }
 
