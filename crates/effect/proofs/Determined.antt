@@ -1,12 +1,20 @@
--- One outcome: two answers that meet the promise of `effect` for the same arguments are equal, and so are the variables,
--- the memory and the output; of the line's slots it says nothing. Assumes nothing.
+-- One outcome: two answers that meet the promise of `effect`, of `act` or of `call_turn` for the same arguments are equal, and so
+-- are the variables, the memory and the output; of the line's slots it says nothing. Assumes nothing.
 use Prim.Native.Nat.{ℕ}
-use mathlib.Core.Path.{_≡_, refl}
+use mathlib.Core.Path.{_≡_, refl, ap}
 use mathlib.Core.List.{List}
+use mathlib.Core.Option.{Option, none, some}
+use native.Mathlib.Omega.{arith}
 use Rattle.nibl.proofs.Determined.{determined}
 use Rattle.nibl.specs.Meaning.{World, Next, Done, done}
-use Rattle.world.specs.Turns.{wayOf}
-use Rattle.world.proofs.jump.Determined.{way-determined}
+use Rattle.nibl.specs.declared.Place.{Place}
+use Rattle.nibl.specs.declared.PlaceStack.{PlaceStack}
+use Rattle.world.specs.Turns.{wayOf, turned}
+use Rattle.world.specs.declared.jump.Turn.{Turn}
+use Rattle.world.proofs.jump.Determined.{way-determined, turn-determined}
+use Rattle.effect.specs.declared.AtOnce.{AtOnce}
+use Rattle.effect.specs.declared.AtOnce.the-variants as once
+use Rattle.effect.specs.Acts.{Acted, acted, endedIn, callTurn}
 use Rattle.effect.specs.declared.Did.{Did}
 use Rattle.effect.specs.Worlds.{didIn}
 
@@ -36,3 +44,22 @@ effect-determined x d e vars vars′ memory memory′ output output′ p q =
       λ i. worldLeft (s i) .memory,
       λ i. worldLeft (s i) .output,
     )
+
+abbrev endOf : Option Next → Next → Next
+endOf none d = d
+endOf (some n) d = n
+
+at-once-same : (a b : AtOnce) → endedIn a ≡ endedIn b → a ≡ b
+at-once-same (once.Ended v) (once.Ended w) e = ap once.Ended (way-determined (wayOf w) v w (ap (λ (o : Option Next). endOf o (wayOf w)) e) refl)
+at-once-same once.Not once.Not e = refl
+at-once-same (once.Ended v) once.Not e = let z : _≡_ {A = ℕ} 0 1 = cc in absurd (omega arith)
+at-once-same once.Not (once.Ended w) e = let z : _≡_ {A = ℕ} 0 1 = cc in absurd (omega arith)
+
+pub act-determined : (x : Acted) (a b : AtOnce) (vars vars′ : List ℕ) → acted a vars ≡ x → acted b vars′ ≡ x → (a ≡ b) × (vars ≡ vars′)
+act-determined x a b vars vars′ p q =
+    let e = determined x (acted a vars) (acted b vars′) p q in
+    (at-once-same a b (λ i. e i .next), λ i. e i .vars)
+
+pub call-determined : (page : List ℕ) (here : Place) (s : PlaceStack) (code x : ℕ) (a b : Turn)
+    → turned a ≡ callTurn page here s code x → turned b ≡ callTurn page here s code x → a ≡ b
+call-determined page here s code x = turn-determined (callTurn page here s code x)

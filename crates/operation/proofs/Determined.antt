@@ -14,11 +14,12 @@ use Rattle.value.proofs.Laws.{value-same}
 use Rattle.world.specs.Turns.{wayOf}
 use Rattle.world.specs.declared.jump.Way.{Way}
 use Rattle.world.proofs.jump.Determined.{way-determined}
-use Rattle.operation.specs.Operations.{Sources, valueStep}
+use Rattle.operation.specs.Operations.{Sources, valueStep, valuesFirst}
 use Rattle.operation.specs.declared.Height.{Height}
 use Rattle.operation.specs.declared.Height.the-variants as raised
+use Rattle.operation.specs.declared.Reached.{Reached}
 use Rattle.operation.proofs.Stacks.{stack-none}
-use Rattle.operation.specs.Stacks.{stackOf, stackAfter, heightOf, worked, assigned, assigning}
+use Rattle.operation.specs.Stacks.{stackOf, stackAfter, heightOf, reachedIn, worked, assigned, assigning}
 
 pub nth-determined : (values : List ℕ) (height k a b : ℕ) → a ≡ getD (stackOf values height) k 0 → b ≡ getD (stackOf values height) k 0 → a ≡ b
 nth-determined values height k = determined (getD (stackOf values height) k 0)
@@ -51,3 +52,8 @@ pub reply-determined : (s : Sources) (vs : List ℕ) (es : Option (List Expr)) (
 reply-determined s vs es a b vars vars′ p q =
     let e = determined (assigning s vs es) (assigned a vars) (assigned b vars′) p q in
     (way-determined (wayOf b) a b (λ i. e i .next) refl, λ i. e i .vars)
+
+-- the operations that are next and the values, or the stop
+pub first-determined : (s : Sources) (rest vs ops : List ℕ) (a b : Reached) (values values′ : List ℕ)
+    → reachedIn a ops values ≡ valuesFirst s rest vs → reachedIn b ops values′ ≡ valuesFirst s rest vs → reachedIn a ops values ≡ reachedIn b ops values′
+first-determined s rest vs ops a b values values′ = determined (valuesFirst s rest vs) (reachedIn a ops values) (reachedIn b ops values′)
