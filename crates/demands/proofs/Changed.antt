@@ -15,7 +15,7 @@ use Rattle.nibl.specs.Meaning.{World, Env, on, done, withSession, withMemory, w
 use Rattle.demands.specs.Items.{wroteItem, HasRoom}
 use Rattle.demands.specs.Valued.{ValueOf, ofVariable, ofConstant, ofStat, ofTop, ofByte, noByte, ofNot, ofMinus, ofMod, ofTwo, inByte, inNot, inMinus, leftOfMod, rightOfMod, leftOfTwo, rightOfTwo, ItemBytes, ofText, ofString, ofNumber, noString, noAddress, noNumber}
 use Rattle.demands.specs.Work.{withCR, AllOut, noneLeft, oneOut, Performs, assigns, storesByte, storesText, copies, prints, printsEnd, inputs, Reaches, itself}
-use Rattle.demands.specs.Changed.{OnlyVariable, OnlyBytes, OnlyOutput, Assigns, StoresByte, StoresText, Copies, ItemsBytes, noItems, nextItem, Prints, Hears}
+use Rattle.demands.specs.Changed.{OnlyVariable, OnlyBytes, OnlyOutput, Assigns, StoresByte, StoresText, Copies, ItemsBytes, noItems, nextItem, WritesItems, Hears}
 use Rattle.demands.proofs.Listing.{wrote-more}
 use Rattle.demands.proofs.Work.{works, works-one}
 
@@ -85,13 +85,13 @@ all-out {e} (oneOut {w = w} {bs = bs} j h m) =
 only-output : (w : World) (bs : List ℕ) → HasRoom w bs → OnlyOutput w bs (wroteItem w bs)
 only-output w bs h = record { session = refl; memory = refl; room = h; output = sets-eq bs (w .output) (w .outpos) h; outpos = refl; inpos = refl }
 
-out-alone : {e : Env} (w : World) {items : List Item} {u : World} → w .outpos ≤ length (w .output) → Out e w items u → Prints e w items true u
+out-alone : {e : Env} (w : World) {items : List Item} {u : World} → w .outpos ≤ length (w .output) → Out e w items u → WritesItems e w items true u
 out-alone w room o =
     let f = only-output w (o .bytes) (o .room room) in
     record { bytes = o .bytes; shown = o .shown; only = subst (OnlyOutput w (o .bytes ++ [])) (sym (o .left)) (rw (append-nil (o .bytes)) f) }
 
 out-ended : {e : Env} (w : World) {items : List Item} {u : World} → Out e w items u → HasRoom u (13 ∷ 10 ∷ [])
-    → Prints e w items false (wroteItem u (13 ∷ 10 ∷ []))
+    → WritesItems e w items false (wroteItem u (13 ∷ 10 ∷ []))
 out-ended w {u = u} o r =
     let end : List ℕ = 13 ∷ 10 ∷ [] in
     let a = ap (λ (z : World). z .outpos) (o .left) in
@@ -128,9 +128,9 @@ module _ (e : Env) (w u : World) where
 
   -- PRINT writes its items one behind the other, each by what was before the statement, and its end
   pub a-print-writes-its-items : (items : List Item) (b : Bool) → w .outpos ≤ length (w .output) → exec e (print items b) w ≡ done on u
-      → Prints e w items b u
+      → WritesItems e w items b u
   a-print-writes-its-items items b room h = let r = rw h at (works e (print items b) w) in by (r .reached) (r .performed) where
-    by : {q : Stmt} {u : World} {b : Bool} → Reaches e w (print items b) q → Performs e w q (done on u) → Prints e w items b u
+    by : {q : Stmt} {u : World} {b : Bool} → Reaches e w (print items b) q → Performs e w q (done on u) → WritesItems e w items b u
     by itself (prints m) = out-alone w room (all-out m)
     by itself (printsEnd m r) = out-ended w (all-out m) r
 

@@ -25,7 +25,7 @@ use Rattle.nibl.proofs.Lines.{typed-sound}
 use Rattle.nibl.proofs.Whole.{typed-complete}
 use Rattle.letter.proofs.Typed.{no-cr, no-cr-left}
 use Rattle.page.proofs.Walk.{by-cases}
-use Rattle.demands.specs.Lent.{InRange, Typing, OneOf, firstRefusals}
+use Rattle.demands.specs.Lent.{InRange, Typing, OneOfThese, firstRefusals}
 use Rattle.demands.specs.Leaves.{others}
 use Rattle.demands.specs.Good.{GoodPage, Fits, Unrefused}
 use Rattle.demands.specs.Valued.{NoCR}
@@ -46,30 +46,30 @@ abbrev Stops : ℕ → Outcome → Type 0
 Stops n o = o .answer .stop ≡ n
 
 -- The first refusals
-take-first : {x : Lent} {o : Outcome} → Takes limit x o → OneOf firstRefusals (o .answer .stop) → firstRefusal limit x ≡ o .answer .stop
+take-first : {x : Lent} {o : Outcome} → Takes limit x o → OneOfThese firstRefusals (o .answer .stop) → firstRefusal limit x ≡ o .answer .stop
 take-first (refused h) i = h
 take-first (noCR z h) i = absurd (false≢true i)
 take-first (overlong g z h l) i = absurd (false≢true i)
 take-first (unread g h r) i = absurd (false≢true i)
 take-first {x = x} (reads g t h r) i = absurd (by (obey-obeys (x .call .budget) (lentEnv limit x) (begun x (g .taken)) t) i) where
-  by : {o : Outcome} → Obeys (lentEnv limit x) (begun x (g .taken)) o → OneOf firstRefusals (o .answer .stop) → ⊥
+  by : {o : Outcome} → Obeys (lentEnv limit x) (begun x (g .taken)) o → OneOfThese firstRefusals (o .answer .stop) → ⊥
   by full i = false≢true i
   by unfit i = false≢true i
   by (ends {o = o} e) i = apart firstRefusals runNumbers refl (o .answer .stop) i e
 
-continue-first : {x : Lent} {o : Outcome} → Continues limit x o → OneOf firstRefusals (o .answer .stop) → firstRefusal limit x ≡ o .answer .stop
+continue-first : {x : Lent} {o : Outcome} → Continues limit x o → OneOfThese firstRefusals (o .answer .stop) → firstRefusal limit x ≡ o .answer .stop
 continue-first (refused′ h) i = h
 continue-first {x = x} (continues h) i =
     absurd (apart firstRefusals runNumbers refl (continueFrom limit x (x .session .paused) .answer .stop) i (paused-numbers limit x (x .session .paused)))
 
 module _ (x : Lent) where
-  first-of-line : (n : ℕ) → OneOf firstRefusals n → takeLine x .answer .stop ≡ n → firstRefusal limit x ≡ n
+  first-of-line : (n : ℕ) → OneOfThese firstRefusals n → takeLine x .answer .stop ≡ n → firstRefusal limit x ≡ n
   unfolding takeLine
-  first-of-line n i h = take-first (every-line limit x) (subst (OneOf firstRefusals) (sym h) i) ∙ h
+  first-of-line n i h = take-first (every-line limit x) (subst (OneOfThese firstRefusals) (sym h) i) ∙ h
 
-  first-of-continue : (n : ℕ) → OneOf firstRefusals n → continueRun x .answer .stop ≡ n → firstRefusal limit x ≡ n
+  first-of-continue : (n : ℕ) → OneOfThese firstRefusals n → continueRun x .answer .stop ≡ n → firstRefusal limit x ≡ n
   unfolding continueRun
-  first-of-continue n i h = continue-first (every-continue limit x) (subst (OneOf firstRefusals) (sym h) i) ∙ h
+  first-of-continue n i h = continue-first (every-continue limit x) (subst (OneOfThese firstRefusals) (sym h) i) ∙ h
 
   -- what a first refusal says
   one-says : firstRefusal limit x ≡ 1 → InRange x → ⊥
@@ -196,19 +196,19 @@ module _ (k : ℕ) (e : Env) (w : World) where
   obey-three blank h = absurd (omega arith)
   obey-three new h = absurd (edit-stops (e .page) w [] h)
   obey-three clear h = absurd (omega arith)
-  obey-three run h = absurd (false≢true (subst (OneOf runNumbers) h (run-numbers k e 0 _)))
+  obey-three run h = absurd (false≢true (subst (OneOfThese runNumbers) h (run-numbers k e 0 _)))
   obey-three (delete n) h = absurd (by (hasLine n (recordsOf (e .page))) h) where
     by : (b : Bool) → Stops 3 (elim b [ true ↦ edited (e .page) w (without n (recordsOf (e .page))) | false ↦ stops 0 w (e .page) ]) → ⊥
     by true h = edit-stops (e .page) w (without n (recordsOf (e .page))) h
     by false h = omega arith
   obey-three (list n) h =
-      absurd (false≢true (subst (OneOf runNumbers) h (immediate-numbers k e (listFrom n (recordsOf (e .page)) w) (does-stops (list-does e [] n (recordsOf (e .page)) w)))))
+      absurd (false≢true (subst (OneOfThese runNumbers) h (immediate-numbers k e (listFrom n (recordsOf (e .page)) w) (does-stops (list-does e [] n (recordsOf (e .page)) w)))))
   obey-three (store n t ms) h = absurd (edit-stops (e .page) w (with (record { line = n; text = t }) (recordsOf (e .page))) h)
   obey-three (immediate q) h = by (needsProgram q) refl h where
     by : (b : Bool) → needsProgram q ≡ b → Stops 3 (elim b [ true ↦ stops 3 w (e .page) | false ↦ afterImmediate k e (exec e q w) ])
         → (s : Stmt) × (immediate q ≡ immediate s) × NeedsProgram s
     by true n h = (q, refl, needs-of q n)
-    by false n h = absurd (false≢true (subst (OneOf runNumbers) h (immediate-numbers k e (exec e q w) (exec-stops e q w))))
+    by false n h = absurd (false≢true (subst (OneOfThese runNumbers) h (immediate-numbers k e (exec e q w) (exec-stops e q w))))
 
 module _ (x : Lent) where
   three-of : {o : Outcome} → Takes limit x o → o .answer .stop ≡ 3 → NeedsOne x
@@ -233,8 +233,8 @@ module _ (x : Lent) (g : Gathered) (h : Typing limit x g) where
   abbrev full-line : Typed → Type 0
   full-line y = LineReading (g .line .bytes) y → Stops 2 (takeLine x) → DoesNotFit x
 
-  not-run : (o : Outcome) → takeLine x ≡ o → OneOf runNumbers (o .answer .stop) → Stops 2 (takeLine x) → ⊥
-  not-run o e n i = false≢true (subst (OneOf runNumbers) (sym (ap (λ (o : Outcome). o .answer .stop) e) ∙ i) n)
+  not-run : (o : Outcome) → takeLine x ≡ o → OneOfThese runNumbers (o .answer .stop) → Stops 2 (takeLine x) → ⊥
+  not-run o e n i = false≢true (subst (OneOfThese runNumbers) (sym (ap (λ (o : Outcome). o .answer .stop) e) ∙ i) n)
 
   two-of-read : (y : Typed) → full-line y
   unfolding obey

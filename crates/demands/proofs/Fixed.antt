@@ -22,7 +22,7 @@ use Rattle.nibl.proofs.Words.{if-split}
 use Rattle.nibl.proofs.Lines.{typed-sound}
 use Rattle.page.proofs.Program.{Program, none as no-record, each}
 use Rattle.page.proofs.Laid.{good-laid, laid-program}
-use Rattle.demands.specs.Lent.{gatheredLine, Typing, OneOf, firstRefusals, twoAndThree}
+use Rattle.demands.specs.Lent.{gatheredLine, Typing, OneOfThese, firstRefusals, twoAndThree}
 use Rattle.demands.specs.Leaves.{unchanged, lineTaken, TakesLine}
 use Rattle.demands.proofs.Runs.{placeEnding, crOf, after-law, every-run}
 use Rattle.demands.proofs.Ways.{Takes, refused, noCR, overlong, unread, reads, every-line, Continues, refused′, continues, every-continue}
@@ -36,36 +36,36 @@ abbrev pub noneIn : List ℕ → List ℕ → Bool
 noneIn [] ns = true
 noneIn (m ∷ ms) ns = elim (isAmong ns m) [ true ↦ false | false ↦ noneIn ms ns ]
 
-pub apart : (ms ns : List ℕ) → noneIn ms ns ≡ true → (n : ℕ) → OneOf ms n → OneOf ns n → ⊥
+pub apart : (ms ns : List ℕ) → noneIn ms ns ≡ true → (n : ℕ) → OneOfThese ms n → OneOfThese ns n → ⊥
 apart [] ns h n g i = false≢true g
 apart (m ∷ ms) ns h n g i = by (λ h g. apart ms ns h n g i) (isAmong ns m) refl h (eqb n m) refl g where
-  by : (noneIn ms ns ≡ true → OneOf ms n → ⊥) → (b : Bool) → isAmong ns m ≡ b → (elim b [ true ↦ false | false ↦ noneIn ms ns ]) ≡ true
+  by : (noneIn ms ns ≡ true → OneOfThese ms n → ⊥) → (b : Bool) → isAmong ns m ≡ b → (elim b [ true ↦ false | false ↦ noneIn ms ns ]) ≡ true
       → (c : Bool) → eqb n m ≡ c → (c || isAmong ms n) ≡ true → ⊥
   by f true e h c k g = false≢true h
   by f false e h true k g = true≢false (sym i ∙ ap (isAmong ns) (eqb-true n m k) ∙ e)
   by f false e h false k g = f h g
 
 -- "1, 18, 19 change nothing"
-take-first : {x : Lent} {o : Outcome} → Takes limit x o → OneOf firstRefusals (o .answer .stop) → o ≡ unchanged x (o .answer .stop)
+take-first : {x : Lent} {o : Outcome} → Takes limit x o → OneOfThese firstRefusals (o .answer .stop) → o ≡ unchanged x (o .answer .stop)
 take-first (refused h) i = refl
 take-first (noCR z h) i = absurd (false≢true i)
 take-first (overlong g z h l) i = absurd (false≢true i)
 take-first (unread g h r) i = absurd (false≢true i)
 take-first {x = x} (reads g t h r) i = by (obey-obeys (x .call .budget) (lentEnv limit x) (begun x (g .taken)) t) i where
-  by : {o : Outcome} → Obeys (lentEnv limit x) (begun x (g .taken)) o → OneOf firstRefusals (o .answer .stop) → o ≡ unchanged x (o .answer .stop)
+  by : {o : Outcome} → Obeys (lentEnv limit x) (begun x (g .taken)) o → OneOfThese firstRefusals (o .answer .stop) → o ≡ unchanged x (o .answer .stop)
   by full i = absurd (false≢true i)
   by unfit i = absurd (false≢true i)
   by (ends {o = o} e) i = absurd (apart firstRefusals runNumbers refl (o .answer .stop) i e)
 
-continue-first : {x : Lent} {o : Outcome} → Continues limit x o → OneOf firstRefusals (o .answer .stop) → o ≡ unchanged x (o .answer .stop)
+continue-first : {x : Lent} {o : Outcome} → Continues limit x o → OneOfThese firstRefusals (o .answer .stop) → o ≡ unchanged x (o .answer .stop)
 continue-first (refused′ h) i = refl
 continue-first {x = x} (continues h) i = absurd (apart firstRefusals runNumbers refl (continueFrom limit x (x .session .paused) .answer .stop) i (paused-numbers limit x (x .session .paused)))
 
-pub first-refusals-change-nothing : (x : Lent) → OneOf firstRefusals (takeLine x .answer .stop) → takeLine x ≡ unchanged x (takeLine x .answer .stop)
+pub first-refusals-change-nothing : (x : Lent) → OneOfThese firstRefusals (takeLine x .answer .stop) → takeLine x ≡ unchanged x (takeLine x .answer .stop)
 unfolding takeLine
 first-refusals-change-nothing x = take-first (every-line limit x)
 
-pub first-refusals-of-continue : (x : Lent) → OneOf firstRefusals (continueRun x .answer .stop) → continueRun x ≡ unchanged x (continueRun x .answer .stop)
+pub first-refusals-of-continue : (x : Lent) → OneOfThese firstRefusals (continueRun x .answer .stop) → continueRun x ≡ unchanged x (continueRun x .answer .stop)
 unfolding continueRun
 first-refusals-of-continue x = continue-first (every-continue limit x)
 
@@ -85,7 +85,7 @@ lines-low lim page short good = line-low (laid-program (good-laid lim page short
 abbrev pub unsaid : List ℕ
 unsaid = 0 ∷ 5 ∷ 14 ∷ []
 
-named-last : (n l : ℕ) → l < noLine → stopAt n (l ∷ []) ≡ noLine → OneOf unsaid n
+named-last : (n l : ℕ) → l < noLine → stopAt n (l ∷ []) ≡ noLine → OneOfThese unsaid n
 named-last n l low h = by (eqb n 0) (eqb n 5) (eqb n 14) h where
   by : (a b c : Bool) → (if a || c then noLine else l) ≡ noLine → (a || (b || (c || false))) ≡ true
   by true b c h = refl
@@ -93,16 +93,16 @@ named-last n l low h = by (eqb n 0) (eqb n 5) (eqb n 14) h where
   by false false true h = refl
   by false false false h = absurd (omega arith)
 
-named-step : (n l : ℕ) (ls : List ℕ) → l < noLine → (stopAt n ls ≡ noLine → OneOf unsaid n) → stopAt n (l ∷ ls) ≡ noLine → OneOf unsaid n
+named-step : (n l : ℕ) (ls : List ℕ) → l < noLine → (stopAt n ls ≡ noLine → OneOfThese unsaid n) → stopAt n (l ∷ ls) ≡ noLine → OneOfThese unsaid n
 named-step n l [] low f h = named-last n l low h
 named-step n l (m ∷ ls) low f h = f h
 
-pub run-named : (k : ℕ) (e : Env) (q : ℕ) (w : World) → Lined (e .page) → stopAt (runFrom k e q w .stop) (runFrom k e q w .lines) ≡ noLine → OneOf unsaid (runFrom k e q w .stop)
+pub run-named : (k : ℕ) (e : Env) (q : ℕ) (w : World) → Lined (e .page) → stopAt (runFrom k e q w .stop) (runFrom k e q w .lines) ≡ noLine → OneOfThese unsaid (runFrom k e q w .stop)
 run-named k e q w low =
-    every-run e (λ k q w r. stopAt (r .stop) (r .lines) ≡ noLine → OneOf unsaid (r .stop)) (λ k q w h n. refl) (λ q w a h n. refl) (λ k q w a h g n. refl)
+    every-run e (λ k q w r. stopAt (r .stop) (r .lines) ≡ noLine → OneOfThese unsaid (r .stop)) (λ k q w h n. refl) (λ q w a h n. refl) (λ k q w a h g n. refl)
     (λ k q w a m s h g i.
     let l : ℕ = lineOf (e .page) (placeEnding e a m) in
-    after-law (λ r. stopAt (r .stop) (l ∷ r .lines) ≡ noLine → OneOf unsaid (r .stop)) (exec (envAt e (placeEnding e a m)) (m .statement) w) (placeEnding e a m) (crOf e a) (runFrom k e)
+    after-law (λ r. stopAt (r .stop) (l ∷ r .lines) ≡ noLine → OneOfThese unsaid (r .stop)) (exec (envAt e (placeEnding e a m)) (m .statement) w) (placeEnding e a m) (crOf e a) (runFrom k e)
     (λ q w. named-step (runFrom k e q w .stop) l (runFrom k e q w .lines) (low (placeEnding e a m)) (i q w)) (λ n w. named-last n l (low (placeEnding e a m)))) k q w
 
 -- "a typed line's 7": one with no line
@@ -110,7 +110,7 @@ abbrev Silent : Outcome → Type 0
 Silent o = o .answer .stop ≡ 7 → o .answer .line ≡ noLine → ⊥
 
 run-silent : (k : ℕ) (e : Env) (q : ℕ) (w : World) → Lined (e .page) → Silent (runOutcome (runFrom k e q w) (e .page))
-run-silent k e q w low h l = false≢true (subst (OneOf unsaid) h (run-named k e q w low l))
+run-silent k e q w low h l = false≢true (subst (OneOfThese unsaid) h (run-named k e q w low l))
 
 edit-silent : (page : List ℕ) (w : World) (rs : List Stored) → Silent (edited page w rs)
 unfolding edited
@@ -124,7 +124,7 @@ immediate-silent k e low goes h l = omega arith
 immediate-silent k e low skips h l = omega arith
 immediate-silent k e low (jumps {w = w} {q = q}) h l = run-silent k e q w low h l
 immediate-silent k e low refusing.ends h l = omega arith
-immediate-silent k e low (refuses i g) h l = false≢true (subst (OneOf quiet) h i)
+immediate-silent k e low (refuses i g) h l = false≢true (subst (OneOfThese quiet) h i)
 
 pub obey-silent : (k : ℕ) (e : Env) (w : World) (t : Typed) → Lined (e .page) → Silent (obey k e w t)
 unfolding obey
@@ -157,18 +157,18 @@ unfolding takeLine
 no-cr-changes-nothing x = take-seven (every-line limit x)
 
 -- "2, 3 and 5 take the line and end a pause", and change nothing else
-take-two-three : {x : Lent} {o : Outcome} → Takes limit x o → OneOf twoAndThree (o .answer .stop) → TakesLine x (o .answer .stop) o
+take-two-three : {x : Lent} {o : Outcome} → Takes limit x o → OneOfThese twoAndThree (o .answer .stop) → TakesLine x (o .answer .stop) o
 take-two-three {x = x} (refused {n} h) i = absurd (apart twoAndThree firstNumbers refl (suc n) i (first-numbers limit x (suc n) h))
 take-two-three (noCR z h) i = absurd (false≢true i)
 take-two-three (overlong g z h l) i = absurd (false≢true i)
 take-two-three (unread g h r) i = absurd (false≢true i)
 take-two-three {x = x} (reads g t h r) i = by (obey-obeys (x .call .budget) (lentEnv limit x) (begun x (g .taken)) t) i where
-  by : {o : Outcome} → Obeys (lentEnv limit x) (begun x (g .taken)) o → OneOf twoAndThree (o .answer .stop) → TakesLine x (o .answer .stop) o
+  by : {o : Outcome} → Obeys (lentEnv limit x) (begun x (g .taken)) o → OneOfThese twoAndThree (o .answer .stop) → TakesLine x (o .answer .stop) o
   by full i = record { gathered = g; line = h .line; leaves = refl }
   by unfit i = record { gathered = g; line = h .line; leaves = refl }
   by (ends {o = o} e) i = absurd (apart twoAndThree runNumbers refl (o .answer .stop) i e)
 
-pub two-and-three-take-the-line : (x : Lent) → OneOf twoAndThree (takeLine x .answer .stop) → TakesLine x (takeLine x .answer .stop) (takeLine x)
+pub two-and-three-take-the-line : (x : Lent) → OneOfThese twoAndThree (takeLine x .answer .stop) → TakesLine x (takeLine x .answer .stop) (takeLine x)
 unfolding takeLine
 two-and-three-take-the-line x = take-two-three (every-line limit x)
 

@@ -17,7 +17,7 @@ use Rattle.nibl.specs.Calls.{Ran, ran, stepped, textFrom, lineFrom, envAt, afte
 use Rattle.nibl.specs.Record.{nowhere, withPaused, unpaused}
 use Rattle.nibl.specs.declared.Session.{Session}
 use Rattle.demands.proofs.Runs.{placeEnding, crOf, run-zero, run-suc, oneStep, every-run}
-use Rattle.demands.specs.Lent.{OneOf}
+use Rattle.demands.specs.Lent.{OneOfThese}
 use Rattle.demands.specs.Steps.{GoesTo, afterIt, afterRecord, jumps}
 use Rattle.demands.proofs.Budget.{stopNumbers, StopsWith, stopped, exec-stops}
 use Rattle.demands.proofs.Fixed.{unsaid}
@@ -41,8 +41,8 @@ pub record LastStep (e : Env) (k q : ℕ) (w : World) (r : Ran) : Type 0 where
   pub stands : member (lineFrom (e .page) start) ≡ found last rest
   pub how : Next
   pub goes : exec (envAt e (placeEnding e start last)) (last .statement) (runFrom before e q w .world) ≡ done how (r .world)
-  pub stops : (OneOf unsaid (r .stop) → ⊥) → how ≡ stop (r .stop)
-  pub place : (OneOf unsaid (r .stop) → ⊥) → r .at ≡ placeEnding e start last
+  pub stops : (OneOfThese unsaid (r .stop) → ⊥) → how ≡ stop (r .stop)
+  pub place : (OneOfThese unsaid (r .stop) → ⊥) → r .at ≡ placeEnding e start last
   pub ends : RunEnds (e .page) (placeEnding e start last) (crOf e start) how k r
 
 -- a run of no steps
@@ -53,7 +53,7 @@ pub data Still (page : List ℕ) (k q : ℕ) (r : Ran) : Type 0 where
 
 pub record NoStep (page : List ℕ) (k q : ℕ) (w : World) (r : Ran) : Type 0 where
   pub world : r .world ≡ w
-  pub stop : OneOf unsaid (r .stop)
+  pub stop : OneOfThese unsaid (r .stop)
   pub still : Still page k q r
 
 pub no-step : (k : ℕ) (e : Env) (q : ℕ) (w : World) → length (runFrom k e q w .lines) ≡ 0 → NoStep (e .page) k q w (runFrom k e q w)
@@ -76,7 +76,7 @@ module _ (e : Env) (q : ℕ) (w : World) (a : ℕ) (m : Member) (s : List ℕ) (
   a-step k = run-suc k e q w a h ∙ ap (λ (f : Found Member). step e a w f (runFrom k e)) g
 
   -- this step was the last
-  last-here : (k : ℕ) (r : Ran) (c : Next) → length (r .lines) ≡ 0 → d ≡ done c (r .world) → ((OneOf unsaid (r .stop) → ⊥) → c ≡ stop (r .stop)) → ((OneOf unsaid (r .stop) → ⊥) → r .at ≡ placeEnding e a m)
+  last-here : (k : ℕ) (r : Ran) (c : Next) → length (r .lines) ≡ 0 → d ≡ done c (r .world) → ((OneOfThese unsaid (r .stop) → ⊥) → c ≡ stop (r .stop)) → ((OneOfThese unsaid (r .stop) → ⊥) → r .at ≡ placeEnding e a m)
       → RunEnds (e .page) (placeEnding e a m) (crOf e a) c k (stepped l r) → LastStep e k q w (stepped l r)
   last-here k r c n f i j o =
       record {

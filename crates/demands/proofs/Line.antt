@@ -18,7 +18,7 @@ use Rattle.page.specs.Standing.{Stands, LiesIn}
 use Rattle.page.proofs.Standing.{place-lies}
 use Rattle.record.specs.Sound.{Sound}
 use Rattle.record.proofs.Fitted.{sound-fit, fit-sound}
-use Rattle.demands.specs.Lent.{OneOf}
+use Rattle.demands.specs.Lent.{OneOfThese}
 use Rattle.demands.specs.Sound.{Shows, without, itsLine, Answered, byLine, byRun}
 use Rattle.demands.specs.Starts.{StartsTyped, StartsPaused}
 use Rattle.demands.proofs.Ways.{Takes, refused, noCR, overlong, unread, reads, every-line, Continues, refused′, continues, every-continue}
@@ -95,7 +95,7 @@ module _ (lim : ℕ) (e : Env) (short : lim ≤ 251) (k q : ℕ) (w : World) (h 
   abbrev r : Ran
   r = runFrom k e q w
 
-  stopped : OneOf unsaid (r .stop) → ⊥
+  stopped : OneOfThese unsaid (r .stop) → ⊥
   stopped i =
       or-cases (eqb (r .stop) 0) _ i (λ j. m (eqb-true _ 0 j)) (λ i. or-cases (eqb (r .stop) 5) _ i
       (λ j. no-grammar-refusal-while-running lim e short k q w h s (eqb-true _ 5 j)) (λ i. or-cases (eqb (r .stop) 14) false i (λ j. n (eqb-true _ 14 j)) (λ j. false≢true j)))

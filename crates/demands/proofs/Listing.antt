@@ -40,7 +40,7 @@ use Rattle.page.proofs.Listings.{listed-length}
 use Rattle.page.proofs.Changes.{lower, onto-good, onto-records}
 use Rattle.record.proofs.Fitted.{fits-tests}
 use Rattle.demands.specs.Lent.{Typing}
-use Rattle.demands.specs.Listing.{listingOf, listingRoom, written, Lists, lentNext, afterLines, answers, Stops0, lastLF, RoundTrip}
+use Rattle.demands.specs.Listing.{listingOf, listingRoom, written, ListsWhole, lentNext, afterLines, answers, Stops0, lastLF, RoundTrip}
 use Rattle.demands.specs.Listing as listings
 use Rattle.demands.proofs.Accepted.{Accepted, accepted-of, accepted-is}
 use Rattle.demands.proofs.Retyping.{program, program-room, line-read, edited-fits, onto-length, onto-after, onto-used}
@@ -89,7 +89,7 @@ module _ (x : Lent) (g : Gathered) (h : Typing limit x g) (r : LineReading (g .l
       (ap (take (length bs)) (drop-at (take p (x .output)) (bs ++ drop (p + length bs) (x .output)) p (length-take-le p (x .output) (omega arith)))
       ∙ take-at bs (drop (p + length bs) (x .output)) (length bs) refl))
 
-  pub list-lists : Lists x g (takeLine x)
+  pub list-lists : ListsWhole x g (takeLine x)
   list-lists =
       record {
         answer = rw (list-outcome, ← listing-length (recordsOf (x .page)));
@@ -343,7 +343,7 @@ module _ (x : Lent) (bytes′ : Bytes (x .page)) (g : Gathered) (h : Typing limi
         left = t .left ∙ append-nil (lastLF (recordsOf (x .page)));
       }
 
-  pub listing-round-trip : Lists x g (takeLine x) × (Stops0 (answers (length (recordsOf (x .page))) y) × RoundTrip x y (afterLines (length (recordsOf (x .page))) y))
+  pub listing-round-trip : ListsWhole x g (takeLine x) × (Stops0 (answers (length (recordsOf (x .page))) y) × RoundTrip x y (afterLines (length (recordsOf (x .page))) y))
   listing-round-trip = (list-lists x g h r room, (typed-back .answers, back))
 
 -- "LIST" itself is such a line

@@ -11,7 +11,7 @@ use Rattle.nibl.specs.Page.{Stored, isGood, fits, recordsOf, hasLine, without, 
 use Rattle.nibl.specs.Meaning.{World, Env, on, skip, go, stop, Done, done, withSession, exec}
 use Rattle.nibl.specs.Calls.{Lent, Outcome, Ran, stepped, afterStep, envAt, runFrom, stops, inRange, firstRefusal, edited, listFrom, afterImmediate, needsProgram, obey, takeLine, continueFrom, continueRun, limit, begun, lentEnv}
 use Rattle.nibl.specs.Record.{stackless}
-use Rattle.demands.specs.Lent.{OneOf, replyNumbers, Numbered}
+use Rattle.demands.specs.Lent.{OneOfThese, replyNumbers, Numbered}
 use Rattle.demands.proofs.Runs.{placeEnding, crOf, every-run}
 use Rattle.demands.proofs.Budget.{StopsWith, stopped, stopNumbers, does-stops, exec-stops}
 use Rattle.demands.proofs.Effects.{widen, list-does}
@@ -21,26 +21,26 @@ use Rattle.demands.proofs.Ways.{Takes, refused, noCR, overlong, unread,
 abbrev pub runNumbers : List ℕ
 runNumbers = 0 ∷ 5 ∷ 6 ∷ 7 ∷ 8 ∷ 9 ∷ 10 ∷ 11 ∷ 12 ∷ 13 ∷ 14 ∷ 15 ∷ 16 ∷ 17 ∷ 20 ∷ []
 
-step-numbers : (d : Done) → StopsWith d → (l p cr : ℕ) (k : ℕ → World → Ran) → ((q : ℕ) (w : World) → OneOf runNumbers (k q w .stop))
-    → OneOf runNumbers (stepped l (afterStep d p cr k) .stop)
+step-numbers : (d : Done) → StopsWith d → (l p cr : ℕ) (k : ℕ → World → Ran) → ((q : ℕ) (w : World) → OneOfThese runNumbers (k q w .stop))
+    → OneOfThese runNumbers (stepped l (afterStep d p cr k) .stop)
 step-numbers (done on w) s l p cr k f = f (suc p) w
 step-numbers (done skip w) s l p cr k f = f (suc cr) w
 step-numbers (done (go q) w) s l p cr k f = f q w
 step-numbers (done (stop n) w) (stopped h) l p cr k f = widen stopNumbers runNumbers refl n h
 
-pub run-numbers : (k : ℕ) (e : Env) (q : ℕ) (w : World) → OneOf runNumbers (runFrom k e q w .stop)
+pub run-numbers : (k : ℕ) (e : Env) (q : ℕ) (w : World) → OneOfThese runNumbers (runFrom k e q w .stop)
 run-numbers k e q w =
-    every-run e (λ k q w r. OneOf runNumbers (r .stop)) (λ k q w h. refl) (λ q w a h. refl) (λ k q w a h g. refl)
+    every-run e (λ k q w r. OneOfThese runNumbers (r .stop)) (λ k q w h. refl) (λ q w a h. refl) (λ k q w a h g. refl)
     (λ k q w a m s h g i. step-numbers (exec (envAt e (placeEnding e a m)) (m .statement) w) (exec-stops (envAt e (placeEnding e a m)) (m .statement) w) 0 (placeEnding e a m) (crOf e a) (runFrom k e) i) k q w
 
 -- the first refusals, and 0 for none
 abbrev pub firstNumbers : List ℕ
 firstNumbers = 0 ∷ 1 ∷ 18 ∷ 19 ∷ []
 
-pub first-numbers : (lim : ℕ) (x : Lent) (n : ℕ) → firstRefusal lim x ≡ n → OneOf firstNumbers n
+pub first-numbers : (lim : ℕ) (x : Lent) (n : ℕ) → firstRefusal lim x ≡ n → OneOfThese firstNumbers n
 unfolding firstRefusal
-first-numbers lim x n h = subst (OneOf firstNumbers) h (by (not (inRange x)) (not (isGood lim (x .page))) (not (fits (x .page) (x .session)))) where
-  by : (a b c : Bool) → OneOf firstNumbers (if a then 1 else if b then 18 else if c then 19 else 0)
+first-numbers lim x n h = subst (OneOfThese firstNumbers) h (by (not (inRange x)) (not (isGood lim (x .page))) (not (fits (x .page) (x .session)))) where
+  by : (a b c : Bool) → OneOfThese firstNumbers (if a then 1 else if b then 18 else if c then 19 else 0)
   by true b c = refl
   by false true c = refl
   by false false true = refl
@@ -50,7 +50,7 @@ first-numbers lim x n h = subst (OneOf firstNumbers) h (by (not (inRange x)) (no
 pub data Obeys (e : Env) (w : World) : Outcome → Type 0 where
   full : Obeys e w (stops 2 w (e .page))
   unfit : Obeys e w (stops 3 w (e .page))
-  ends : {o : Outcome} → OneOf runNumbers (o .answer .stop) → Obeys e w o
+  ends : {o : Outcome} → OneOfThese runNumbers (o .answer .stop) → Obeys e w o
 
 edit-obeys : (e : Env) (w : World) (rs : List Stored) → Obeys e w (edited (e .page) w rs)
 unfolding edited
@@ -59,7 +59,7 @@ edit-obeys e w rs = by (leb (length (programBytes rs)) (length (e .page))) where
   by true = ends refl
   by false = full
 
-pub immediate-numbers : (k : ℕ) (e : Env) (d : Done) → StopsWith d → OneOf runNumbers (afterImmediate k e d .answer .stop)
+pub immediate-numbers : (k : ℕ) (e : Env) (d : Done) → StopsWith d → OneOfThese runNumbers (afterImmediate k e d .answer .stop)
 immediate-numbers k e (done on w) s = refl
 immediate-numbers k e (done skip w) s = refl
 immediate-numbers k e (done (go q) w) s = run-numbers k e q w
@@ -94,7 +94,7 @@ take-numbers (overlong g z h l) = refl
 take-numbers (unread g h r) = refl
 take-numbers {lim = lim} {x = x} (reads g t h r) = obey-numbers (obey-obeys (x .call .budget) (lentEnv lim x) (begun x (g .taken)) t)
 
-pub paused-numbers : (lim : ℕ) (x : Lent) (p : ℕ) → OneOf runNumbers (continueFrom lim x p .answer .stop)
+pub paused-numbers : (lim : ℕ) (x : Lent) (p : ℕ) → OneOfThese runNumbers (continueFrom lim x p .answer .stop)
 paused-numbers lim x zero = refl
 paused-numbers lim x (suc q) = run-numbers (x .call .budget) (lentEnv lim x) q (begun x 0)
 

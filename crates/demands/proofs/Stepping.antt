@@ -24,7 +24,7 @@ use Rattle.demands.specs.Good.{GoodPage, PauseFits}
 use Rattle.demands.specs.Reading.{Standing, NextAt, PastTheLast}
 use Rattle.demands.specs.Steps.{GoesTo, afterIt, afterRecord, jumps}
 use Rattle.demands.specs.ItemsIn.{StatementWrote}
-use Rattle.demands.specs.Stepping.{Step, Runs, over, pauses, halts, goesOn, LeavesRun}
+use Rattle.demands.specs.Stepping.{OneStep, Runs, over, pauses, halts, goesOn, LeavesRun}
 use Rattle.demands.proofs.Good.{good-exact, stands-exact}
 use Rattle.demands.proofs.Reading.{Stood, past, next, past-none, next-finds, next-line, stood-at, found-next, none-past}
 use Rattle.demands.proofs.Runs.{placeEnding, crOf, run-none, run-zero, run-suc, every-run}
@@ -80,7 +80,7 @@ module _ (lim : ℕ) (e : Env) (short : lim ≤ 251) (good : isGood lim (e .page
     its-runs : (k : ℕ) → Fit (placesOf (e .page)) (w .session) → ((q : ℕ) (u : World) → Stands (e .page) q → Fit (placesOf (e .page)) (u .session) → Runs e k q u (runFrom k e q u))
         → Runs e (suc k) q w (stepped (its .line) (afterStep (exec (envAt e (its .place)) (its .statement) w) (its .place) (its .cr) (runFrom k e)))
     its-runs k f more = by (exec (envAt e (its .place)) (its .statement) w) refl (its-goes f) where
-      step : {how : Next} {u : World} → exec (envAt e (its .place)) (its .statement) w ≡ done how u → Step e q w its how u
+      step : {how : Next} {u : World} → exec (envAt e (its .place)) (its .statement) w ≡ done how u → OneStep e q w its how u
       step d =
           record {
             next = its-next;

@@ -20,7 +20,7 @@ use Rattle.nibl.specs.Record.{nowhere, pausedAt, withPaused, unpaused}
 use Rattle.nibl.specs.Typing.{Gathered}
 use Rattle.nibl.specs.Readings.{LineReading}
 use Rattle.nibl.proofs.Whole.{typed-complete}
-use Rattle.demands.specs.Lent.{budgeted, Typing, OneOf}
+use Rattle.demands.specs.Lent.{budgeted, Typing, OneOfThese}
 use Rattle.demands.specs.Asks.{inputVars, GivenIn, stay}
 use Rattle.demands.specs.ItemsIn.{ItemIn, OwnItem, ofList, ofStatement}
 use Rattle.demands.specs.Leaves.{noItem, noneTaken, Refused}
@@ -47,7 +47,7 @@ use Rattle.demands.proofs.Running.{run-goes}
 use Rattle.demands.proofs.Stepping.{nothing-past, some-next, its, its-next, goes-stands}
 use Rattle.demands.proofs.Obeys.{Obeyed, stands, edits, runs as runs-on, read-ways, continue-ways}
 
-of-unsaid : (n : ℕ) → OneOf unsaid n → (n ≡ 0 → ⊥) → (n ≡ 5 → ⊥) → (n ≡ 14 → ⊥) → ⊥
+of-unsaid : (n : ℕ) → OneOfThese unsaid n → (n ≡ 0 → ⊥) → (n ≡ 5 → ⊥) → (n ≡ 14 → ⊥) → ⊥
 of-unsaid n i a b c =
     by-cases (eqb n 0) (λ e. a (eqb-true n 0 e)) (λ e. by-cases (eqb n 5) (λ f. b (eqb-true n 5 f)) (λ f. by-cases (eqb n 14) (λ g. c (eqb-true n 14 g))
     (λ g. false≢true (rw (e, f, g) at i))))
@@ -242,7 +242,7 @@ refusing-line x sized g y h r n ended′ paused = by (kind (lentEnv limit x) (be
   o : takeLine x ≡ obey (x .call .budget) (lentEnv limit x) (begun x (g .taken)) y
   o = line-read x g y h (typed-complete r)
 
-  m : OneOf unsaid (takeLine x .answer .stop) → ⊥
+  m : OneOfThese unsaid (takeLine x .answer .stop) → ⊥
   m i = of-unsaid (takeLine x .answer .stop) i ended′ (λ e. exactly-5 x g sized (h .sound) (h .line) (h .short) .0 e y r) paused
 
   by : Kind (lentEnv limit x) (begun x (g .taken)) y → RefusedLine x g y (takeLine x)

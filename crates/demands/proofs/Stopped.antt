@@ -20,12 +20,12 @@ use Rattle.nibl.proofs.Words.{if-split}
 use Rattle.nibl.proofs.Lines.{typed-sound}
 use Rattle.page.proofs.Walk.{by-cases}
 use Rattle.record.specs.Sound.{Sized}
-use Rattle.demands.specs.Lent.{budgeted, Typing, OneOf}
+use Rattle.demands.specs.Lent.{budgeted, Typing, OneOfThese}
 use Rattle.demands.specs.Items.{ListsLines, over, below, listsLine, noRoomForLine}
 use Rattle.demands.specs.Starts.{gives}
 use Rattle.demands.specs.Steps.{worldLeft, Ends, halts, runsOut, pauses, OneMore}
 use Rattle.demands.specs.Reading.{Standing}
-use Rattle.demands.specs.Stepping.{Step}
+use Rattle.demands.specs.Stepping.{OneStep}
 use Rattle.demands.specs.Sound.{Shows, without as unnamed, itsLine, Answered, byLine, byRun}
 use Rattle.demands.specs.Work.{Asking, forVariables, forString, Reaches, itself, throughIf, Works}
 use Rattle.demands.specs.Refusals.{Unheard, overLong, notInForm, Refusal}
@@ -50,7 +50,7 @@ pub the-last-statement-works : {e : Env} {k : ℕ} {o' o : Outcome} (m : OneMore
 the-last-statement-works {e} {o' = o'} m = works-exactly (envAt e (m .last .place)) (worldLeft o') (m .last .statement) (done (m .how) (m .after)) .0 (m .runs)
 
 -- and so did each step of a run
-pub a-step-works : {e : Env} {q : ℕ} {w u : World} {x : Standing} {how : Next} → Step e q w x how u → Works (envAt e (x .place)) (x .statement) w (done how u)
+pub a-step-works : {e : Env} {q : ℕ} {w u : World} {x : Standing} {how : Next} → OneStep e q w x how u → Works (envAt e (x .place)) (x .statement) w (done how u)
 a-step-works {e} {w = w} {u = u} {x = x} {how = how} s = works-exactly (envAt e (x .place)) w (x .statement) (done how u) .0 (s .does)
 
 -- The last statement gave the stop n exactly when it was refused with n
@@ -137,8 +137,8 @@ list-one {n} (noRoomForLine {r = r} {rs = rs} {w = w} h i) =
 abbrev lineNumbers : List ℕ
 lineNumbers = 0 ∷ 2 ∷ 3 ∷ 5 ∷ 7 ∷ 14 ∷ []
 
-module _ (x : Lent) (n : ℕ) (q : OneOf ownNumbers n) where
-  not-own : OneOf lineNumbers n → ⊥
+module _ (x : Lent) (n : ℕ) (q : OneOfThese ownNumbers n) where
+  not-own : OneOfThese lineNumbers n → ⊥
   not-own = apart ownNumbers lineNumbers refl n q
 
   -- stopped without a line
@@ -146,8 +146,8 @@ module _ (x : Lent) (n : ℕ) (q : OneOf ownNumbers n) where
     number : o .answer .stop ≡ n
     unlined : o .answer .line ≡ noLine
 
-  plain : (m : ℕ) → OneOf lineNumbers m → m ≡ n → ⊥
-  plain m h e = not-own (subst (OneOf lineNumbers) e h)
+  plain : (m : ℕ) → OneOfThese lineNumbers m → m ≡ n → ⊥
+  plain m h e = not-own (subst (OneOfThese lineNumbers) e h)
 
   edit-bare : (page : List ℕ) (w : World) (rs : List Stored) → Unlined (edited page w rs) → ⊥
   unfolding edited
@@ -156,8 +156,8 @@ module _ (x : Lent) (n : ℕ) (q : OneOf ownNumbers n) where
 
   run-bare : (k : ℕ) (e : Env) (at : ℕ) (w : World) → Lined (e .page) → Unlined (runOutcome (runFrom k e at w) (e .page)) → ⊥
   run-bare k e at w low b = by (run-named k e at w low (b .unlined)) where
-    by : OneOf unsaid (runFrom k e at w .stop) → ⊥
-    by i = apart ownNumbers unsaid refl n q (subst (OneOf unsaid) (b .number) i)
+    by : OneOfThese unsaid (runFrom k e at w .stop) → ⊥
+    by i = apart ownNumbers unsaid refl n q (subst (OneOfThese unsaid) (b .number) i)
 
   -- a statement or LIST that left the line bare, and its stop
   done-bare : (k : ℕ) (e : Env) → Lined (e .page) → (d : Done) → Unlined (afterImmediate k e d) → (u : World) × (d ≡ done (stop n) u)
@@ -202,7 +202,7 @@ module _ (x : Lent) (n : ℕ) (q : OneOf ownNumbers n) where
           byStatement h r (λ c. true≢false (sym (needs-one c) ∙ m)) (refused-exactly e w s n (d .0) own-zero .0 (d .1))
 
   line-bare : {o : Outcome} → Takes limit x o → Unlined o → LineRefused x n
-  line-bare (refused {n = m} h) b = absurd (apart ownNumbers firstNumbers refl n q (subst (OneOf firstNumbers) (b .number) (first-numbers limit x (suc m) h)))
+  line-bare (refused {n = m} h) b = absurd (apart ownNumbers firstNumbers refl n q (subst (OneOfThese firstNumbers) (b .number) (first-numbers limit x (suc m) h)))
   line-bare (noCR z h) b = absurd (plain 7 refl (b .number))
   line-bare (overlong g z h l) b = absurd (plain 5 refl (b .number))
   line-bare (unread g h r) b = absurd (plain 5 refl (b .number))
@@ -226,7 +226,7 @@ module _ (x : Lent) (n : ℕ) (q : OneOf ownNumbers n) where
   a-typed-statements-stop = (λ h. line-bare (every-line limit x) (record { number = h .0; unlined = h .1 }), refused-bare)
 
 -- So of each of these numbers: the typed line's own statement or LIST was refused with it, or the last statement of its run
-pub a-statements-stop : (x : Lent) → Sized (x .session) → (n : ℕ) → OneOf ownNumbers n → (takeLine x .answer .stop ≡ n)
+pub a-statements-stop : (x : Lent) → Sized (x .session) → (n : ℕ) → OneOfThese ownNumbers n → (takeLine x .answer .stop ≡ n)
     ↔ (LineRefused x n ⊎ StoppedBy (lentEnv limit x) (x .call .budget) (takeLine (budgeted (takeLine x .answer .steps - 1) x)) (takeLine x) n)
 a-statements-stop x sized n q = (λ h. by-cases (eqb (takeLine x .answer .line) noLine) (λ e. inl (typed′ .0 (h, eqb-true _ _ e))) (λ e. inr (stopped .0 (h, eqb-false _ _ e))), back) where
   z : n ≡ 0 → ⊥
@@ -286,19 +286,19 @@ a-replys-stop x sized = (λ h. by (s .0 h), λ r. s .1 (inr r)) where
   by (inr r) = r
 
 -- A continued run has no statement but the program's: all of these numbers, INPUT's 7 too, are its last statement's
-module _ (x : Lent) (n : ℕ) (q : OneOf statementNumbers n) where
+module _ (x : Lent) (n : ℕ) (q : OneOfThese statementNumbers n) where
   paused-lined : (p : ℕ) → Lined (x .page) → continueFrom limit x p .answer .stop ≡ n → continueFrom limit x p .answer .line ≡ noLine → ⊥
-  paused-lined zero low h l = apart statementNumbers (0 ∷ []) refl n q (subst (OneOf (0 ∷ [])) h refl)
+  paused-lined zero low h l = apart statementNumbers (0 ∷ []) refl n q (subst (OneOfThese (0 ∷ [])) h refl)
   paused-lined (suc at) low h l =
-      apart statementNumbers unsaid refl n q (subst (OneOf unsaid) h (run-named (x .call .budget) (lentEnv limit x) at (begun x 0) low l))
+      apart statementNumbers unsaid refl n q (subst (OneOfThese unsaid) h (run-named (x .call .budget) (lentEnv limit x) at (begun x 0) low l))
 
   continue-lined : {o : Outcome} → Continues limit x o → o .answer .stop ≡ n → o .answer .line ≡ noLine → ⊥
-  continue-lined (refused′ {n = m} h) i l = apart statementNumbers firstNumbers refl n q (subst (OneOf firstNumbers) i (first-numbers limit x (suc m) h))
+  continue-lined (refused′ {n = m} h) i l = apart statementNumbers firstNumbers refl n q (subst (OneOfThese firstNumbers) i (first-numbers limit x (suc m) h))
   continue-lined (continues h) i l = paused-lined (x .session .paused) (lines-low limit (x .page) (omega arith) (accepted-of limit x h .good)) i l
 
   pub a-continued-stop : Sized (x .session) → (continueRun x .answer .stop ≡ n)
       ↔ StoppedBy (lentEnv limit x) (x .call .budget) (continueRun (budgeted (continueRun x .answer .steps - 1) x)) (continueRun x) n
   unfolding continueRun
   a-continued-stop sized =
-      let c = a-continued-statements-stop x sized n (λ e. apart statementNumbers unsaid refl n q (subst (OneOf unsaid) (sym e) refl)) (λ e. apart statementNumbers unsaid refl n q (subst (OneOf unsaid) (sym e) refl)) in
+      let c = a-continued-statements-stop x sized n (λ e. apart statementNumbers unsaid refl n q (subst (OneOfThese unsaid) (sym e) refl)) (λ e. apart statementNumbers unsaid refl n q (subst (OneOfThese unsaid) (sym e) refl)) in
       (λ h. c .0 (h, λ l. continue-lined (every-continue limit x) h l), λ r. c .1 r .0)

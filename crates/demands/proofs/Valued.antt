@@ -21,7 +21,7 @@ use Rattle.value.proofs.Digits.{digits-before}
 use Rattle.page.proofs.Walk.{by-cases}
 use Rattle.page.proofs.Program.{program-length}
 use Rattle.demands.specs.Items.{itemBytes}
-use Rattle.demands.specs.Valued.{Signed, fromZero, belowZero, order, Below, acrossZero, aboveZero, underZero, Related, same, notSame, below, notBelow, above, notAbove, upTo, notUpTo, fromOn, notFromOn, other, notOther, Operated, sums, differences, products, quotients, quotientsBelow, noQuotient, both, either, relates, Remains, remainders, noRemainder, ValueOf, ofVariable, ofConstant, ofStat, ofTop, ofByte, noByte, ofNot, ofMinus, ofMod, ofTwo, inByte, inNot, inMinus, leftOfMod, rightOfMod, leftOfTwo, rightOfTwo, StringAt, NoCR, Decimal, oneDigit, moreDigits, Shown, shown, shownBelow, ItemBytes, ofText, ofString, ofNumber, noString, noAddress, noNumber}
+use Rattle.demands.specs.Valued.{Signed, fromZero, belowZero, order, Below, acrossZero, aboveZero, underZero, Related, same, notSame, below, notBelow, above, notAbove, upTo, notUpTo, fromOn, notFromOn, other, notOther, Operated, sums, differences, products, quotients, quotientsBelow, noQuotient, both, either, relates, Remains, remainders, noRemainder, ValueOf, ofVariable, ofConstant, ofStat, ofTop, ofByte, noByte, ofNot, ofMinus, ofMod, ofTwo, inByte, inNot, inMinus, leftOfMod, rightOfMod, leftOfTwo, rightOfTwo, StringAt, NoCR, Decimal, oneDigit, moreDigits, PrintedAs, shown, shownBelow, ItemBytes, ofText, ofString, ofNumber, noString, noAddress, noNumber}
 
 -- Sign and size
 pub signed-of : (x : ℕ) → Signed x (isNegative x) (magnitude x)
@@ -265,14 +265,14 @@ signed-small (fromZero h) = omega arith
 signed-small (belowZero h) = omega arith
 
 -- Items
-shown-of : (x : ℕ) → Shown x (printed x)
+shown-of : (x : ℕ) → PrintedAs x (printed x)
 unfolding printed digits
 shown-of x = by (isNegative x) (signed-of x) where
-  by : (s : Bool) → Signed x s (magnitude x) → Shown x ((if s then 45 else 32) ∷ (digits (magnitude x) ++ (32 ∷ [])))
+  by : (s : Bool) → Signed x s (magnitude x) → PrintedAs x ((if s then 45 else 32) ∷ (digits (magnitude x) ++ (32 ∷ [])))
   by true h = shownBelow h (decimal-of 4 (magnitude x) (signed-small h))
   by false h = shown h (decimal-of 4 (magnitude x) (signed-small h))
 
-shown-one : {x : ℕ} {bs : List ℕ} → Shown x bs → printed x ≡ bs
+shown-one : {x : ℕ} {bs : List ℕ} → PrintedAs x bs → printed x ≡ bs
 unfolding printed digits
 shown-one (shown {m = m} h d) = rw (signed-one h .1, signed-one h .0, decimal-unique (decimal-of 4 m (signed-small h)) d)
 shown-one (shownBelow {m = m} h d) = rw (signed-one h .1, signed-one h .0, decimal-unique (decimal-of 4 m (signed-small h)) d)

@@ -36,7 +36,7 @@ use Rattle.letter.proofs.Typed.{no-cr, no-cr-left}
 use Rattle.page.proofs.Walk.{by-cases}
 use Rattle.demands.specs.Items.{In, first, further, itemBytes, wroteItem, HasRoom, NoRoom}
 use Rattle.demands.specs.Valued.{order, ValueOf, FirstRefused, atFirst, atLater, NoCR, ItemBytes}
-use Rattle.demands.specs.Work.{valuesOf, LineAt, thisLine, laterLine, NoLine, Bare, empty, misfit, TopPlace, TopEntry, stepped, Within, upward, downward, Past, above, below, withCR, UpTo, thisItem, laterItem, AllOut, noneLeft, oneOut, Replied, afterReply, gave, GivenUpTo, thisValue, laterValue, AllGiven, noMore, oneGiven, Asking, forVariables, forString, Unread, ofStatement, ofItem, ofReply, RefusedWith, byValue, noLineToGo, noLineToSub, fullOfGosubs, fullOfDos, fullOfFors, noGosub, noDo, noFor, otherFor, noByteThere, noRoomForText, noSource, noRoomForCopy, noRoomForItem, noRoomForEnd, noRoomToAsk, noReply, replyTooLong, replyUnread, noRoomForReply, atEnd, Performs, refuses, remarks, falseIf, assigns, assignsFlags, storesByte, storesText, copies, goesToLine, callsLine, begins, counts, returns, returnsToMark, repeats, leaves, countsOn, finishes, prints, printsEnd, inputs, inputsString, Reaches, itself, throughIf, Works}
+use Rattle.demands.specs.Work.{valuesOf, LineAt, thisLine, laterLine, NoLine, Bare, empty, misfit, TopPlace, TopEntry, stepAdded, Within, upward, downward, Past, above, below, withCR, UpTo, thisItem, laterItem, AllOut, noneLeft, oneOut, Replied, afterReply, gave, GivenUpTo, thisValue, laterValue, AllGiven, noMore, oneGiven, Asking, forVariables, forString, Unread, ofStatement, ofItem, ofReply, RefusedWith, byValue, noLineToGo, noLineToSub, fullOfGosubs, fullOfDos, fullOfFors, noGosub, noDo, noFor, otherFor, noByteThere, noRoomForText, noSource, noRoomForCopy, noRoomForItem, noRoomForEnd, noRoomToAsk, noReply, replyTooLong, replyUnread, noRoomForReply, atEnd, Performs, refuses, remarks, falseIf, assigns, assignsFlags, storesByte, storesText, copies, goesToLine, callsLine, begins, counts, returns, returnsToMark, repeats, leaves, countsOn, finishes, prints, printsEnd, inputs, inputsString, Reaches, itself, throughIf, Works}
 use Rattle.demands.proofs.Valued.{value-of, value-one, string-of, string-one, string-none, item-of, item-one}
 use Rattle.demands.proofs.Effects.{went-went}
 use Rattle.demands.proofs.Printing.{put-split, went-on, item-put}
@@ -212,8 +212,8 @@ module _ (e : Env) (w : World) where
     to f t =
         rw (some-top 4 (w .session .fors .depth) (w .session .fors .depth) (w .session .fors .depth - 1) (t .some) (t .within))
         (by-cases (eqb (f .var) v)
-        (λ b. rw b (by-cases (goesOn (f .step) (stepped w v f) (f .limit))
-        (λ c. rw c (countsOn t (eqb-true _ _ b) (within-of f (stepped w v f) c))) (λ c. rw c (finishes t (eqb-true _ _ b) (past-of f (stepped w v f) c)))))
+        (λ b. rw b (by-cases (goesOn (f .step) (stepAdded w v f) (f .limit))
+        (λ c. rw c (countsOn t (eqb-true _ _ b) (within-of f (stepAdded w v f) c))) (λ c. rw c (finishes t (eqb-true _ _ b) (past-of f (stepAdded w v f) c)))))
         (λ b. rw b (refuses (otherFor t (eqb-false _ _ b)))))
 
 -- PRINT: what has been written, one item after the other
@@ -542,9 +542,9 @@ module _ (e : Env) (w : World) where
   performs-one (repeats h t) = rw (value-one e w h) (ap (untilBy w 0) (top-one t))
   performs-one (leaves {x = x} h n t) =
       rw (value-one e w h) (ap (untilBy w x) (top-one t) ∙ rw (ne-eqb x 0 n, depth-one 8 (w .session .dos .depth) (t .some) (t .within)))
-  performs-one (countsOn {v = v} {f = f} t h i) = ap (nextBy w v) (topfor-one t) ∙ rw (eq-eqb (f .var) v h, within-one f (stepped w v f) i)
+  performs-one (countsOn {v = v} {f = f} t h i) = ap (nextBy w v) (topfor-one t) ∙ rw (eq-eqb (f .var) v h, within-one f (stepAdded w v f) i)
   performs-one (finishes {v = v} {f = f} t h i) =
-      ap (nextBy w v) (topfor-one t) ∙ rw (eq-eqb (f .var) v h, past-one f (stepped w v f) i, depth-one 4 (w .session .fors .depth) (t .some) (t .within))
+      ap (nextBy w v) (topfor-one t) ∙ rw (eq-eqb (f .var) v h, past-one f (stepAdded w v f) i, depth-one 4 (w .session .fors .depth) (t .some) (t .within))
   performs-one (prints m) = all-out e (putEnd true) m
   performs-one (printsEnd {u = u} m r) = all-out e (putEnd false) m ∙ sym (went-on (put (13 ∷ 10 ∷ []) u)) ∙ put-fits (13 ∷ 10 ∷ []) u (λ v. done on v) r
   performs-one (inputs {vs = vs} {g = g} r s l m) = reply-there e w g _ r s ∙ ap (assignReply e vs (afterReply w g)) (replied-complete l) ∙ all-given e m

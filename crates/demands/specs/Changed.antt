@@ -86,7 +86,7 @@ abbrev pub lineEnd : Bool → List ℕ
 lineEnd true = []
 lineEnd false = 13 ∷ 10 ∷ []
 
-pub record Prints (e : Env) (w : World) (items : List Item) (b : Bool) (u : World) : Type 0 where
+pub record WritesItems (e : Env) (w : World) (items : List Item) (b : Bool) (u : World) : Type 0 where
   pub bytes : List ℕ
   pub shown : ItemsBytes e w items bytes
   pub only : OnlyOutput w (bytes ++ lineEnd b) u

@@ -34,15 +34,15 @@ abbrev pub budgeted : ℕ → Lent → Lent
 budgeted k x = lentAll (x .session) (x .page) (x .memory) (x .input) (x .output) (withBudget k (x .call))
 
 -- Stop numbers
-abbrev pub OneOf : List ℕ → ℕ → Type 0
-OneOf ns n = isAmong ns n ≡ true
+abbrev pub OneOfThese : List ℕ → ℕ → Type 0
+OneOfThese ns n = isAmong ns n ≡ true
 
 -- those of document 01's table
 abbrev pub replyNumbers : List ℕ
 replyNumbers = 0 ∷ 1 ∷ 2 ∷ 3 ∷ 5 ∷ 6 ∷ 7 ∷ 8 ∷ 9 ∷ 10 ∷ 11 ∷ 12 ∷ 13 ∷ 14 ∷ 15 ∷ 16 ∷ 17 ∷ 18 ∷ 19 ∷ 20 ∷ []
 
 abbrev pub Numbered : Outcome → Type 0
-Numbered o = OneOf replyNumbers (o .answer .stop)
+Numbered o = OneOfThese replyNumbers (o .answer .stop)
 
 -- "1, 18 and 19 change nothing"
 abbrev pub firstRefusals : List ℕ

@@ -49,7 +49,7 @@ lastLF [] = []
 lastLF (r ∷ rs) = 10 ∷ []
 
 -- LIST's outcome: the listing written whole, the line taken, the pause ended, nothing else changed
-pub record Lists (x : Lent) (g : Gathered) (o : Outcome) : Type 0 where
+pub record ListsWhole (x : Lent) (g : Gathered) (o : Outcome) : Type 0 where
   pub answer : o .answer ≡ answerOf 0 noLine 0 (x .call .inpos + g .taken) (x .call .outpos + listingRoom (recordsOf (x .page)))
   pub session : o .session ≡ unpaused (x .session)
   pub page : o .page ≡ x .page

@@ -13,7 +13,7 @@ use Rattle.demands.specs.Starts.{Starts, StartsPaused}
 use Rattle.demands.specs.Steps.{GoesTo}
 
 -- one step: the member that is next at q runs in the world w, ends so, and leaves the world u
-pub record Step (e : Env) (q : ℕ) (w : World) (x : Standing) (how : Next) (u : World) : Type 0 where
+pub record OneStep (e : Env) (q : ℕ) (w : World) (x : Standing) (how : Next) (u : World) : Type 0 where
   pub next : NextAt (e .page) q x
   pub does : exec (envAt e (x .place)) (x .statement) w ≡ done how u
   pub writes : StatementWrote (envAt e (x .place)) (x .statement) w u
@@ -25,9 +25,9 @@ pub data Runs (e : Env) : ℕ → ℕ → World → Ran → Type 0 where
   -- "budget spent and a statement still to run: paused"
   pauses : {q : ℕ} {w : World} {x : Standing} → NextAt (e .page) q x → Runs e 0 q w (ran 14 q w)
   -- a step that gives the stop
-  halts : {k q n : ℕ} {w u : World} {x : Standing} → Step e q w x (stop n) u → Runs e (suc k) q w (stepped (x .line) (ran n (x .place) u))
+  halts : {k q n : ℕ} {w u : World} {x : Standing} → OneStep e q w x (stop n) u → Runs e (suc k) q w (stepped (x .line) (ran n (x .place) u))
   -- a step, and the run from where it goes on
-  goesOn : {k q q' : ℕ} {w u : World} {x : Standing} {how : Next} {r : Ran} → Step e q w x how u → GoesTo (x .place) (x .cr) how q' → Runs e k q' u r
+  goesOn : {k q q' : ℕ} {w u : World} {x : Standing} {how : Next} {r : Ran} → OneStep e q w x how u → GoesTo (x .place) (x .cr) how q' → Runs e k q' u r
       → Runs e (suc k) q w (stepped (x .line) r)
 
 -- what a call leaves that runs from q on in the world w
@@ -39,7 +39,7 @@ pub record LeavesRun (x : Lent) (q : ℕ) (w : World) (o : Outcome) : Type 0 whe
 -- the run from q in the world w comes to q' in w', a step at a time
 pub data Comes (e : Env) (q : ℕ) (w : World) : ℕ → World → Type 0 where
   begins : Comes e q w q w
-  steps : {q' q'' : ℕ} {w' u : World} {x : Standing} {how : Next} → Comes e q w q' w' → Step e q' w' x how u → GoesTo (x .place) (x .cr) how q'' → Comes e q w q'' u
+  steps : {q' q'' : ℕ} {w' u : World} {x : Standing} {how : Next} → Comes e q w q' w' → OneStep e q' w' x how u → GoesTo (x .place) (x .cr) how q'' → Comes e q w q'' u
 
 -- an item that the run from q in the world w writes: one of the member that is next where it comes to, in the world in which it stands there
 pub data ProgramItem (e : Env) (q : ℕ) (w : World) : List ℕ → Type 0 where

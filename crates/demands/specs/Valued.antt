@@ -109,15 +109,15 @@ pub data Decimal : ℕ → List ℕ → Type 0 where
   moreDigits : {n : ℕ} {ds : List ℕ} → 10 ≤ n → Decimal (n / 10) ds → Decimal n (ds ++ ((48 + n % 10) ∷ []))
 
 -- "A number prints as a space or '-', digits, a space"
-pub data Shown : ℕ → List ℕ → Type 0 where
-  shown : {x m : ℕ} {ds : List ℕ} → Signed x false m → Decimal m ds → Shown x (32 ∷ (ds ++ (32 ∷ [])))
-  shownBelow : {x m : ℕ} {ds : List ℕ} → Signed x true m → Decimal m ds → Shown x (45 ∷ (ds ++ (32 ∷ [])))
+pub data PrintedAs : ℕ → List ℕ → Type 0 where
+  shown : {x m : ℕ} {ds : List ℕ} → Signed x false m → Decimal m ds → PrintedAs x (32 ∷ (ds ++ (32 ∷ [])))
+  shownBelow : {x m : ℕ} {ds : List ℕ} → Signed x true m → Decimal m ds → PrintedAs x (45 ∷ (ds ++ (32 ∷ [])))
 
 -- the bytes of one of PRINT's items, or its refusal
 pub data ItemBytes (e : Env) (w : World) : Item → Result (List ℕ) → Type 0 where
   ofText : {bs : List ℕ} → ItemBytes e w (text bs) (is bs)
   ofString : {a : Expr} {p : ℕ} {bs : List ℕ} → ValueOf e w a (is p) → StringAt (w .memory) p bs → ItemBytes e w (stored a) (is bs)
-  ofNumber : {a : Expr} {x : ℕ} {bs : List ℕ} → ValueOf e w a (is x) → Shown x bs → ItemBytes e w (value a) (is bs)
+  ofNumber : {a : Expr} {x : ℕ} {bs : List ℕ} → ValueOf e w a (is x) → PrintedAs x bs → ItemBytes e w (value a) (is bs)
   noString : {a : Expr} {p : ℕ} → ValueOf e w a (is p) → NoCR (w .memory) p → ItemBytes e w (stored a) (no 16)
   noAddress : {a : Expr} {n : ℕ} → ValueOf e w a (no n) → ItemBytes e w (stored a) (no n)
   noNumber : {a : Expr} {n : ℕ} → ValueOf e w a (no n) → ItemBytes e w (value a) (no n)

@@ -80,8 +80,8 @@ abbrev pub poppedFor : ForStack → ForStack
 poppedFor s = record { depth = s .depth - 1; entries = s .entries }
 
 -- "NEXT adds the step"
-abbrev pub stepped : World → ℕ → ForEntry → ℕ
-stepped w v f = (getD (w .session .vars) v 0 + f .step) % 65536
+abbrev pub stepAdded : World → ℕ → ForEntry → ℕ
+stepAdded w v f = (getD (w .session .vars) v 0 + f .step) % 65536
 
 -- "while the variable is at most the limit (step 0 or more) or at least it (step below 0)"; and past it
 pub data Within (f : ForEntry) (x : ℕ) : Type 0 where
@@ -226,10 +226,10 @@ pub data Performs (e : Env) (w : World) : Stmt → Done → Type 0 where
   leaves : {a : Expr} {x : ℕ} {p : Place} → ValueOf e w a (is x) → (x ≡ 0 → ⊥) → TopPlace (w .session .dos) p
       → Performs e w (until a) (done on (withSession w (withDos (w .session) (popped (w .session .dos)))))
   -- "NEXT adds the step, then returns to the saved place while ..; otherwise it pops and runs on"
-  countsOn : {v : ℕ} {f : ForEntry} → TopEntry (w .session .fors) f → f .var ≡ v → Within f (stepped w v f)
-      → Performs e w (next v) (done (go (suc (f .place .0))) (withSession w (withVar (w .session) v (stepped w v f))))
-  finishes : {v : ℕ} {f : ForEntry} → TopEntry (w .session .fors) f → f .var ≡ v → Past f (stepped w v f)
-      → Performs e w (next v) (done on (withSession w (withFors (withVar (w .session) v (stepped w v f)) (poppedFor (w .session .fors)))))
+  countsOn : {v : ℕ} {f : ForEntry} → TopEntry (w .session .fors) f → f .var ≡ v → Within f (stepAdded w v f)
+      → Performs e w (next v) (done (go (suc (f .place .0))) (withSession w (withVar (w .session) v (stepAdded w v f))))
+  finishes : {v : ℕ} {f : ForEntry} → TopEntry (w .session .fors) f → f .var ≡ v → Past f (stepAdded w v f)
+      → Performs e w (next v) (done on (withSession w (withFors (withVar (w .session) v (stepAdded w v f)) (poppedFor (w .session .fors)))))
   -- "PRINT ends with CR LF unless ';'"
   prints : {items : List Item} {u : World} → AllOut e items w u → Performs e w (print items true) (done on u)
   printsEnd : {items : List Item} {u : World} → AllOut e items w u → HasRoom u (13 ∷ 10 ∷ [])

@@ -14,7 +14,7 @@ use Rattle.world.specs.declared.jump.Turn.{Turn}
 use Rattle.world.proofs.jump.Determined.{way-determined, turn-determined}
 use Rattle.effect.specs.declared.AtOnce.{AtOnce}
 use Rattle.effect.specs.declared.AtOnce.the-variants as once
-use Rattle.effect.specs.Acts.{Acted, acted, endedIn, callTurn}
+use Rattle.effect.specs.Acts.{Acted, acted, wayAtOnce, callTurn}
 use Rattle.effect.specs.declared.Did.{Did}
 use Rattle.effect.specs.Worlds.{didIn}
 
@@ -49,7 +49,7 @@ abbrev endOf : Option Next → Next → Next
 endOf none d = d
 endOf (some n) d = n
 
-at-once-same : (a b : AtOnce) → endedIn a ≡ endedIn b → a ≡ b
+at-once-same : (a b : AtOnce) → wayAtOnce a ≡ wayAtOnce b → a ≡ b
 at-once-same (once.Ended v) (once.Ended w) e = ap once.Ended (way-determined (wayOf w) v w (ap (λ (o : Option Next). endOf o (wayOf w)) e) refl)
 at-once-same once.Not once.Not e = refl
 at-once-same (once.Ended v) once.Not e = let z : _≡_ {A = ℕ} 0 1 = cc in absurd (omega arith)

@@ -27,12 +27,12 @@ pub record Acted : Type 0 where
 abbrev pub actedTo : Option Next → List ℕ → Acted
 actedTo next vars = record { next = next; vars = vars }
 
-abbrev pub endedIn : AtOnce → Option Next
-endedIn (once.Ended w) = some (wayOf w)
-endedIn once.Not = none
+abbrev pub wayAtOnce : AtOnce → Option Next
+wayAtOnce (once.Ended w) = some (wayOf w)
+wayAtOnce once.Not = none
 
 abbrev pub acted : AtOnce → List ℕ → Acted
-acted a vars = actedTo (endedIn a) vars
+acted a vars = actedTo (wayAtOnce a) vars
 
 -- behind the place of a DO or a FOR
 abbrev pub backTo : Option ℕ → Option Next

@@ -11,7 +11,7 @@ ghost use Rattle.world.specs.Turns.{wayOf, turned};
 ghost use Rattle.value.specs.Writes.{Writes};
 ghost use Rattle.operation.specs.Operations.{effectBy};
 ghost use Rattle.effect.specs.Worlds.{envWith, worldWith, did, didIn, withFlagsIn, withGosubsIn, withDosIn, withForsIn, partsAt, storedWay, wroteIn, KeepsVars, putStored, keepReply};
-ghost use Rattle.effect.specs.Acts.{acted, actBy, goesBack, endedIn, isCall, callTurn};
+ghost use Rattle.effect.specs.Acts.{acted, actBy, goesBack, wayAtOnce, isCall, callTurn};
 use nibl::ForStack;
 use nibl::Onward;
 use nibl::Parts;
@@ -196,7 +196,7 @@ fn if_way(x: u16) -> Way
 
 // A NEXT or an UNTIL that goes back ends so; any other needs the parts.
 fn back_ends(b: Back) -> AtOnce
-    ensures { λ r. ⌜ endedIn r ≡ goesBack b ⌝ }
+    ensures { λ r. ⌜ wayAtOnce r ≡ goesBack b ⌝ }
 {
     match b {
         Back::To(p) => AtOnce::Ended(Way::Go(Onward::After(p))),

@@ -23,15 +23,15 @@ use Rattle.nibl.specs.declared.ForStack.{ForStack}
 use Rattle.nibl.specs.declared.PlaceStack.{PlaceStack}
 use Rattle.statement.specs.declared.Plain.{Plain}
 use Rattle.statement.specs.declared.Plain.the-variants as plain
-use Rattle.statement.specs.Plain.{Seen, Around, seen, envFrom, partsFrom, worldFrom, plainIn, plainHeight, plainAt, RunsPlainly}
+use Rattle.statement.specs.Plain.{InView, Around, seen, envFrom, partsFrom, worldFrom, plainIn, plainHeight, plainAt, RunsPlainly}
 use Rattle.statement.proofs.Running.{went-on, went-off, effect-way}
 
 -- what is left of a list, on the variables so far, does what the whole list does
-pub record Reaches (s : Seen) (ops vars₀ : List ℕ) (i : ℕ) (vars : List ℕ) : Type 0 where
+pub record Reaches (s : InView) (ops vars₀ : List ℕ) (i : ℕ) (vars : List ℕ) : Type 0 where
   pub at : (a : Around) → runOps (envFrom s a) ops (worldFrom s a vars₀) [] ≡ runOps (envFrom s a) (drop i ops) (worldFrom s a vars) []
 
 -- the values that stand next
-module _ (s : Seen) (a : Around) (ops vars : List ℕ) (i : ℕ) where
+module _ (s : InView) (a : Around) (ops vars : List ℕ) (i : ℕ) where
   abbrev src : Sources
   src = sources vars (s .flags) (s .sense) (s .page) (s .memory)
 
@@ -43,7 +43,7 @@ module _ (s : Seen) (a : Around) (ops vars : List ℕ) (i : ℕ) where
   plain-reached e = runs-first (envFrom s a) (worldFrom s a vars) (drop i ops) [] ∙ rw (← e) refl
 
 -- an operation that acts at once
-module _ (s : Seen) (a : Around) (short : length (s .page) ≤ 65535) (ops vars vs : List ℕ) (j : ℕ) (h : j < length ops) {x : ℕ} (top : x ≡ getD vs 0 0) where
+module _ (s : InView) (a : Around) (short : length (s .page) ≤ 65535) (ops vars vs : List ℕ) (j : ℕ) (h : j < length ops) {x : ℕ} (top : x ≡ getD vs 0 0) where
   abbrev there : ℕ
   there = getD ops j 0
 
@@ -86,7 +86,7 @@ module _ (s : Seen) (a : Around) (short : length (s .page) ≤ 65535) (ops vars 
 module _ {ops page : List ℕ} {sense flags : ℕ} {dos : PlaceStack} {fors : ForStack} {vars memory : List ℕ} {r : Plain} {vars′ values′ : List ℕ}
     (runs : RunsPlainly ops page sense flags dos fors vars memory r vars′ values′)
   where
-    abbrev sees : Seen
+    abbrev sees : InView
     sees = seen page sense flags dos fors memory
 
     pub plain-ends : {w : Way} → r ≡ plain.Ends w → (a : Around)

@@ -27,7 +27,7 @@ pub record Around : Type 0 where
   pub output : List ℕ
 
 -- and what it sees but does not change
-pub record Seen : Type 0 where
+pub record InView : Type 0 where
   pub page : List ℕ
   pub sense : ℕ
   pub flags : ℕ
@@ -35,7 +35,7 @@ pub record Seen : Type 0 where
   pub fors : ForStack
   pub memory : List ℕ
 
-module _ (s : Seen) (a : Around) where
+module _ (s : InView) (a : Around) where
   abbrev pub envFrom : Env
   envFrom = envWith (a .lim) (s .page) (a .input) (s .sense) (a .here)
 
@@ -51,7 +51,7 @@ module _ (s : Seen) (a : Around) where
   plainIn (plain.Calls c x) ops vars values = gosubsIn (worldFrom vars) (callTurn (s .page) (a .here) (a .gosubs) c x)
   plainIn (plain.Needs i n) ops vars values = runOps envFrom (drop i ops) (worldFrom vars) (stackOf values n)
 
-abbrev pub seen : List ℕ → ℕ → ℕ → PlaceStack → ForStack → List ℕ → Seen
+abbrev pub seen : List ℕ → ℕ → ℕ → PlaceStack → ForStack → List ℕ → InView
 seen page sense flags dos fors memory = record { page = page; sense = sense; flags = flags; dos = dos; fors = fors; memory = memory }
 
 abbrev pub plainHeight : Plain → ℕ

@@ -14,7 +14,7 @@ use Rattle.operation.specs.Operations.{runOps}
 use Rattle.operation.specs.Stacks.{stackOf}
 use Rattle.effect.specs.Acts.{actedTo, actBy, callTurn}
 use Rattle.effect.proofs.Acts.{act-not}
-use Rattle.statement.specs.Plain.{Seen, Around, seen, envFrom, worldFrom}
+use Rattle.statement.specs.Plain.{InView, Around, seen, envFrom, worldFrom}
 use Rattle.statement.proofs.Running.{run-end}
 use Rattle.statement.proofs.Plainly.{Reaches, plain-refused, plain-reached, plain-on, plain-off, plain-called}
 use borrow.Author.Needs.{needs}
@@ -36,7 +36,7 @@ module _ (l : tie.At-loop Inv-loop μ-loop) where
   abbrev ops : List ℕ
   ops = start .args .ops .now
 
-  abbrev sees : Seen
+  abbrev sees : InView
   sees = seen (start .args .page .now) (start .args .sense) (start .args .flags) (start .args .dos) (start .args .fors) (start .args .memory .now)
 
 loop-holds : tie.Need-loop-holds Inv-loop μ-loop
