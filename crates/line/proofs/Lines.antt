@@ -21,7 +21,7 @@ use Rattle.nibl.proofs.Lines.{typed-other}
 use Rattle.word.specs.declared.Cursor.{Cursor}
 use Rattle.word.specs.declared.Word.{Word}
 use Rattle.word.specs.declared.Word.the-variants.{Variable, Decimal, Hex, Text, Sign, End, Wrong}
-use Rattle.word.specs.Found.{stepOf, WordIs}
+use Rattle.word.specs.Found.{foundStep, WordIs}
 use Rattle.word.proofs.Word.{the-type}
 use Rattle.reader.specs.Code.{compile}
 use Rattle.reader.specs.Answers.{hasRoom, zeros, memberOps}
@@ -36,7 +36,7 @@ use Rattle.line.proofs.Codes.{needs-exact, written-front}
 use Rattle.line.proofs.Lists.{First}
 
 -- Nothing but spaces
-unended : (text : List ℕ) (w : Word) → (w ≡ End → ⊥) → stepOf text w ≡ atEnd → ⊥
+unended : (text : List ℕ) (w : Word) → (w ≡ End → ⊥) → foundStep text w ≡ atEnd → ⊥
 unended text (Variable v c) n e = let z : _≡_ {A = ℕ} 0 1 = cc in omega arith
 unended text (Decimal v c) n e = let z : _≡_ {A = ℕ} 0 1 = cc in omega arith
 unended text (Hex v c) n e = let z : _≡_ {A = ℕ} 0 1 = cc in omega arith
@@ -47,7 +47,7 @@ unended text Wrong n e = let z : _≡_ {A = ℕ} 0 1 = cc in omega arith
 
 module _ {text : List ℕ} {at : ℕ} where
   pub blank-end : {w : Word} → w ≡ End → WordIs (stepIn keywords) text at w → all isSpace (drop at text) ≡ true
-  blank-end e h = all-true (ended-sound keywords (drop at text) (sym (h .same) ∙ ap (stepOf text) e))
+  blank-end e h = all-true (ended-sound keywords (drop at text) (sym (h .same) ∙ ap (foundStep text) e))
 
   pub unblank : (w : Word) → (w ≡ End → ⊥) → WordIs (stepIn keywords) text at w → all isSpace (drop at text) ≡ false
   unblank w n h = go (all isSpace (drop at text)) refl
@@ -72,7 +72,7 @@ kind-alone n y s = go (all isSpace s)
     go false = refl
 
 -- A decimal constant
-undecimal : (text : List ℕ) (w : Word) → ((n : ℕ) (c : Cursor) → w ≡ Decimal n c → ⊥) → onStep (stepOf text w) decimalOf ≡ nothing
+undecimal : (text : List ℕ) (w : Word) → ((n : ℕ) (c : Cursor) → w ≡ Decimal n c → ⊥) → onStep (foundStep text w) decimalOf ≡ nothing
 undecimal text (Variable v c) n = refl
 undecimal text (Decimal v c) n = absurd (n v c refl)
 undecimal text (Hex v c) n = refl
@@ -82,12 +82,12 @@ undecimal text End n = refl
 undecimal text Wrong n = refl
 
 module _ {text : List ℕ} {at : ℕ} where
-  decimal-step : {w : Word} → WordIs (stepIn keywords) text at w → aDecimal (drop at text) ≡ onStep (stepOf text w) decimalOf
+  decimal-step : {w : Word} → WordIs (stepIn keywords) text at w → aDecimal (drop at text) ≡ onStep (foundStep text w) decimalOf
   unfolding aDecimal
   decimal-step h = ap (λ (s : Step). onStep s decimalOf) (sym (h .same))
 
   pub decimal-found : {w : Word} {n : ℕ} {c : Cursor} → w ≡ Decimal n c → WordIs (stepIn keywords) text at w → aDecimal (drop at text) ≡ found n (drop (c .at) text)
-  decimal-found e h = decimal-step h ∙ ap (λ (q : Word). onStep (stepOf text q) decimalOf) e
+  decimal-found e h = decimal-step h ∙ ap (λ (q : Word). onStep (foundStep text q) decimalOf) e
 
   pub no-decimal : (ks : List ℕ) (w : Word) → (OneOf ks 1 → ⊥) → OneOf ks (tagOf the-type w) → WordIs (stepIn keywords) text at w → aDecimal (drop at text) ≡ nothing
   no-decimal ks w n k h = decimal-step h ∙ undecimal text w (λ v c e. n (subst (λ (q : Word). OneOf ks (tagOf the-type q)) e k))
@@ -235,7 +235,7 @@ module _ (ops : List ℕ) where
       go false = store-silent n s (reading s)
 
 -- No number
-no-sign : (text : List ℕ) (w : Word) → ((k : ℕ) (c : Cursor) → w ≡ Sign k c → ⊥) → onStep (stepOf text w) signOf ≡ nothing
+no-sign : (text : List ℕ) (w : Word) → ((k : ℕ) (c : Cursor) → w ≡ Sign k c → ⊥) → onStep (foundStep text w) signOf ≡ nothing
 no-sign text (Variable v c) n = refl
 no-sign text (Decimal v c) n = refl
 no-sign text (Hex v c) n = refl
@@ -245,7 +245,7 @@ no-sign text End n = refl
 no-sign text Wrong n = refl
 
 module _ (text : List ℕ) (w : Word) (h : WordIs (stepIn commands) text 0 w) where
-  command-step : {f : Found ℕ} → onStep (stepOf text w) signOf ≡ f → unnumbered text ≡ orElse f (choose commandCases (λ t. aloneStatement text)) aloneStatement text
+  command-step : {f : Found ℕ} → onStep (foundStep text w) signOf ≡ f → unnumbered text ≡ orElse f (choose commandCases (λ t. aloneStatement text)) aloneStatement text
   command-step e = ap (λ (f : Found ℕ). orElse f (choose commandCases (λ t. aloneStatement text)) aloneStatement text) (ap (λ (s : Step). onStep s signOf) (sym (h .same)) ∙ e)
 
   pub unnumbered-other : (ks : List ℕ) → (OneOf ks 4 → ⊥) → OneOf ks (tagOf the-type w) → unnumbered text ≡ aloneStatement text
@@ -253,7 +253,7 @@ module _ (text : List ℕ) (w : Word) (h : WordIs (stepIn commands) text 0 w) wh
 
   module _ {k : ℕ} {c : Cursor} (e : w ≡ Sign k c) where
     chosen-of : unnumbered text ≡ choose commandCases (λ t. aloneStatement text) k (drop (c .at) text)
-    chosen-of = command-step (ap (λ (q : Word). onStep (stepOf text q) signOf) e)
+    chosen-of = command-step (ap (λ (q : Word). onStep (foundStep text q) signOf) e)
 
     pub unnumbered-command : isCommand k ≡ true → unnumbered text ≡ choose commandCases unread k (drop (c .at) text)
     unnumbered-command b =

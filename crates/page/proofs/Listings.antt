@@ -13,7 +13,7 @@ use Rattle.nibl.specs.Page.{Stored, textAt, lengthAt}
 use Rattle.nibl.specs.Values.{is, no, digitsN, digits}
 use Rattle.nibl.specs.Meaning.{World, withOutput, put}
 use Rattle.nibl.specs.Calls.{listed, listFrom}
-use Rattle.value.specs.Writes.{Writes, fits}
+use Rattle.value.specs.Writes.{Writes, itemFits}
 use Rattle.value.specs.declared.Wrote.{Wrote}
 use Rattle.value.specs.declared.Wrote.the-variants.{To, Full}
 use Rattle.value.proofs.Writing.{sets-append, writes-whole}
@@ -98,7 +98,7 @@ module _ (n : ℕ) (r : Stored) (rs : List Stored) {out after : List ℕ} {at : 
   unfolding listing
   list-on next h =
       by-cases (leb n (r .line))
-      (λ e. by-cases (fits out at (listed r))
+      (λ e. by-cases (itemFits out at (listed r))
       (λ f.
       let w = h .from e in
       let a : is next ≡ is (at + length (listed r)) = w .answer ∙ rw f in
@@ -115,7 +115,7 @@ module _ (n : ℕ) (r : Stored) (rs : List Stored) {out after : List ℕ} {at : 
   unfolding listing
   list-full h =
       by-cases (leb n (r .line))
-      (λ e. by-cases (fits out at (listed r))
+      (λ e. by-cases (itemFits out at (listed r))
       (λ f. let a : no 17 ≡ is (at + length (listed r)) = h .from e .answer ∙ rw f in let z : _≡_ {A = ℕ} 0 1 = cc in absurd (omega arith))
       (λ f. let o : after ≡ out = h .from e .output ∙ rw f in rw (e, f, listing) (ap (λ (l : List ℕ). shown l (lines.Full at)) (sym o))))
       (λ e. let w = h .below e .0 in let z : _≡_ {A = ℕ} 0 1 = cc in absurd (omega arith))
@@ -126,7 +126,7 @@ unfolding listing listFrom put
 list-is n [] w = refl
 list-is n (r ∷ rs) w =
     by-cases (leb n (r .line))
-    (λ e. by-cases (fits (w .output) (w .outpos) (listed r))
+    (λ e. by-cases (itemFits (w .output) (w .outpos) (listed r))
     (λ f. rw (e, f, listing, listFrom) (list-is n rs (withOutput w (sets (w .output) (w .outpos) (listed r)) (w .outpos + length (listed r)))))
     (λ f. rw (e, f, listing, listFrom)))
     (λ e. rw (e, listing, listFrom) (list-is n rs w))

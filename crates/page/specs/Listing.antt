@@ -10,7 +10,7 @@ use Rattle.nibl.specs.Bytes.{if_then_else_}
 use Rattle.nibl.specs.Page.{Stored}
 use Rattle.nibl.specs.Meaning.{World, withOutput, on, stop, Done, done}
 use Rattle.nibl.specs.Calls.{listed}
-use Rattle.value.specs.Writes.{Writes, fits}
+use Rattle.value.specs.Writes.{Writes, itemFits}
 use Rattle.value.specs.declared.Wrote.{Wrote}
 use Rattle.value.specs.declared.Wrote.the-variants.{To}
 use Rattle.page.specs.declared.Listed.{Listed}
@@ -31,7 +31,7 @@ unfoldable pub listing : ℕ → List Stored → List ℕ → ℕ → Shown
 listing n [] out at = shown out (All at)
 listing n (r ∷ rs) out at =
     elim (leb n (r .line)) [
-      | true ↦ elim (fits out at (listed r)) [
+      | true ↦ elim (itemFits out at (listed r)) [
         | true ↦ listing n rs (sets out at (listed r)) (at + length (listed r))
         | false ↦ shown out (Full at)
       ]

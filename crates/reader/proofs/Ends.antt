@@ -17,7 +17,7 @@ use Rattle.word.specs.declared.Cursor.{Cursor}
 use Rattle.word.specs.declared.Word.{Word}
 use Rattle.word.specs.declared.Word.the-variants.{Variable, Decimal, Hex, Text, Sign, End, Wrong}
 use Rattle.word.proofs.Word.{the-type}
-use Rattle.word.specs.Found.{stepOf, WordIs}
+use Rattle.word.specs.Found.{foundStep, WordIs}
 use Rattle.relation.specs.Makes.{nowhere, another}
 use Rattle.relation.specs.declared.Made.{Made}
 use Rattle.relation.specs.declared.Made.the-variants.{Next, NoReading}
@@ -39,7 +39,7 @@ at-colon q s e = rw e
 pub end-none : {text : List ℕ} {r : Made} → r ≡ NoReading → EndsIs text r member.NoReading
 end-none e = rw e halted
 
-no-sign : (text : List ℕ) (w : Word) → OneOf (0 ∷ 1 ∷ 2 ∷ 3 ∷ 6 ∷ []) (tagOf the-type w) → (onStep (stepOf text w) signOf ≡ nothing) × (stepOf text w ≡ atEnd → ⊥)
+no-sign : (text : List ℕ) (w : Word) → OneOf (0 ∷ 1 ∷ 2 ∷ 3 ∷ 6 ∷ []) (tagOf the-type w) → (onStep (foundStep text w) signOf ≡ nothing) × (foundStep text w ≡ atEnd → ⊥)
 no-sign text (Variable v p) k = (refl, λ i. let z : _≡_ {A = ℕ} 0 1 = cc in omega arith)
 no-sign text (Decimal v p) k = (refl, λ i. let z : _≡_ {A = ℕ} 0 1 = cc in omega arith)
 no-sign text (Hex v p) k = (refl, λ i. let z : _≡_ {A = ℕ} 0 1 = cc in omega arith)
@@ -52,7 +52,7 @@ module _ {text : List ℕ} {r : Made} {c : Cursor} {n : ℕ} (e : r ≡ Next c n
   pub end-last : WordIs (stepIn keywords) text (c .at) End → EndsIs text r (member.Member n 0)
   end-last h = rw e (ends {c = c} 0 [] (λ q. rw (all-true (ended-sound keywords (drop (c .at) text) (sym (h .same))))))
 
-  sign-of : (w : Word) → WordIs (stepIn keywords) text (c .at) w → aSign (drop (c .at) text) ≡ onStep (stepOf text w) signOf
+  sign-of : (w : Word) → WordIs (stepIn keywords) text (c .at) w → aSign (drop (c .at) text) ≡ onStep (foundStep text w) signOf
   unfolding aSign
   sign-of w h = ap (λ (s : Step). onStep s signOf) (sym (h .same))
 

@@ -15,7 +15,7 @@ use Rattle.word.specs.declared.Cursor.{Cursor}
 use Rattle.word.specs.declared.Word.{Word as Read}
 use Rattle.word.specs.declared.Word.the-variants as word
 use Rattle.word.proofs.Word.{the-type as word-type}
-use Rattle.word.specs.Found.{firstKeyword, stepOf, WordIs}
+use Rattle.word.specs.Found.{firstKeyword, foundStep, WordIs}
 use Rattle.relation.specs.Makes.{need, Leads, onto, Over, Stood, stood, Absent, stopped, absent, SignIs, nowhere, another}
 use Rattle.relation.specs.declared.Made.{Made}
 use Rattle.relation.specs.declared.Made.the-variants.{Next, NoReading}
@@ -28,7 +28,7 @@ use Rattle.reader.specs.declared.Keyed.the-variants as keyed
 use Rattle.reader.proofs.Kind.{the-type}
 
 -- What `kind_at` answers
-unkind : (text : List ℕ) (w : Read) → OneOf (1 ∷ 2 ∷ 5 ∷ 6 ∷ []) (tagOf word-type w) → Unkind (stepOf text w)
+unkind : (text : List ℕ) (w : Read) → OneOf (1 ∷ 2 ∷ 5 ∷ 6 ∷ []) (tagOf word-type w) → Unkind (foundStep text w)
 unkind text (word.Variable v p) k = absurd (miss (1 ∷ 2 ∷ 5 ∷ 6 ∷ []) 0 tt k)
 unkind text (word.Decimal n p) k = aDecimal
 unkind text (word.Hex n p) k = aHex

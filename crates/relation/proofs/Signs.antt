@@ -21,7 +21,7 @@ use Rattle.word.specs.declared.Cursor.{Cursor}
 use Rattle.word.specs.declared.Word.{Word}
 use Rattle.word.specs.declared.Word.the-variants.{Variable, Decimal, Hex, Text, Sign, End, Wrong}
 use Rattle.word.proofs.Word.{the-type}
-use Rattle.word.specs.Found.{stepOf, WordIs, firstOf, beginning}
+use Rattle.word.specs.Found.{foundStep, WordIs, firstOf, beginning}
 use Rattle.word.proofs.Firsts.{sign-begins}
 use Rattle.codes.specs.Codes.{op, codeConstant, codeVariable, codeOperator}
 use Rattle.codes.specs.Operators.{opNumber, operatorCount}
@@ -45,18 +45,18 @@ stood-over (stood e l h) = over-here l h
 
 -- The word at a cursor
 module _ {text : List ℕ} {r : Made} {c : Cursor} {o : ℕ} (w : Word) (e : r ≡ Next c o) (h : WordIs (stepIn keywords) text (c .at) w) where
-  by-step : {A : Type 0} (k : Token → Reader A) → onStep (stepIn keywords (drop (c .at) text)) k ≡ onStep (stepOf text w) k
+  by-step : {A : Type 0} (k : Token → Reader A) → onStep (stepIn keywords (drop (c .at) text)) k ≡ onStep (foundStep text w) k
   by-step k = ap (λ (s : Step). onStep s k) (sym (h .same))
 
-  sign-step : aSign (drop (c .at) text) ≡ onStep (stepOf text w) signOf
+  sign-step : aSign (drop (c .at) text) ≡ onStep (foundStep text w) signOf
   unfolding aSign
   sign-step = by-step signOf
 
-  factor-step : read factor (drop (c .at) text) ≡ onStep (stepOf text w) (factorOf read)
+  factor-step : read factor (drop (c .at) text) ≡ onStep (foundStep text w) (factorOf read)
   factor-step = read-factor (drop (c .at) text) ∙ by-step (factorOf read)
 
 -- a word of another kind
-no-sign : (text : List ℕ) (w : Word) → OneOf (0 ∷ 1 ∷ 2 ∷ 3 ∷ 5 ∷ 6 ∷ []) (tagOf the-type w) → onStep (stepOf text w) signOf ≡ nothing
+no-sign : (text : List ℕ) (w : Word) → OneOf (0 ∷ 1 ∷ 2 ∷ 3 ∷ 5 ∷ 6 ∷ []) (tagOf the-type w) → onStep (foundStep text w) signOf ≡ nothing
 no-sign text (Variable v p) k = refl
 no-sign text (Decimal n p) k = refl
 no-sign text (Hex n p) k = refl
@@ -65,7 +65,7 @@ no-sign text (Sign n p) k = absurd (miss (0 ∷ 1 ∷ 2 ∷ 3 ∷ 5 ∷ 6 ∷ []
 no-sign text End k = refl
 no-sign text Wrong k = refl
 
-no-factor : (text : List ℕ) (w : Word) → OneOf (3 ∷ 5 ∷ 6 ∷ []) (tagOf the-type w) → onStep (stepOf text w) (factorOf read) ≡ nothing
+no-factor : (text : List ℕ) (w : Word) → OneOf (3 ∷ 5 ∷ 6 ∷ []) (tagOf the-type w) → onStep (foundStep text w) (factorOf read) ≡ nothing
 no-factor text (Variable v p) k = absurd (miss (3 ∷ 5 ∷ 6 ∷ []) 0 tt k)
 no-factor text (Decimal n p) k = absurd (miss (3 ∷ 5 ∷ 6 ∷ []) 1 tt k)
 no-factor text (Hex n p) k = absurd (miss (3 ∷ 5 ∷ 6 ∷ []) 2 tt k)

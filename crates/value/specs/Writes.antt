@@ -16,13 +16,13 @@ abbrev pub wroteOf : Wrote → Value
 wroteOf (To n) = is n
 wroteOf Full = no 17
 
-abbrev pub fits : List ℕ → ℕ → List ℕ → Bool
-fits output at item = leb (at + length item) (length output)
+abbrev pub itemFits : List ℕ → ℕ → List ℕ → Bool
+itemFits output at item = leb (at + length item) (length output)
 
 -- from an output before to an output after, and the answer
 pub record Writes (before : List ℕ) (at : ℕ) (item : List ℕ) (r : Wrote) (after : List ℕ) : Type 0 where
-  pub answer : wroteOf r ≡ (if fits before at item then is (at + length item) else no 17)
-  pub output : after ≡ (if fits before at item then sets before at item else before)
+  pub answer : wroteOf r ≡ (if itemFits before at item then is (at + length item) else no 17)
+  pub output : after ≡ (if itemFits before at item then sets before at item else before)
 
 -- the digits of n end before the last of the bytes and begin at `first`; the last is kept
 pub record DigitsAt (before : List ℕ) (n first : ℕ) (after : List ℕ) : Type 0 where

@@ -11,7 +11,7 @@ use Rattle.nibl.specs.Read.{Step, atEnd, wrong, got}
 use Rattle.word.specs.declared.Cursor.{Cursor}
 use Rattle.word.specs.declared.Word.{Word}
 use Rattle.word.specs.declared.Word.the-variants.{Variable, Decimal, Hex, Text, Sign, End, Wrong}
-use Rattle.word.specs.Found.{stepOf, Behind, WordIs}
+use Rattle.word.specs.Found.{foundStep, Behind, WordIs}
 
 -- at a position stands the word w, and the next cursor moves on and stays within the text
 pub record Read (step : List ℕ → Step) (text : List ℕ) (at : ℕ) (w : Token) (next : Cursor) : Type 0 where
@@ -66,7 +66,7 @@ wordOf n (got w s) = tokenWord n w (length s)
 back : (text : List ℕ) (p : ℕ) → p ≤ length text → p ≡ length text - length (drop p text)
 back text p h = omega (arith, length-drop p text)
 
-stands-for : (text : List ℕ) (at : ℕ) (r : Word) → Behind at (length text) r → r ≡ wordOf (length text) (stepOf text r)
+stands-for : (text : List ℕ) (at : ℕ) (r : Word) → Behind at (length text) r → r ≡ wordOf (length text) (foundStep text r)
 stands-for text at (Variable v c) i = ap (λ (p : ℕ). Variable v (record { at = p })) (back text (c .at) (i .1))
 stands-for text at (Decimal v c) i = ap (λ (p : ℕ). Decimal v (record { at = p })) (back text (c .at) (i .1))
 stands-for text at (Hex v c) i = ap (λ (p : ℕ). Hex v (record { at = p })) (back text (c .at) (i .1))

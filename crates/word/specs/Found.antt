@@ -13,14 +13,14 @@ use Rattle.word.specs.declared.Word.{Word}
 use Rattle.word.specs.declared.Word.the-variants.{Variable, Decimal, Hex, Text, Sign, End, Wrong}
 
 -- a word of the code as a step of the definition
-abbrev pub stepOf : List ℕ → Word → Step
-stepOf text (Variable v c) = got (variable v) (drop (c .at) text)
-stepOf text (Decimal n c) = got (decimal n) (drop (c .at) text)
-stepOf text (Hex n c) = got (hex n) (drop (c .at) text)
-stepOf text (Text from to c) = got (string (slice from to text)) (drop (c .at) text)
-stepOf text (Sign k c) = got (sign k) (drop (c .at) text)
-stepOf text End = atEnd
-stepOf text Wrong = wrong
+abbrev pub foundStep : List ℕ → Word → Step
+foundStep text (Variable v c) = got (variable v) (drop (c .at) text)
+foundStep text (Decimal n c) = got (decimal n) (drop (c .at) text)
+foundStep text (Hex n c) = got (hex n) (drop (c .at) text)
+foundStep text (Text from to c) = got (string (slice from to text)) (drop (c .at) text)
+foundStep text (Sign k c) = got (sign k) (drop (c .at) text)
+foundStep text End = atEnd
+foundStep text Wrong = wrong
 
 -- the largest decimal constant
 abbrev pub largest : ℕ
@@ -38,7 +38,7 @@ Behind at n Wrong = Unit {0}
 
 -- the word r, read at a position of a text, is what the definition's `step` finds there
 pub record WordIs (step : List ℕ → Step) (text : List ℕ) (at : ℕ) (r : Word) : Type 0 where
-  pub same : stepOf text r ≡ step (drop at text)
+  pub same : foundStep text r ≡ step (drop at text)
   pub inside : Behind at (length text) r
 
 -- what the runs consist of, by a class: spaces, capitals, or else what quotes may enclose

@@ -9,7 +9,7 @@ use Rattle.nibl.specs.Values.{Result, is, no}
 use Rattle.nibl.specs.Typing.{Gathered, gather}
 use Rattle.nibl.specs.Meaning.{World, withOutput, withInpos, stop, Done, done}
 use Rattle.letter.specs.Slots.{held}
-use Rattle.value.specs.Writes.{fits}
+use Rattle.value.specs.Writes.{itemFits}
 use Rattle.world.specs.declared.input.Reply.{Reply}
 use Rattle.world.specs.declared.input.Reply.the-variants as reply
 
@@ -39,11 +39,11 @@ heardLine (some g) i o p = hears (if g .line .long then no 6 else is (g .line .b
 
 unfoldable pub hearing : ℕ → List ℕ → ℕ → List ℕ → ℕ → Heard
 hearing lim input i o p =
-    if fits o p (bytes "?") then heardLine (gather lim (drop i input)) i (sets o p (bytes "?")) (p + 1) else hears (no 17) i o p
+    if itemFits o p (bytes "?") then heardLine (gather lim (drop i input)) i (sets o p (bytes "?")) (p + 1) else hears (no 17) i o p
 
 -- the slots afterwards: the line that was gathered and zeros, or as they were where nothing was asked
 unfoldable pub slotsOf : List ℕ → List ℕ → ℕ → List ℕ → ℕ → List ℕ
-slotsOf slots input i o p = if fits o p (bytes "?") then held (length slots) (gather (length slots) (drop i input)) else slots
+slotsOf slots input i o p = if itemFits o p (bytes "?") then held (length slots) (gather (length slots) (drop i input)) else slots
 
 -- in the world: the reply goes on to k
 abbrev pub heardIn : World → Heard → (World → List ℕ → Done) → Done

@@ -95,19 +95,19 @@ forTurn here s vars v first limit step =
     if f .ok then turnedForTo on (f .stack) (set vars v first) else turnedForTo (stop 10) s vars
 
 -- whether a FOR goes on, and the variables then
-pub record Stepping : Type 0 where
+pub record StepTaken : Type 0 where
   pub more : Bool
   pub vars : List ℕ
 
-abbrev pub stepping : Bool → List ℕ → Stepping
-stepping more vars = record { more = more; vars = vars }
+abbrev pub stepTaken : Bool → List ℕ → StepTaken
+stepTaken more vars = record { more = more; vars = vars }
 
 -- the step added to the variable
-unfoldable pub addsStep : List ℕ → ℕ → ForEntry → Stepping
-addsStep vars v f = let x = add16 (getD vars v 0) (f .step) in stepping (goesOn (f .step) x (f .limit)) (set vars v x)
+unfoldable pub addsStep : List ℕ → ℕ → ForEntry → StepTaken
+addsStep vars v f = let x = add16 (getD vars v 0) (f .step) in stepTaken (goesOn (f .step) x (f .limit)) (set vars v x)
 
 -- back to the FOR's place, or on without its entry
-unfoldable pub steppedOn : ForStack → ForEntry → Stepping → TurnedFor
+unfoldable pub steppedOn : ForStack → ForEntry → StepTaken → TurnedFor
 steppedOn s f c = if c .more then turnedForTo (go (suc (f .place .0))) s (c .vars) else turnedForTo on (popFor s .stack) (c .vars)
 
 -- NEXT by what is on top
@@ -134,7 +134,7 @@ abbrev pub backed : Back → List ℕ → Backed
 backed b vars = backedTo (backOf b) vars
 
 -- by the count: a NEXT that does not go back is not done
-unfoldable pub backBy : List ℕ → ForEntry → Stepping → Backed
+unfoldable pub backBy : List ℕ → ForEntry → StepTaken → Backed
 backBy vars f c = if c .more then backedTo (some (f .place .0)) (c .vars) else backedTo none vars
 
 unfoldable pub backOn : List ℕ → ℕ → TopFor → Backed

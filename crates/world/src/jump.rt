@@ -6,7 +6,7 @@ ghost use lib.ListN.{getD, set};
 ghost use Rattle.nibl.specs.Page.{find};
 ghost use Rattle.nibl.specs.Meaning.{go, goesOn};
 ghost use Rattle.page.specs.Walk.{reached};
-ghost use Rattle.world.specs.Turns.{wayOf, turned, turnedFor, stepping, wayTo, keepTurn, gosubTurn, returnTurn, doTurn, untilTurn, forTurn, addsStep, nextTurn, backOf, backed, nextBack, untilBack};
+ghost use Rattle.world.specs.Turns.{wayOf, turned, turnedFor, stepTaken, wayTo, keepTurn, gosubTurn, returnTurn, doTurn, untilTurn, forTurn, addsStep, nextTurn, backOf, backed, nextBack, untilBack};
 use nibl::ForEntry;
 use nibl::ForStack;
 use nibl::LineNumber;
@@ -215,7 +215,7 @@ fn goes_on(step: u16, x: u16, limit: u16) -> bool
 
 // The variable gets the step added; whether its FOR then goes on.
 fn add_step(vars: &mut [u16], v: u8, entry: ForEntry) -> bool
-    ensures { λ r. ⌜ stepping r (now (vars .exit)) ≡ addsStep (now (vars .entry)) v entry ⌝ }
+    ensures { λ r. ⌜ stepTaken r (now (vars .exit)) ≡ addsStep (now (vars .entry)) v entry ⌝ }
 {
     let old = var_of(vars, v as u32);
     let x = value::add(old, entry.step);

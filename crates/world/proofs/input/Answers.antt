@@ -11,7 +11,7 @@ use Rattle.nibl.specs.Bytes.{if_then_else_, bytes}
 use Rattle.nibl.specs.Values.{is, no}
 use Rattle.nibl.specs.Typing.{Gathered, gather}
 use Rattle.nibl.specs.Meaning.{Env, World, withOutput, withInpos, Done, done, on, stop, went, put, gathered, asked}
-use Rattle.value.specs.Writes.{Writes, fits}
+use Rattle.value.specs.Writes.{Writes, itemFits}
 use Rattle.value.specs.declared.Wrote.the-variants.{To, Full}
 use Rattle.letter.specs.Slots.{held}
 use Rattle.letter.proofs.Told.{GotLong, GotLine}
@@ -21,22 +21,22 @@ use Rattle.world.specs.Hearing.{hears, heardLine, hearing, slotsOf, hear
 
 -- an item that was written fits, and one that was not does not: for every caller of `write_item`
 pub record Out (o : List ℕ) (p : ℕ) (item : List ℕ) (next : ℕ) (o' : List ℕ) : Type 0 where
-  pub room : fits o p item ≡ true
+  pub room : itemFits o p item ≡ true
   pub moved : next ≡ p + length item
   pub output : o' ≡ sets o p item
 
 module _ {o o' item : List ℕ} {p : ℕ} where
   pub out : {next : ℕ} → Writes o p item (To next) o' → Out o p item next o'
-  out {next} w = go (fits o p item) refl (w .answer) (w .output)
+  out {next} w = go (itemFits o p item) refl (w .answer) (w .output)
     where
-      go : (t : Bool) → fits o p item ≡ t → is next ≡ (if t then is (p + length item) else no 17) → o' ≡ (if t then sets o p item else o) → Out o p item next o'
+      go : (t : Bool) → itemFits o p item ≡ t → is next ≡ (if t then is (p + length item) else no 17) → o' ≡ (if t then sets o p item else o) → Out o p item next o'
       go true f a e = record { room = f; moved = cc; output = e }
       go false f a e = let z : _≡_ {A = ℕ} 0 1 = cc in absurd (omega arith)
 
-  pub not-out : Writes o p item Full o' → (fits o p item ≡ false) × (o' ≡ o)
-  not-out w = go (fits o p item) refl (w .answer) (w .output)
+  pub not-out : Writes o p item Full o' → (itemFits o p item ≡ false) × (o' ≡ o)
+  not-out w = go (itemFits o p item) refl (w .answer) (w .output)
     where
-      go : (t : Bool) → fits o p item ≡ t → no 17 ≡ (if t then is (p + length item) else no 17) → o' ≡ (if t then sets o p item else o) → (fits o p item ≡ false) × (o' ≡ o)
+      go : (t : Bool) → itemFits o p item ≡ t → no 17 ≡ (if t then is (p + length item) else no 17) → o' ≡ (if t then sets o p item else o) → (itemFits o p item ≡ false) × (o' ≡ o)
       go true f a e = let z : _≡_ {A = ℕ} 0 1 = cc in absurd (omega arith)
       go false f a e = (f, e)
 
@@ -93,7 +93,7 @@ line-in w (some g) k = go (g .line .long)
 -- INPUT asks as the definition says
 pub heard-in : (e : Env) (w : World) (k : World → List ℕ → Done) → asked e w k ≡ heardIn w (hearing (e .lim) (e .input) (w .inpos) (w .output) (w .outpos)) k
 unfolding asked put hearing
-heard-in e w k = go (fits (w .output) (w .outpos) (bytes "?"))
+heard-in e w k = go (itemFits (w .output) (w .outpos) (bytes "?"))
   where
     there : List ℕ
     there = sets (w .output) (w .outpos) (bytes "?")
