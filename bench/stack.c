@@ -120,6 +120,14 @@ int main(void) {
     fill();
     typed("RUN\r", NIBL_BUDGET_MOST);
     show("a line typed on a full page, all stacks full", typed("A=1\r", NIBL_BUDGET_MOST));
+    puts("lines as long as they can be, without a bracket, an \"@\" or a NOT:");
+    start();
+    show("PRINT of 34 variables", repeated("PR A", ",A", "", "", 33));
+    show("PRINT of 23 empty strings", repeated("PR \"\"", ",\"\"", "", "", 22));
+    show("17 IFs", repeated("", "IF1 ", "A=1", "", 17));
+    store("10 INPUT A,B,C,D,E,F,G,H,I,J,K,L,M,N,O,P,Q,R,S,T,U,V,W,X,Y,Z,A,B,C,D\r");
+    show("INPUT of 30 variables",
+         typed("RUN\r1,2,3,4,5,6,7,8,9,0,1,2,3,4,5,6,7,8,9,0,1,2,3,4,5,6,7,8,9,0\r", NIBL_BUDGET_MOST));
     puts("each more of these in a line:");
     start();
     each("item of PRINT", "PR A", ",A", "", "");
