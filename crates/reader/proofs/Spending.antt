@@ -1,4 +1,4 @@
--- Readers that may write more operations than they read bytes: one after another, at a sign, and the room that they need. Assumes nothing.
+-- Readers that may write more operations than they read bytes: one after another, at a sign, in a loop, and the room that they need. Assumes nothing.
 use Prim.Native.Nat.{ℕ, suc, _+_, _-_, _≤_, _<_}
 use Prim.Native.String.{String}
 use mathlib.Core.Path.{_≡_, refl, ap, subst, _∙_}
@@ -216,3 +216,15 @@ module _ {text : List ℕ} where
 
   pub room-write : {ops : List ℕ} {r : Made} {n : ℕ} → Room (suc n) text ops r → filled r ≤ length ops
   room-write {r} {n} a = omega (arith, filled-need text r, need-mono text r (1) (suc n) (omega arith))
+
+-- The loops
+module _ {A : Type 0} (n : ℕ) (F : Reader A) (code : A → List ℕ) (text ops₀ : List ℕ) (r₀ : Made) where
+  -- a loop has come from r₀ to r: what F reads from r on, and the operations of that, make what it reads from r₀ on
+  pub record Proceeds (ops : List ℕ) (r : Made) : Type 0 where
+    pub room : Room n text ops r
+    pub on : (ops' : List ℕ) (s : Made) → Spends n (only F) bare code text ops r ops' s → Spends n (only F) bare code text ops₀ r₀ ops' s
+    pub size : length ops ≡ length ops₀
+
+pub proceeds-none : {A : Type 0} {F : Reader A} {code : A → List ℕ} {text ops : List ℕ} {r : Made} {n : ℕ} → Room n text ops r
+    → Proceeds n F code text ops r ops r
+proceeds-none h = record { room = h; on = λ ops' s y. y; size = refl }

@@ -35,7 +35,7 @@ use Rattle.reader.specs.declared.Front.the-variants as front
 use Rattle.reader.specs.declared.Kind.{Kind}
 use Rattle.reader.specs.declared.Kind.the-variants as kind
 use Rattle.reader.proofs.Kind.{the-type}
-use Rattle.reader.proofs.Spending.{need-mono, after, then-on, renamed, added, spent, looser, same-as, led-by, led-here, led-over, failed, missing, past-key, if-past, if-not, if-may, all-put, puts-few, puts-none, puts-then, written-puts}
+use Rattle.reader.proofs.Spending.{need-mono, after, then-on, renamed, added, spent, looser, same-as, led-by, led-here, led-over, failed, missing, past-key, if-past, if-not, if-may, all-put, puts-few, puts-none, puts-then, written-puts, room-low, room-spent, room-reads, room-over, room-may, may-low, room-written, Proceeds}
 use Rattle.reader.proofs.Heads.{heads-over, heads-leads, heads-absent, headless-absent, heads-string, heads-sign, heads-size, heads-long, stood-unless}
 
 -- Readers
@@ -241,35 +241,46 @@ module _ {text : List ℕ} where
   module _ {A : Type 0} {one : Reader A} {code : A → List ℕ} {codes : List A → List ℕ}
       (law : (s : List ℕ) → joined one s ≡ (one >>= (λ a. ifKey "," (joined one >>= (λ as′. give (a ∷ as′))) (give (a ∷ [])))) s)
       (each : (a : A) (as′ : List A) → codes (a ∷ as′) ≡ code a ++ codes as′) (none : codes [] ≡ []) where
-    pub joined-more : {ops ops1 ops2 : List ℕ} {r a m s : Made} {n : ℕ} → n ≤ 1 → Spends n (only one) bare code text ops r ops1 a → Stood aSign (number ",") text a m
+    joined-more : {ops ops1 ops2 : List ℕ} {r a m s : Made} {n : ℕ} → n ≤ 1 → Spends n (only one) bare code text ops r ops1 a → Stood aSign (number ",") text a m
         → Spends n (only (joined one)) bare codes text ops1 m ops2 s → Spends n (only (joined one)) bare codes text ops r ops2 s
     joined-more {n} h y k z =
         same-as (λ x s. law s) (then-on {j = 0} (omega arith) y (if-past "," (λ a. give (a ∷ [])) (omega arith) k (renamed (λ a as′. a ∷ as′) each z)))
 
-    pub joined-last : {ops ops1 : List ℕ} {r a : Made} {n : ℕ} → Spends n (only one) bare code text ops r ops1 a → Unless (number ",") text a
+    joined-last : {ops ops1 : List ℕ} {r a : Made} {n : ℕ} → Spends n (only one) bare code text ops r ops1 a → Unless (number ",") text a
         → Spends n (only (joined one)) bare codes text ops r ops1 a
     joined-last {a} y k =
         same-as (λ x s. law s) (then-on {j = 0} (omega arith) y
         (if-not "," (λ a. joined one >>= (λ as′. give (a ∷ as′))) k (all-put (λ a. a ∷ []) (λ a. each a [] ∙ ap (λ l. code a ++ l) none) (puts-none a))))
 
-  module _ {ops ops1 ops2 : List ℕ} {r a m s : Made} where
-    pub items-more : Spends 1 (only anItem) bare itemCode text ops r ops1 a → Stood aSign (number ",") text a m → Spends 1 (only (joined anItem)) bare itemsCode text ops1 m ops2 s
-        → Spends 1 (only (joined anItem)) bare itemsCode text ops r ops2 s
-    unfolding itemsCode
-    items-more y k z = joined-more (joined-eq items-join) (λ i is. refl) refl (omega arith) y k z
+    -- a loop that reads one after another
+    module _ {ops₀ ops ops1 : List ℕ} {r₀ r a : Made} {n : ℕ} (p : Proceeds n (joined one) codes text ops₀ r₀ ops r) (y : Spends n (only one) bare code text ops r ops1 a) where
+      joined-on : {m : Made} → n ≤ 1 → Stood aSign (number ",") text a m → length ops1 ≡ length ops → Proceeds n (joined one) codes text ops₀ r₀ ops1 m
+      joined-on h k e =
+          record {
+            room = room-low (omega arith) (room-over (room-spent {j = 0} (omega arith) (p .room) y e) (stood-over k));
+            on = λ ops2 s z. p .on ops2 s (joined-more h y k z);
+            size = e ∙ p .size;
+          }
 
-    pub variables-more : Spends 0 (only aVariable) bare (λ v. op codeInputVariable v ∷ []) text ops r ops1 a → Stood aSign (number ",") text a m
-        → Spends 0 (only (joined aVariable)) bare (texts codeInputVariable) text ops1 m ops2 s → Spends 0 (only (joined aVariable)) bare (texts codeInputVariable) text ops r ops2 s
-    variables-more y k z = joined-more (joined-eq variables-join) (λ v vs. refl) refl (omega arith) y k z
+      joined-end : Unless (number ",") text a → Spends n (only (joined one)) bare codes text ops₀ r₀ ops1 a
+      joined-end k = p .on ops1 a (joined-last y k)
 
-  module _ {ops ops1 : List ℕ} {r a : Made} where
-    pub items-last : Spends 1 (only anItem) bare itemCode text ops r ops1 a → Unless (number ",") text a → Spends 1 (only (joined anItem)) bare itemsCode text ops r ops1 a
-    unfolding itemsCode
-    items-last y k = joined-last (joined-eq items-join) (λ i is. refl) refl y k
+  module _ {ops₀ ops ops1 : List ℕ} {r₀ r a : Made} where
+    module _ (p : Proceeds 1 (joined anItem) itemsCode text ops₀ r₀ ops r) (y : Spends 1 (only anItem) bare itemCode text ops r ops1 a) where
+      pub items-on : {m : Made} → Stood aSign (number ",") text a m → length ops1 ≡ length ops → Proceeds 1 (joined anItem) itemsCode text ops₀ r₀ ops1 m
+      unfolding itemsCode
+      items-on k e = joined-on (joined-eq items-join) (λ i is. refl) refl p y (omega arith) k e
 
-    pub variables-last : Spends 0 (only aVariable) bare (λ v. op codeInputVariable v ∷ []) text ops r ops1 a → Unless (number ",") text a
-        → Spends 0 (only (joined aVariable)) bare (texts codeInputVariable) text ops r ops1 a
-    variables-last y k = joined-last (joined-eq variables-join) (λ v vs. refl) refl y k
+      pub items-end : Unless (number ",") text a → Spends 1 (only (joined anItem)) bare itemsCode text ops₀ r₀ ops1 a
+      unfolding itemsCode
+      items-end k = joined-end (joined-eq items-join) (λ i is. refl) refl p y k
+
+    module _ (p : Proceeds 0 (joined aVariable) (texts codeInputVariable) text ops₀ r₀ ops r) (y : Spends 0 (only aVariable) bare (λ v. op codeInputVariable v ∷ []) text ops r ops1 a) where
+      pub variables-on : {m : Made} → Stood aSign (number ",") text a m → length ops1 ≡ length ops → Proceeds 0 (joined aVariable) (texts codeInputVariable) text ops₀ r₀ ops1 m
+      variables-on k e = joined-on (joined-eq variables-join) (λ v vs. refl) refl p y (omega arith) k e
+
+      pub variables-end : Unless (number ",") text a → Spends 0 (only (joined aVariable)) bare (texts codeInputVariable) text ops₀ r₀ ops1 a
+      variables-end k = joined-end (joined-eq variables-join) (λ v vs. refl) refl p y k
 
   pub end-semicolon : {ops : List ℕ} {r s : Made} → Stood aSign (number ";") text r s → Spends 1 ending itemsCode compile text ops r ops s
   unfolding compile
@@ -558,7 +569,20 @@ iffed {text} {r} {i} w y =
       gives = iffed-gives w (y .gives);
     }
 
-pub by-if : {text ops ops1 ops2 ops3 : List ℕ} {r m a t i s : Made} → FrontIs text r (front.If m) → Makes (read relation) values text ops m ops1 a → MayIs (number "THEN") text a t
+by-if : {text ops ops1 ops2 ops3 : List ℕ} {r m a t i s : Made} → FrontIs text r (front.If m) → Makes (read relation) values text ops m ops1 a → MayIs (number "THEN") text a t
     → Written (op codeIf 0) ops1 t ops2 i → Spends 0 (only statement) bare compile text ops2 i ops3 s → Spends 0 (only statement) bare compile text ops r ops3 s
 by-if (when l o) x k w y =
     led-over (omega arith) o l (then-on {i = 0} {j = 1} {n = 1} (omega arith) (spent x) (if-may "THEN" k (iffed w y)))
+
+-- a loop that reads an IF, up to its operation, and goes on with the statement behind it
+module _ {text ops ops1 : List ℕ} {r m a t : Made} (f : FrontIs text r (front.If m)) (x : Makes (read relation) values text ops m ops1 a) (k : MayIs (number "THEN") text a t) where
+  pub if-room : Room 0 text ops r → length ops1 ≡ length ops → Room 1 text ops1 t
+  if-room h e = room-may (room-reads (room-over h (if-over f)) x e) k
+
+  module _ {ops2 : List ℕ} {i : Made} (w : Written (op codeIf 0) ops1 t ops2 i) where
+    pub if-falls : ahead text i < ahead text r
+    if-falls = omega (arith, written-ahead w text, may-low k, x .low, if-over f .low)
+
+    pub if-on : {ops₀ : List ℕ} {r₀ : Made} → Proceeds 0 statement compile text ops₀ r₀ ops r → length ops1 ≡ length ops → length ops2 ≡ length ops1
+        → Proceeds 0 statement compile text ops₀ r₀ ops2 i
+    if-on p e g = record { room = room-written (if-room (p .room) e) w g; on = λ ops3 s y. p .on ops3 s (by-if f x k w y); size = g ∙ e ∙ p .size }

@@ -295,16 +295,19 @@ fn item(text: &[u8], r: Made, ops: &mut [u32]) -> Made
     }
 }
 
-// Items joined by commas.
+// Items joined by commas, in a loop, so that many of them take no more stack than one.
 fn items(text: &[u8], r: Made, ops: &mut [u32]) -> Made
     requires { ⌜ Room 1 (now text) (now ops) r ⌝ }
     ensures { λ s. ⌜ Spends 1 (only (joined anItem)) bare itemsCode (now (text .entry)) (now (ops .entry)) r (now (ops .exit)) s ⌝ }
 {
-    let a = item(text, r, ops);
-    let n = next_is(text, a, sign::COMMA);
-    match n {
-        Keyed::Past(m) => items(text, m, ops),
-        Keyed::Not => a,
+    let mut s = r;
+    loop {
+        let a = item(text, s, ops);
+        let n = next_is(text, a, sign::COMMA);
+        let Keyed::Past(m) = n else {
+            return a;
+        };
+        s = m;
     }
 }
 
@@ -358,16 +361,19 @@ fn for_to(text: &[u8], r: Made, ops: &mut [u32]) -> Made
     relation::write(ops, s, codes::operation(codes::FOR, wide(v)))
 }
 
-// Variables joined by commas, each with the operation that gives it a value.
+// Variables joined by commas, each with the operation that gives it a value; in a loop, like items.
 fn variables(text: &[u8], r: Made, ops: &mut [u32]) -> Made
     requires { ⌜ Room 0 (now text) (now ops) r ⌝ }
     ensures { λ s. ⌜ Spends 0 (only (joined aVariable)) bare (texts codeInputVariable) (now (text .entry)) (now (ops .entry)) r (now (ops .exit)) s ⌝ }
 {
-    let v = with_variable(text, r, ops, codes::INPUT_VARIABLE);
-    let n = next_is(text, v, sign::COMMA);
-    match n {
-        Keyed::Past(m) => variables(text, m, ops),
-        Keyed::Not => v,
+    let mut s = r;
+    loop {
+        let v = with_variable(text, s, ops, codes::INPUT_VARIABLE);
+        let n = next_is(text, v, sign::COMMA);
+        let Keyed::Past(m) = n else {
+            return v;
+        };
+        s = m;
     }
 }
 
@@ -482,23 +488,33 @@ fn front_at(text: &[u8], r: Made) -> Front
     }
 }
 
-// A statement. IF reads its relation and goes on with the statement behind it.
+// A statement. IF reads its relation and goes on with the statement behind it, in a loop like items.
 fn read_statement(text: &[u8], r: Made, ops: &mut [u32]) -> Made
     requires { ⌜ Room 0 (now text) (now ops) r ⌝ }
     ensures { λ s. ⌜ Spends 0 (only statement) bare compile (now (text .entry)) (now (ops .entry)) r (now (ops .exit)) s ⌝ }
 {
-    let f = front_at(text, r);
-    match f {
-        Front::Assigns(v, m) => assigned(text, m, ops, v),
-        Front::Symbol(k, m) => let_form(text, m, ops, k),
-        Front::If(m) => {
-            let a = relation::read_relation(text, m, ops);
-            let t = past_any(text, a, sign::THEN);
-            let i = relation::write(ops, t, codes::IF);
-            read_statement(text, i, ops)
+    let mut s = r;
+    loop {
+        let f = front_at(text, s);
+        match f {
+            Front::Assigns(v, m) => {
+                return assigned(text, m, ops, v);
+            }
+            Front::Symbol(k, m) => {
+                return let_form(text, m, ops, k);
+            }
+            Front::If(m) => {
+                let a = relation::read_relation(text, m, ops);
+                let t = past_any(text, a, sign::THEN);
+                s = relation::write(ops, t, codes::IF);
+            }
+            Front::Keyword(k, m) => {
+                return form(text, m, ops, k);
+            }
+            Front::Other => {
+                return Made::NoReading;
+            }
         }
-        Front::Keyword(k, m) => form(text, m, ops, k),
-        Front::Other => Made::NoReading,
     }
 }
 
