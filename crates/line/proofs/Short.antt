@@ -7,7 +7,7 @@ use native.Mathlib.Omega.{arith}
 use borrow.Author.Tests.{leb-true}
 use lib.ListN.{length, length-append, length-map}
 use lib.Dec.{leb}
-use Rattle.nibl.specs.Words.{Token, string, sign, Word, spaced, letter, letters, decimalDigits, hexDigits, quoted, pair, symbol}
+use Rattle.nibl.specs.Words.{Token, string, sign, Word, spaced, letter, letters, decimalDigits, hexDigits, quoted, pair, symbol, firstKeyword}
 use Rattle.nibl.specs.Grammar.{Joints, Joint, joint, Factor, aVariable, aConstant, aHex, aStat, aTop, inBrackets, aByte, aNot, aMod, Term, aFactor, factors, Sum, aTerm, lessTerm, terms, Relation, aSum, related}
 use Rattle.nibl.specs.Grammar.{Either, whole, parted, PrintWord, shortPrint, longPrint, AnItem, aString, aStored, aValue, Items, oneItem, moreItems, LastSemicolon, noSemicolon, aSemicolon, AStep, noStep, someStep, Variables, oneVariable, moreVariables}
 use Rattle.nibl.specs.Grammar.{Statement, aLetVar, aLetStat, aLetByte, aLetText, aLetCopy, aGoto, aGosub, aReturn, aPrint, anIf, aDo, anUntil, aFor, aNext, anInput, anInputText, aRemark, anEnd}
@@ -19,7 +19,6 @@ use Rattle.nibl.proofs.Rules.{W, it, ok-found}
 use Rattle.nibl.proofs.Sound.{may-out}
 use Rattle.nibl.proofs.Lines.{AMember, atEnd, atColon, member-same}
 use Rattle.relation.specs.Code.{values}
-use Rattle.word.specs.Found.{firstKeyword}
 use Rattle.codes.specs.Codes.{op, codeByte, codeCopyString, codeFor, codeGosub, codeGoto, codeIf, codeInputString, codeInputVariable, codeMod, codeNegate, codeNot, codeOperator, codePrintByte, codePrintNumber, codePrintString, codeSetByte, codeSetStat, codeSetVariable, codeStoreString, codeStringByte, codeUntil}
 use Rattle.codes.specs.Operators.{opNumber}
 use Rattle.reader.specs.Code.{texts, itemCode, itemsCode, endCode, compile}

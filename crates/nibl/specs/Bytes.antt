@@ -24,6 +24,16 @@ abbrev pub byte : String → ℕ
 byte nil = 0
 byte (c ⊲ s) = code c
 
+-- the bytes that no character is written for here
+abbrev pub byteCR : ℕ
+byteCR = 13
+
+abbrev pub byteLF : ℕ
+byteLF = 10
+
+abbrev pub byteQuote : ℕ
+byteQuote = 34
+
 abbrev pub same : List ℕ → List ℕ → Bool
 same [] [] = true
 same [] (y ∷ ys) = false
@@ -31,7 +41,7 @@ same (x ∷ xs) [] = false
 same (x ∷ xs) (y ∷ ys) = eqb x y && same xs ys
 
 abbrev pub isSpace : ℕ → Bool
-isSpace b = eqb b 32
+isSpace b = eqb b (byte " ")
 
 abbrev pub isDigit : ℕ → Bool
 isDigit b = leb 48 b && leb b 57
@@ -49,10 +59,10 @@ isText b = leb 32 b && leb b 126 && not (eqb b 95)
 
 -- "any text bytes but a quote"
 abbrev pub isQuotable : ℕ → Bool
-isQuotable b = isText b && not (eqb b 34)
+isQuotable b = isText b && not (eqb b byteQuote)
 
 abbrev pub notCR : ℕ → Bool
-notCR b = not (eqb b 13)
+notCR b = not (eqb b byteCR)
 
 -- the classes of a byte, by number: "dropped, CR, erase, discard, space, digit, capital, quote, other"
 abbrev pub classDropped : ℕ
@@ -85,13 +95,13 @@ classOther = 8
 abbrev pub classOf : ℕ → ℕ
 classOf b =
     if eqb b 0 || eqb b 10 then classDropped
-    else if eqb b 13 then classCR
+    else if eqb b byteCR then classCR
     else if eqb b 95 then classErase
     else if eqb b 21 then classDiscard
     else if isSpace b then classSpace
     else if isDigit b then classDigit
     else if isCapital b then classCapital
-    else if eqb b 34 then classQuote
+    else if eqb b byteQuote then classQuote
     else classOther
 
 -- every byte passes
@@ -120,8 +130,8 @@ all p (b ∷ s) = p b && all p s
 -- the value of digits that follow the value n
 abbrev pub decimalValue : ℕ → List ℕ → ℕ
 decimalValue n [] = n
-decimalValue n (d ∷ ds) = decimalValue (n * 10 + (d - 48)) ds
+decimalValue n (d ∷ ds) = decimalValue (n * 10 + (d - byte "0")) ds
 
 abbrev pub hexValue : ℕ → List ℕ → ℕ
 hexValue n [] = n
-hexValue n (d ∷ ds) = hexValue (n * 16 + (if isDigit d then d - 48 else d - 55)) ds
+hexValue n (d ∷ ds) = hexValue (n * 16 + (if isDigit d then d - byte "0" else d - byte "A" + 10)) ds

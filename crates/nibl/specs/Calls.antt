@@ -5,7 +5,7 @@ use mathlib.Core.List.{List, [], _∷_, _++_}
 use mathlib.Core.Option.{Option, none, some}
 use lib.ListN.{length, getD, drop}
 use lib.Dec.{leb, eqb}
-use Rattle.nibl.specs.Bytes.{if_then_else_, notCR, front}
+use Rattle.nibl.specs.Bytes.{if_then_else_, notCR, front, byte, byteCR, byteLF}
 use Rattle.nibl.specs.Tree.{Stmt, letVar, letStat, letByte, letCopy, letText, goto, gosub, until, return, doLoop, remark, end, print, ifThen, for, next, input, inputText}
 use Rattle.nibl.specs.Tree.{Member, Typed, blank, new, clear, run, delete, list, store, immediate}
 use Rattle.nibl.specs.Read.{Found, nothing, found, member, typed}
@@ -72,7 +72,7 @@ stepped l r = record { stop = r .stop; lines = l ∷ r .lines; at = r .at; world
 -- end mark), or at the page's start, with no byte before it.
 unfoldable pub textFrom : List ℕ → ℕ → Option ℕ
 textFrom page q =
-    if leb 1 q && eqb (getD page (q - 1) 0) 58 then some q
+    if leb 1 q && eqb (getD page (q - 1) 0) (byte ":") then some q
     else if isEnd (drop q page) then none
     else some (q + 3)
 
@@ -183,7 +183,7 @@ edited page w rs =
 
 -- "digits without leading zeros, text, CR, LF"
 abbrev pub listed : Stored → List ℕ
-listed r = digits (r .line) ++ (r .text ++ (13 ∷ 10 ∷ []))
+listed r = digits (r .line) ++ (r .text ++ (byteCR ∷ byteLF ∷ []))
 
 unfoldable pub listFrom : ℕ → List Stored → World → Done
 listFrom n [] w = done on w

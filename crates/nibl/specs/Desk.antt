@@ -3,7 +3,7 @@ use Prim.Native.Nat.{ℕ}
 use Prim.Native.String.{String}
 use mathlib.Core.List.{List, [], _∷_, _++_}
 use lib.ListN.{take, getD, replicate}
-use Rattle.nibl.specs.Bytes.{bytes}
+use Rattle.nibl.specs.Bytes.{bytes, byteCR}
 use Rattle.nibl.specs.Page.{used}
 use Rattle.nibl.specs.Record.{fresh}
 use Rattle.nibl.specs.Calls.{Lent, Outcome, lentAll, takeLine}
@@ -25,7 +25,7 @@ pub record Row : Type 0 where
 -- one line typed, with a fresh output
 abbrev pub lentFor : Session → List ℕ → List ℕ → String → Lent
 lentFor s page mem l =
-    lentAll s page mem (bytes l ++ (13 ∷ [])) (replicate 100 0) (record { inpos = 0; outpos = 0; sense = 0; budget = 10000 })
+    lentAll s page mem (bytes l ++ (byteCR ∷ [])) (replicate 100 0) (record { inpos = 0; outpos = 0; sense = 0; budget = 10000 })
 
 abbrev pub look : Outcome → Seen
 look o =

@@ -6,7 +6,7 @@ use mathlib.Core.Option.{Option, none, some}
 use lib.ListN.{length, getD, drop}
 use lib.Seq.{sets}
 use lib.Dec.{ltb, leb, eqb}
-use Rattle.nibl.specs.Bytes.{if_then_else_, bytes, notCR, front, all}
+use Rattle.nibl.specs.Bytes.{if_then_else_, bytes, notCR, front, all, byteCR, byteLF}
 use Rattle.nibl.specs.Tree.{Expr, var, const, stat, top, byteAt, invert, negate, modulo, two}
 use Rattle.nibl.specs.Tree.{Item, text, stored, value}
 use Rattle.nibl.specs.Tree.{Stmt, letVar, letStat, letByte, letCopy, letText, goto, gosub, until, return, doLoop, remark, end, print, ifThen, for, next, input, inputText}
@@ -124,7 +124,7 @@ putItems e (i ∷ is′) w = went (putItem e i w) (putItems e is′)
 -- "PRINT ends with CR LF unless ';'"
 abbrev pub putEnd : Bool → World → Done
 putEnd true w = done on w
-putEnd false w = put (13 ∷ 10 ∷ []) w
+putEnd false w = put (byteCR ∷ byteLF ∷ []) w
 
 -- a store into memory
 unfoldable pub keepIn : World → Result (List ℕ) → Done
@@ -203,8 +203,8 @@ exec e (letVar v a) w = given (eval e w a) w (λ x. done on (withSession w (with
 exec e (letStat a) w = given (eval e w a) w (λ x. done on (withSession w (withFlags (w .session) (x % 8))))
 exec e (letByte a b) w = given (eval e w a) w (λ p. given (eval e w b) w (λ x. keepIn w (storeAt (w .memory) p (x % 256 ∷ []))))
 exec e (letCopy a b) w =
-    given (eval e w a) w (λ p. given (eval e w b) w (λ q. keepIn w (bind (stringAt (w .memory) q) (λ bs. storeAt (w .memory) p (bs ++ (13 ∷ []))))))
-exec e (letText a bs) w = given (eval e w a) w (λ p. keepIn w (storeAt (w .memory) p (bs ++ (13 ∷ []))))
+    given (eval e w a) w (λ p. given (eval e w b) w (λ q. keepIn w (bind (stringAt (w .memory) q) (λ bs. storeAt (w .memory) p (bs ++ (byteCR ∷ []))))))
+exec e (letText a bs) w = given (eval e w a) w (λ p. keepIn w (storeAt (w .memory) p (bs ++ (byteCR ∷ []))))
 exec e (goto a) w = given (bind (eval e w a) (λ n. lineThere (find (e .page) n))) w (λ q. done (go q) w)
 exec e (gosub a) w = given (bind (eval e w a) (λ n. lineThere (find (e .page) n))) w (gosubTo e w)
 exec e (until a) w = given (eval e w a) w (λ x. untilBy w x (popOf (w .session .dos) .top))
@@ -217,4 +217,4 @@ exec e (ifThen a q) w = given (eval e w a) w (λ x. elim (eqb x 0) [ true ↦ do
 exec e (for v a b c) w = given (eval e w a) w (λ x. given (eval e w b) w (λ y. given (eval e w c) w (λ z. forHere e w v x y z)))
 exec e (next v) w = nextBy w v (popFor (w .session .fors) .top)
 exec e (input vs) w = asked e w (λ u bs. assignReply e vs u (replied (length vs) bs))
-exec e (inputText a) w = given (eval e w a) w (λ p. asked e w (λ u bs. keepIn u (storeAt (u .memory) p (bs ++ (13 ∷ [])))))
+exec e (inputText a) w = given (eval e w a) w (λ p. asked e w (λ u bs. keepIn u (storeAt (u .memory) p (bs ++ (byteCR ∷ [])))))

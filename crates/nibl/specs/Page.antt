@@ -5,7 +5,7 @@ use mathlib.Core.List.{List, [], _∷_, _++_}
 use mathlib.Core.Option.{Option, none, some}
 use lib.ListN.{length, getD, take, drop}
 use lib.Dec.{ltb, leb, eqb}
-use Rattle.nibl.specs.Bytes.{if_then_else_, isDigit, starts, all}
+use Rattle.nibl.specs.Bytes.{if_then_else_, isDigit, starts, all, byteCR}
 use Rattle.nibl.specs.Tree.{Member}
 use Rattle.nibl.specs.Read.{reading}
 use Rattle.nibl.specs.Values.{digits}
@@ -21,7 +21,7 @@ pub record Stored : Type 0 where
 
 -- "the number (two bytes, high first), one byte for the whole record's length, the text, and CR"
 abbrev pub recordBytes : Stored → List ℕ
-recordBytes r = (r .line / 256) ∷ (r .line % 256) ∷ (length (r .text) + 4) ∷ (r .text ++ (13 ∷ []))
+recordBytes r = (r .line / 256) ∷ (r .line % 256) ∷ (length (r .text) + 4) ∷ (r .text ++ (byteCR ∷ []))
 
 abbrev pub programBytes : List Stored → List ℕ
 programBytes [] = 255 ∷ 255 ∷ []
@@ -53,7 +53,7 @@ isStorable lim n t = hasReading (reading t) && (not (starts isDigit t) && leb (l
 unfoldable pub isRecord : ℕ → ℕ → List ℕ → Bool
 isRecord lim low q =
     leb low (lineAt q) && (leb (lineAt q) 32767 && (leb 5 (lengthAt q) && (leb (lengthAt q) (length q)
-    && (eqb (getD q (lengthAt q - 1) 0) 13 && isStorable lim (lineAt q) (textAt q)))))
+    && (eqb (getD q (lengthAt q - 1) 0) byteCR && isStorable lim (lineAt q) (textAt q)))))
 
 -- k bounds how many records there are
 unfoldable pub goodN : ℕ → ℕ → ℕ → List ℕ → Bool

@@ -6,7 +6,7 @@ use mathlib.Core.List.{List, [], _∷_, _++_}
 use mathlib.Core.Option.{Option, none, some}
 use lib.ListN.{length}
 use lib.Dec.{leb, eqb}
-use Rattle.nibl.specs.Bytes.{if_then_else_, isSpace, isText, isDigit, isCapital, isHexDigit, isQuotable, front, past, all, decimalValue, hexValue}
+use Rattle.nibl.specs.Bytes.{if_then_else_, isSpace, isText, isDigit, isCapital, isHexDigit, isQuotable, front, past, all, decimalValue, hexValue, byte, byteQuote}
 use Rattle.nibl.specs.Words.{Token, variable, decimal, hex, string, sign, keywords, commands, indexIn, pairs, isSymbol, number, command}
 use Rattle.nibl.specs.Grammar.{Joints, factorJoints, termJoints, sumJoints, jointOf}
 use Rattle.nibl.specs.Tree.{Op, Expr, var, const, stat, top, byteAt, invert, negate, modulo, two}
@@ -25,7 +25,7 @@ signOr (some k) s = got (sign k) s
 
 abbrev pub lettersStep : List (List ℕ) → List ℕ → List ℕ → Step
 lettersStep table [] s = wrong
-lettersStep table (c ∷ []) s = got (variable (c - 65)) s
+lettersStep table (c ∷ []) s = got (variable (c - byte "A")) s
 lettersStep table (c ∷ d ∷ cs) s = signOr (indexIn table (c ∷ d ∷ cs)) s
 
 abbrev pub digitsStep : ℕ → List ℕ → Step
@@ -38,7 +38,7 @@ hexStep (d ∷ ds) s = got (hex (hexValue 0 (d ∷ ds) % 65536)) s
 -- after the opening quote: what it encloses, and the text from the closing quote on
 abbrev pub quotedStep : List ℕ → List ℕ → Step
 quotedStep bs [] = wrong
-quotedStep bs (b ∷ s) = if eqb b 34 then got (string bs) s else wrong
+quotedStep bs (b ∷ s) = if eqb b byteQuote then got (string bs) s else wrong
 
 abbrev pub pairOr : Option ℕ → ℕ → ℕ → List ℕ → Step
 pairOr none a b s = got (sign a) (b ∷ s)
@@ -52,8 +52,8 @@ unfoldable pub wordStep : List (List ℕ) → ℕ → List ℕ → Step
 wordStep table b s =
     if isCapital b then lettersStep table (front isCapital (b ∷ s)) (past isCapital (b ∷ s))
     else if isDigit b then digitsStep (decimalValue 0 (front isDigit (b ∷ s))) (past isDigit (b ∷ s))
-    else if eqb b 35 then hexStep (front isHexDigit s) (past isHexDigit s)
-    else if eqb b 34 then quotedStep (front isQuotable s) (past isQuotable s)
+    else if eqb b (byte "#") then hexStep (front isHexDigit s) (past isHexDigit s)
+    else if eqb b byteQuote then quotedStep (front isQuotable s) (past isQuotable s)
     else if isSymbol b then symbolStep b s
     else wrong
 

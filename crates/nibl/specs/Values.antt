@@ -4,7 +4,7 @@ use mathlib.Core.Bool.{Bool, true, false, not}
 use mathlib.Core.List.{List, [], _∷_, _++_}
 use lib.Dec.{ltb, eqb}
 use lib.Bits.{bitAnd, bitOr}
-use Rattle.nibl.specs.Bytes.{if_then_else_}
+use Rattle.nibl.specs.Bytes.{if_then_else_, byte}
 use Rattle.nibl.specs.Tree.{Op, times, dividedBy, andBits, plus, minus, orBits, equal, less, greater, atMost, atLeast, unequal}
 
 -- what was asked for, or the number of the refusal
@@ -83,7 +83,7 @@ apply unequal a b = is (bit (not (eqb a b)))
 -- the digits of n, without leading zeros, before others; k bounds how many
 abbrev pub digitsN : ℕ → ℕ → List ℕ → List ℕ
 digitsN zero n ds = ds
-digitsN (suc k) n ds = elim (ltb n 10) [ true ↦ (48 + n) ∷ ds | false ↦ digitsN k (n / 10) ((48 + n % 10) ∷ ds) ]
+digitsN (suc k) n ds = elim (ltb n 10) [ true ↦ (byte "0" + n) ∷ ds | false ↦ digitsN k (n / 10) ((byte "0" + n % 10) ∷ ds) ]
 
 -- a number below 100,000 has at most five
 unfoldable pub digits : ℕ → List ℕ
@@ -91,4 +91,4 @@ digits n = digitsN 5 n []
 
 -- "A number prints as a space or '-', digits, a space"
 unfoldable pub printed : ℕ → List ℕ
-printed a = (if isNegative a then 45 else 32) ∷ (digits (magnitude a) ++ (32 ∷ []))
+printed a = (if isNegative a then byte "-" else byte " ") ∷ (digits (magnitude a) ++ (byte " " ∷ []))

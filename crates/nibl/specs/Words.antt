@@ -6,7 +6,7 @@ use mathlib.Core.Bool.{Bool, true, false, _&&_, _||_}
 use mathlib.Core.List.{List, [], _∷_, _++_}
 use mathlib.Core.Option.{Option, none, some}
 use lib.Dec.{eqb}
-use Rattle.nibl.specs.Bytes.{if_then_else_, byte, bytes, same, isDigit, isCapital, isHexDigit, isQuotable, All, starts, decimalValue, hexValue}
+use Rattle.nibl.specs.Bytes.{if_then_else_, byte, bytes, same, isDigit, isCapital, isHexDigit, isQuotable, All, starts, decimalValue, hexValue, byteQuote}
 
 pub data Token : Type 0 where
   variable : ℕ → Token  -- 0 for A to 25 for Z
@@ -14,7 +14,10 @@ pub data Token : Type 0 where
   string : List ℕ → Token  -- what the quotes enclose
   sign : ℕ → Token  -- a keyword, a pair or a symbol, by its number
 
--- a keyword's number is 128 and its place in this list
+-- a keyword's number is the first one's and its index in this list
+abbrev pub firstKeyword : ℕ
+firstKeyword = 128
+
 abbrev pub keywords : List (List ℕ)
 keywords =
     bytes "LET" ∷ bytes "GO" ∷ bytes "TO" ∷ bytes "SUB" ∷ bytes "GOTO" ∷ bytes "GOSUB" ∷ bytes "RETURN" ∷ bytes "PR" ∷ bytes "PRINT"
@@ -25,13 +28,13 @@ keywords =
 abbrev pub commands : List (List ℕ)
 commands = bytes "NEW" ∷ bytes "CLEAR" ∷ bytes "LIST" ∷ bytes "RUN" ∷ []
 
--- the first number whose spelling in the list is this one, counted from n; keywords and commands are counted from 128
+-- the first number whose spelling in the list is this one, counted from n; keywords and commands are counted from `firstKeyword`
 abbrev pub indexFrom : ℕ → List (List ℕ) → List ℕ → Option ℕ
 indexFrom n [] w = none
 indexFrom n (k ∷ ks) w = if same k w then some n else indexFrom (suc n) ks w
 
 abbrev pub indexIn : List (List ℕ) → List ℕ → Option ℕ
-indexIn = indexFrom 128
+indexIn = indexFrom firstKeyword
 
 -- a pair's number: "the pairs <= >= <> are one word"
 abbrev pub pairs : ℕ → ℕ → Option ℕ
@@ -69,7 +72,7 @@ pub data Word (table : List (List ℕ)) : List ℕ → Token → List ℕ → Ty
       → Word table (c ∷ d ∷ cs ++ s) (sign k) s
   decimalDigits : {ds s : List ℕ} → Run isDigit ds s → decimalValue 0 ds ≤ 32767 → Word table (ds ++ s) (decimal (decimalValue 0 ds)) s
   hexDigits : {ds s : List ℕ} → Run isHexDigit ds s → Word table (byte "#" ∷ ds ++ s) (hex (hexValue 0 ds % 65536)) s
-  quoted : {bs s : List ℕ} → All isQuotable bs → Word table (34 ∷ bs ++ 34 ∷ s) (string bs) s
+  quoted : {bs s : List ℕ} → All isQuotable bs → Word table (byteQuote ∷ bs ++ byteQuote ∷ s) (string bs) s
   pair : {a b k : ℕ} {s : List ℕ} → pairs a b ≡ some k → Word table (a ∷ b ∷ s) (sign k) s
   symbol : {b : ℕ} {s : List ℕ} → isSymbol b ≡ true → pairsWith b s ≡ false → Word table (b ∷ s) (sign b) s
 

@@ -8,14 +8,14 @@ use denote.Enum.Declared.{tagOf}
 use types.Run.{OneOf, miss}
 use lib.ListN.{length, drop, length-append, length-drop}
 use lib.Dec.{leb}
-use Rattle.nibl.specs.Words.{Token, variable, decimal, hex, string, sign, keywords, Word, spaced, letter, letters, decimalDigits, hexDigits, quoted, pair, symbol}
+use Rattle.nibl.specs.Words.{Token, variable, decimal, hex, string, sign, keywords, Word, spaced, letter, letters, decimalDigits, hexDigits, quoted, pair, symbol, firstKeyword}
 use Rattle.nibl.specs.Read.{Step, stepIn, nothing, Reader, onStep, byWord, variableOf, stringOf, signOf, aVariable, aString, aSign, fail}
 use Rattle.nibl.proofs.Words.{word-sound, of-pairs, no-symbol}
 use Rattle.word.specs.declared.Cursor.{Cursor}
 use Rattle.word.specs.declared.Word.{Word as Read}
 use Rattle.word.specs.declared.Word.the-variants as word
 use Rattle.word.proofs.Word.{the-type as word-type}
-use Rattle.word.specs.Found.{firstKeyword, foundStep, WordIs}
+use Rattle.word.specs.Found.{foundStep, WordIs}
 use Rattle.relation.specs.Makes.{need, Leads, onto, Over, Stood, stood, Absent, stopped, absent, SignIs, nowhere, another}
 use Rattle.relation.specs.declared.Made.{Made}
 use Rattle.relation.specs.declared.Made.the-variants.{Next, NoReading}

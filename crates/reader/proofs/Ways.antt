@@ -12,14 +12,13 @@ use lib.ListN.{length, drop, set, length-append, length-map, drop-of-length-le}
 use lib.Seq.{sets, slice, length-slice, set-set, set-comm}
 use lib.Dec.{eqb, leb}
 use Rattle.nibl.specs.Bytes.{if_then_else_, isText, all}
-use Rattle.nibl.specs.Words.{Token, variable, decimal, hex, string, sign, number}
+use Rattle.nibl.specs.Words.{Token, variable, decimal, hex, string, sign, number, firstKeyword}
 use Rattle.nibl.specs.Tree.{Expr, const, Item, text as textItem, stored, value}
 use Rattle.nibl.specs.Tree.{Stmt, letVar, letStat, letByte, letCopy, letText, goto, gosub, until, return, doLoop, remark, end, print, ifThen, for, next, input, inputText}
 use Rattle.nibl.specs.Read.{Step, Found, nothing, found, Reader, onStep, byWord, choose, andThen, _>>=_, orElse, aVariable, aString, aSign, fail, give, ifKey, key, Part, read, factor, relation, aRelation, assigned, letCases, letOf, anItem, joined, printing, forTo, inputting, remarking, statement, aStatement, statementOf, statementCases}
 use Rattle.nibl.proofs.Words.{and-left, and-right}
 use Rattle.nibl.proofs.Statements.{statement-eq, joined-eq, items-join, variables-join}
 use Rattle.word.specs.declared.Cursor.{Cursor}
-use Rattle.word.specs.Found.{firstKeyword}
 use Rattle.relation.specs.Code.{values}
 use Rattle.codes.specs.Codes.{op, codeConstant, codeCopyString, codeDo, codeEnd, codeFor, codeGosub, codeGoto, codeIf, codeInput, codeInputString, codeInputVariable, codeNext, codePrintByte, codePrintEnd, codePrintNumber, codePrintRoom, codePrintString, codeReturn, codeSetByte, codeSetStat, codeSetVariable, codeStoreString, codeStringByte, codeUntil}
 use Rattle.relation.specs.Makes.{ahead, need, filled, Written, written, Gives, stopped, refused, given, Makes, Leads, onto, only, bare, Over, Stood, stood, Absent, absent, KeyIs, there, SignIs}

@@ -9,9 +9,9 @@ use borrow.Author.Tests.{eqb-true, eq-eqb, le-leb}
 use lib.Dec.{eqb, leb}
 use lib.ListN.{length, drop, getD, drop-of-length-le}
 use Rattle.nibl.specs.Bytes.{if_then_else_, same, isSpace, isCapital, isDigit, isHexDigit, isQuotable, starts, front, past, decimalValue}
-use Rattle.nibl.specs.Words.{variable, decimal, hex, string, sign, keywords, indexFrom, isSymbol, pairs}
+use Rattle.nibl.specs.Words.{variable, decimal, hex, string, sign, keywords, indexFrom, isSymbol, pairs, firstKeyword}
 use Rattle.nibl.specs.Read.{Step, atEnd, wrong, got, signOr, lettersStep, digitsStep, hexStep, quotedStep, pairOr, symbolStep, wordStep, stepIn}
-use Rattle.word.specs.Found.{firstOf, spelling, beginning, firstKeyword}
+use Rattle.word.specs.Found.{firstOf, spelling, beginning}
 use Rattle.word.proofs.Runs.{and-left, and-right, at-byte, front-go, parted, runEnd, rest-at}
 use Rattle.word.proofs.Answers.{step-past, step-word, step-end}
 

@@ -6,8 +6,8 @@ use mathlib.Core.List.{List, [], _∷_, map}
 use lib.Dec.{eqb, leb}
 use lib.ListN.{length, drop}
 use lib.Seq.{slice}
-use Rattle.nibl.specs.Bytes.{if_then_else_, classSpace, classCapital, isSpace, isDigit, isCapital, isHexDigit, isQuotable, front, past, decimalValue}
-use Rattle.nibl.specs.Words.{variable, decimal, hex, string, sign, keywords, commands, isSymbol}
+use Rattle.nibl.specs.Bytes.{if_then_else_, classSpace, classCapital, isSpace, isDigit, isCapital, isHexDigit, isQuotable, front, past, decimalValue, byte}
+use Rattle.nibl.specs.Words.{variable, decimal, hex, string, sign, keywords, commands, isSymbol, firstKeyword, number}
 use Rattle.nibl.specs.Read.{Step, atEnd, wrong, got, lettersStep, digitsStep, hexStep, quotedStep, symbolStep}
 use Rattle.word.specs.declared.Word.{Word}
 use Rattle.word.specs.declared.Word.the-variants.{Variable, Decimal, Hex, Text, Sign, End, Wrong}
@@ -54,10 +54,6 @@ abbrev pub keyOf : List ℕ → ℕ
 keyOf [] = 0
 keyOf (c ∷ s) = c + 256 * keyOf s
 
--- the number of the first keyword, and of the first command
-abbrev pub firstKeyword : ℕ
-firstKeyword = 128
-
 -- n and the index of a key in a list of them, 0 where it is not there
 abbrev pub keyIndex : ℕ → List ℕ → ℕ → ℕ
 keyIndex n [] k = 0
@@ -72,7 +68,7 @@ abbrev pub keysOf : Bool → List ℕ
 keysOf b = map keyOf (tableOf b)
 
 abbrev pub hexDigit : ℕ → ℕ
-hexDigit d = if isDigit d then d - 48 else d - 55
+hexDigit d = if isDigit d then d - byte "0" else d - byte "A" + 10
 
 -- The kinds of word, each as a step
 abbrev pub lettersAt : List (List ℕ) → List ℕ → Step
@@ -106,6 +102,6 @@ spelling (w ∷ ws) (suc n) = spelling ws n
 abbrev pub beginning : ℕ → ℕ
 beginning k =
     if leb firstKeyword k then firstOf (spelling keywords (k - firstKeyword))
-    else if eqb k 1 || eqb k 3 then 60
-    else if eqb k 2 then 62
+    else if eqb k (number "<=") || eqb k (number "<>") then byte "<"
+    else if eqb k (number ">=") then byte ">"
     else k

@@ -6,9 +6,9 @@ ghost use mathlib.Core.Bool.{true};
 ghost use lib.ListN.{length, drop, getD};
 ghost use lib.Seq.{slice};
 ghost use Rattle.nibl.specs.Bytes.{isDigit, isCapital, isHexDigit, isSpace, isQuotable, front, past};
-ghost use Rattle.nibl.specs.Words.{keywords, commands, isSymbol, pairs, numberOr};
+ghost use Rattle.nibl.specs.Words.{keywords, commands, isSymbol, pairs, numberOr, firstKeyword};
 ghost use Rattle.nibl.specs.Read.{stepIn};
-ghost use Rattle.word.specs.Found.{passing, keyOf, longestKeyword, firstKeyword, keyIndex, tableOf, keysOf, hexDigit, firstOf};
+ghost use Rattle.word.specs.Found.{passing, keyOf, longestKeyword, keyIndex, tableOf, keysOf, hexDigit, firstOf};
 ghost use Rattle.word.specs.Found.{WordIs, lettersAt, decimalAt, hexAt, quotedAt, symbolAt};
 
 pub mod sign;
