@@ -18,7 +18,7 @@ use Rattle.record.specs.Sound.{Sized}
 use Rattle.demands.specs.Lent.{budgeted}
 use Rattle.demands.specs.Sound.{Answered, byLine, byRun}
 use Rattle.demands.specs.Starts.{Starts, byRUN, byStatement, StartsTyped, typed, StartsPaused, ranFrom}
-use Rattle.demands.specs.Steps.{GoesTo, afterIt, afterRecord, jumps, Ends, halts, runsOut, pauses, OneMore, StandsAt, begun, later, LeftToRun, NoStepMade, nothingLeft, pausedAtOnce}
+use Rattle.demands.specs.Steps.{GoesTo, afterIt, afterRecord, jumps, EndsCall, halts, runsOut, pauses, OneMore, StandsAt, begun, later, LeftToRun, NoStepMade, nothingLeft, pausedAtOnce}
 use Rattle.demands.proofs.Sound.{unrefused}
 use Rattle.demands.proofs.LastStep.{Still, over, waits, unread, no-step}
 use Rattle.demands.proofs.Line.{the-answers-line}
@@ -62,7 +62,7 @@ module _ (x : Lent) (From : ℕ → World → Type 0) (o' o : Outcome) where
 
   paused-left : OneMore env budget o' o → o .answer .stop ≡ 14 → (o .answer .steps ≡ budget) × Left
   paused-left m i = by (m .ends) where
-    by : Ends (x .page) (m .last .place) (m .last .cr) (m .how) (m .after) budget o → (o .answer .steps ≡ budget) × Left
+    by : EndsCall (x .page) (m .last .place) (m .last .cr) (m .how) (m .after) budget o → (o .answer .steps ≡ budget) × Left
     by (halts h n s) = absurd (n i)
     by (runsOut q g h n s) = absurd (omega arith)
     by (pauses q y g h n k s) = (k, record { at = q; waiting = y; stands = later m g; next = h })
@@ -74,7 +74,7 @@ module _ (x : Lent) (From : ℕ → World → Type 0) (o' o : Outcome) where
         let f = next-finds (l .next) in
         ap (λ o. o .answer .stop) (begins (l .at) w b ∙ no-budget-pauses-at-once x (l .at) (f .start) w (sym n ∙ z) (f .follows))
     by (later m g) = end (m .ends) where
-      end : Ends (x .page) (m .last .place) (m .last .cr) (m .how) (m .after) budget o → o .answer .stop ≡ 14
+      end : EndsCall (x .page) (m .last .place) (m .last .cr) (m .how) (m .after) budget o → o .answer .stop ≡ 14
       end (halts h c s) = absurd (goes-on g h)
       end (runsOut q f h c s) =
           let same = goes-once f g in

@@ -148,7 +148,7 @@ the-mark-is-no-place {page = page} h (endsMember {at = at} {t = t} b a r i) e =
 
 module _ (lim : ℕ) (page : List ℕ) where
   -- the records from a boundary on, whose places are places of the page, and whose lines are the page's
-  pub record Onward (at : ℕ) : Type 0 where
+  pub record OnwardFrom (at : ℕ) : Type 0 where
     pub low : ℕ
     pub records : List Stored
     pub laid : Laid lim page low at records
@@ -159,11 +159,11 @@ module _ (lim : ℕ) (page : List ℕ) where
     -- the record that stands there, and those behind it
     pub record Here : Type 0 where
       pub whole : Whole lim page at (record { line = n; text = t })
-      pub behind : Onward (at + (length t + 4))
+      pub behind : OnwardFrom (at + (length t + 4))
       pub places : (p : ℕ) → isAmong (endsOf (at + 3) (length t) (reading t)) p ≡ true → isAmong (placesOf page) p ≡ true
       pub line : (p : ℕ) → at ≤ p → p < at + (length t + 4) → lineOf page p ≡ n
 
-    pub record-here : Onward at → Here
+    pub record-here : OnwardFrom at → Here
     record-here o = by (o .laid) (o .holds) (o .lines) where
       whole : {low : ℕ} {rs : List Stored} → Whole lim page at (record { line = n; text = t }) → Laid lim page low (at + (length t + 4)) rs
           → ((p : ℕ) → isAmong (endsOf (at + 3) (length t) (reading t) ++ placesIn (at + (length t + 4)) rs) p ≡ true → isAmong (placesOf page) p ≡ true)
@@ -195,7 +195,7 @@ module _ (lim : ℕ) (page : List ℕ) where
           let it : r ≡ record { line = n; text = t } = λ i. record { line = sym (same .0) i; text = sym (same .1) i } in
           whole (rw it at w) (rw it at p) (rw it at h) (rw it at k)
 
-  pub boundary-onward : Laid lim page 0 0 (recordsOf page) → {at : ℕ} → Boundary page at → Onward at
+  pub boundary-onward : Laid lim page 0 0 (recordsOf page) → {at : ℕ} → Boundary page at → OnwardFrom at
   unfolding placesOf lineOf
   boundary-onward g start =
       record {

@@ -41,11 +41,11 @@ module _ (e : Env) (w : World) (out : List ℕ) (at : ℕ) where
 
 -- PRINT: all is some of its items, w is a world that differs from v in its output alone
 module _ (e : Env) (v : World) (b : Bool) (all : List Item) where
-  abbrev Wrote : World → World → Type 0
-  Wrote w u = Grew (ItemIn e v (print all b)) (e .lim) (e .input) w u
+  abbrev WroteItems : World → World → Type 0
+  WroteItems w u = Grew (ItemIn e v (print all b)) (e .lim) (e .input) w u
 
   prints-wrote : {some : List Item} {w : World} {d : Done} → ((i : Item) → In i some → In i all) → ((i : Item) → itemBytes e w i ≡ itemBytes e v i) → Prints e b some w d
-      → Wrote w (worldAfter d)
+      → WroteItems w (worldAfter d)
   prints-wrote {w = w} f s (writes {i = i} bs h r p) =
       let more = prints-wrote (λ j k. f j (further k)) (λ j. item-same e w _ _ j ∙ s j) p in
       record { items = item bs (ofPrint i (f i first) (sym (s i) ∙ h)) r (more .items); lines = more .lines }

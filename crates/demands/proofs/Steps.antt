@@ -28,7 +28,7 @@ use Rattle.page.specs.Standing.{Stands}
 use Rattle.record.specs.Sound.{Sized, Sound}
 use Rattle.record.proofs.Fitted.{sound-fit, fit-sound}
 use Rattle.demands.proofs.Runs.{placeEnding}
-use Rattle.demands.specs.Steps.{worldLeft, GoesTo, Ends, halts, runsOut, pauses, OneMore, RefusedLine}
+use Rattle.demands.specs.Steps.{worldLeft, GoesTo, EndsCall, halts, runsOut, pauses, OneMore, RefusedLine}
 use Rattle.demands.proofs.Budget.{steps-within}
 use Rattle.demands.proofs.Ways.{Takes, refused, noCR, overlong, unread, reads, every-line, Continues, refused′, continues, every-continue}
 use Rattle.demands.proofs.Accepted.{accepted-of, accepted-less, continue-at}
@@ -73,7 +73,7 @@ module _ (e : Env) (k q : ℕ) (w : World) (sound : Sound limit (e .page) (w .se
   five = no-grammar-refusal-while-running limit e (omega arith) k q w sound stands
 
   run-ends : {p cr : ℕ} {how : Next} → ((q : ℕ) → GoesTo p cr how q → Stands (e .page) q) → RunEnds (e .page) p cr how k r
-      → Ends (e .page) p cr how (r .world) k (runOutcome r (e .page))
+      → EndsCall (e .page) p cr how (r .world) k (runOutcome r (e .page))
   run-ends s (lastStep.halts i m) = halts i (λ c. false≢true (rw c at m)) (rw (ne-eqb (r .stop) 14 (λ c. false≢true (rw c at m))))
   run-ends s (lastStep.runsOut p g i c) = runsOut p g (nothing-past limit e (omega arith) (sound .good) p (s p g) i) c (rw c)
   run-ends s (lastStep.pauses p a g i c n at) = some-next limit e (omega arith) (sound .good) p a (s p g) i (λ x j. pauses p x g j c n (rw (c, at)))

@@ -23,7 +23,7 @@ use Rattle.record.specs.Sound.{Sized}
 use Rattle.demands.specs.Lent.{budgeted, Typing, OneOfThese}
 use Rattle.demands.specs.Items.{ListsLines, over, below, listsLine, noRoomForLine}
 use Rattle.demands.specs.Starts.{gives}
-use Rattle.demands.specs.Steps.{worldLeft, Ends, halts, runsOut, pauses, OneMore}
+use Rattle.demands.specs.Steps.{worldLeft, EndsCall, halts, runsOut, pauses, OneMore}
 use Rattle.demands.specs.Reading.{Standing}
 use Rattle.demands.specs.Stepping.{OneStep}
 use Rattle.demands.specs.Sound.{Shows, without as unnamed, itsLine, Answered, byLine, byRun}
@@ -71,7 +71,7 @@ module _ {e : Env} {k : ℕ} {o' o : Outcome} (m : OneMore e k o' o) (n : ℕ) (
     stopped : {how : Next} {u v : World} → done how u ≡ done (stop n) v → how ≡ stop n
     stopped h = cc
 
-    by : {how : Next} {u : World} → Ends (e .page) (m .last .place) (m .last .cr) how u k o → how ≡ stop n → o .answer .stop ≡ n
+    by : {how : Next} {u : World} → EndsCall (e .page) (m .last .place) (m .last .cr) how u k o → how ≡ stop n → o .answer .stop ≡ n
     by (halts i c s) h = cc
     by (runsOut q g i c s) h = absurd (goes-on g h)
     by (pauses q a g i c b s) h = absurd (goes-on g h)

@@ -21,13 +21,13 @@ use Rattle.value.proofs.Digits.{digits-before}
 use Rattle.page.proofs.Walk.{by-cases}
 use Rattle.page.proofs.Program.{program-length}
 use Rattle.demands.specs.Items.{itemBytes}
-use Rattle.demands.specs.Valued.{Signed, fromZero, belowZero, order, Below, acrossZero, aboveZero, underZero, Related, same, notSame, below, notBelow, above, notAbove, upTo, notUpTo, fromOn, notFromOn, other, notOther, Operated, sums, differences, products, quotients, quotientsBelow, noQuotient, both, either, relates, Remains, remainders, noRemainder, ValueOf, ofVariable, ofConstant, ofStat, ofTop, ofByte, noByte, ofNot, ofMinus, ofMod, ofTwo, inByte, inNot, inMinus, leftOfMod, rightOfMod, leftOfTwo, rightOfTwo, StringAt, NoCR, Decimal, oneDigit, moreDigits, PrintedAs, shown, shownBelow, ItemBytes, ofText, ofString, ofNumber, noString, noAddress, noNumber}
+use Rattle.demands.specs.Valued.{SignAndSize, fromZero, belowZero, order, Below, acrossZero, aboveZero, underZero, Related, same, notSame, below, notBelow, above, notAbove, upTo, notUpTo, fromOn, notFromOn, other, notOther, Operated, sums, differences, products, quotients, quotientsBelow, noQuotient, ofAnd, ofOr, relates, Remains, remainders, noRemainder, ValueOf, ofVariable, ofConstant, ofStat, ofTop, ofByte, noByte, ofNot, ofMinus, ofMod, ofTwo, inByte, inNot, inMinus, leftOfMod, rightOfMod, leftOfTwo, rightOfTwo, StringAt, NoCR, Decimal, oneDigit, moreDigits, PrintedAs, shown, shownBelow, ItemBytes, ofText, ofString, ofNumber, noString, noAddress, noNumber}
 
 -- Sign and size
-pub signed-of : (x : ℕ) → Signed x (isNegative x) (magnitude x)
+pub signed-of : (x : ℕ) → SignAndSize x (isNegative x) (magnitude x)
 signed-of x = by-cases (ltb x 32768) (λ h. rw h (fromZero (ltb-true x 32768 h))) (λ h. rw h (belowZero (ltb-false x 32768 h)))
 
-pub signed-one : {x m : ℕ} {s : Bool} → Signed x s m → (isNegative x ≡ s) × (magnitude x ≡ m)
+pub signed-one : {x m : ℕ} {s : Bool} → SignAndSize x s m → (isNegative x ≡ s) × (magnitude x ≡ m)
 signed-one (fromZero {x = x} h) = (rw (lt-ltb x 32768 h), rw (lt-ltb x 32768 h))
 signed-one (belowZero {x = x} h) = (rw (le-ltb x 32768 h), rw (le-ltb x 32768 h))
 
@@ -54,7 +54,7 @@ not-bit : (P : ℕ → Type 0) (t : Bool) → (t ≡ false → P 1) → (t ≡ t
 not-bit P true f g = g refl
 not-bit P false f g = f refl
 
-quotient-of : (x y : ℕ) (s t : Bool) {m n : ℕ} → (y ≡ 0 → ⊥) → Signed x s m → Signed y t n
+quotient-of : (x y : ℕ) (s t : Bool) {m n : ℕ} → (y ≡ 0 → ⊥) → SignAndSize x s m → SignAndSize y t n
     → Operated dividedBy x y (is (if differ s t then sub16 0 (m / n) else m / n))
 quotient-of x y true true z a b = quotients z a b
 quotient-of x y true false {m} {n} z a b = rw (zero-add (65536 - m / n)) (quotientsBelow z a b (λ e. let c : _≡_ {A = ℕ} 0 1 = cc in omega arith))
@@ -66,10 +66,10 @@ unfolding apply
 operated-of times x y = products
 operated-of dividedBy x y =
     if-split (Operated dividedBy x y) (eqb y 0) (λ h. noQuotient (eqb-true y 0 h)) (λ h. quotient-of x y (isNegative x) (isNegative y) (eqb-false y 0 h) (signed-of x) (signed-of y))
-operated-of andBits x y = both
+operated-of andBits x y = ofAnd
 operated-of plus x y = sums
 operated-of minus x y = differences
-operated-of orBits x y = either
+operated-of orBits x y = ofOr
 operated-of equal x y = relates (bit-of (Related equal x y) (eqb x y) (λ h. same (eqb-true x y h)) (λ h. notSame (eqb-false x y h)))
 operated-of less x y = relates (bit-of (Related less x y) (less16 x y) (λ h. below (ltb-true _ _ h)) (λ h. notBelow (ltb-false _ _ h)))
 operated-of greater x y = relates (bit-of (Related greater x y) (less16 y x) (λ h. above (ltb-true _ _ h)) (λ h. notAbove (ltb-false _ _ h)))
@@ -116,8 +116,8 @@ operated-one (quotients {x} {y} {m} {n} {s} z a b) =
 operated-one (quotientsBelow {x} {y} {m} {n} {s} {t} z a b h) =
     rw (ne-eqb y 0 z, signed-one a .1, signed-one b .1, signed-one a .0, signed-one b .0, other-sign s t h, zero-add (65536 - m / n))
 operated-one (noQuotient {x} {y} z) = rw (eq-eqb y 0 z)
-operated-one both = refl
-operated-one either = refl
+operated-one ofAnd = refl
+operated-one ofOr = refl
 operated-one (relates h) = related-one h
 
 remains-one : {x y : ℕ} {r : Value} → Remains x y r → mod16 x y ≡ r
@@ -260,7 +260,7 @@ decimal-unique (oneDigit h) (moreDigits g e) = absurd (omega arith)
 decimal-unique (moreDigits h d) (oneDigit g) = absurd (omega arith)
 decimal-unique (moreDigits {n = n} h d) (moreDigits g e) = ap (λ (l : List ℕ). l ++ ((48 + n % 10) ∷ [])) (decimal-unique d e)
 
-signed-small : {x m : ℕ} {s : Bool} → Signed x s m → m < 10 ^ 5
+signed-small : {x m : ℕ} {s : Bool} → SignAndSize x s m → m < 10 ^ 5
 signed-small (fromZero h) = omega arith
 signed-small (belowZero h) = omega arith
 
@@ -268,7 +268,7 @@ signed-small (belowZero h) = omega arith
 shown-of : (x : ℕ) → PrintedAs x (printed x)
 unfolding printed digits
 shown-of x = by (isNegative x) (signed-of x) where
-  by : (s : Bool) → Signed x s (magnitude x) → PrintedAs x ((if s then 45 else 32) ∷ (digits (magnitude x) ++ (32 ∷ [])))
+  by : (s : Bool) → SignAndSize x s (magnitude x) → PrintedAs x ((if s then 45 else 32) ∷ (digits (magnitude x) ++ (32 ∷ [])))
   by true h = shownBelow h (decimal-of 4 (magnitude x) (signed-small h))
   by false h = shown h (decimal-of 4 (magnitude x) (signed-small h))
 

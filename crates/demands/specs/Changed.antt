@@ -4,6 +4,7 @@ use mathlib.Core.Path.{_≡_}
 use mathlib.Core.Bool.{Bool, true, false}
 use mathlib.Core.List.{List, [], _∷_, _++_}
 use lib.ListN.{length, getD, take, drop}
+use Rattle.nibl.specs.Bytes.{byteCR, byteLF}
 use Rattle.nibl.specs.Tree.{Expr, Item}
 use Rattle.nibl.specs.Values.{is}
 use Rattle.nibl.specs.Typing.{Gathered}
@@ -84,7 +85,7 @@ pub data ItemsBytes (e : Env) (w : World) : List Item → List ℕ → Type 0 wh
 -- "PRINT ends with CR LF unless ';'"
 abbrev pub lineEnd : Bool → List ℕ
 lineEnd true = []
-lineEnd false = 13 ∷ 10 ∷ []
+lineEnd false = byteCR ∷ byteLF ∷ []
 
 pub record WritesItems (e : Env) (w : World) (items : List Item) (b : Bool) (u : World) : Type 0 where
   pub bytes : List ℕ

@@ -5,7 +5,7 @@ use mathlib.Core.Bool.{false}
 use mathlib.Core.List.{List, _∷_, _++_}
 use mathlib.Core.Logic.{_⊎_}
 use lib.ListN.{length, take, drop}
-use Rattle.nibl.specs.Bytes.{isDigit, isText, All, starts}
+use Rattle.nibl.specs.Bytes.{isDigit, isText, All, starts, byteCR}
 use Rattle.nibl.specs.Tree.{Member}
 use Rattle.nibl.specs.Readings.{ListReading}
 use Rattle.nibl.specs.Values.{digits}
@@ -23,7 +23,7 @@ pub record RecordAt (page : List ℕ) (at n : ℕ) (t : List ℕ) : Type 0 where
   pub high : ℕ
   pub low : ℕ
   pub after : List ℕ
-  pub bytes : drop at page ≡ high ∷ low ∷ (length t + 4) ∷ (t ++ (13 ∷ after))
+  pub bytes : drop at page ≡ high ∷ low ∷ (length t + 4) ∷ (t ++ (byteCR ∷ after))
   pub number : n ≡ high * 256 + low
   pub small : n ≤ 32767
 

@@ -5,7 +5,7 @@ use mathlib.Core.Bool.{Bool, true, false}
 use mathlib.Core.List.{List, [], _∷_}
 use lib.ListN.{length}
 use lib.Seq.{sets}
-use Rattle.nibl.specs.Bytes.{bytes}
+use Rattle.nibl.specs.Bytes.{bytes, byteCR, byteLF}
 use Rattle.nibl.specs.Tree.{Expr, Item, text, stored, value, Stmt, print, ifThen, input, inputText}
 use Rattle.nibl.specs.Values.{Result, is, no, printed}
 use Rattle.nibl.specs.Page.{Stored}
@@ -26,7 +26,7 @@ itemBytes e w (value a) = bind (eval e w a) (λ x. is (printed x))
 pub data ItemOf (e : Env) : Stmt → List ℕ → Type 0 where
   ofPrint : {items : List Item} {b : Bool} {bs : List ℕ} (i : Item) (w : World) → In i items → itemBytes e w i ≡ is bs → ItemOf e (print items b) bs
   -- "unless ';'"
-  endOfPrint : {items : List Item} {b : Bool} → b ≡ false → ItemOf e (print items b) (13 ∷ 10 ∷ [])
+  endOfPrint : {items : List Item} {b : Bool} → b ≡ false → ItemOf e (print items b) (byteCR ∷ byteLF ∷ [])
   ofInput : {vs : List ℕ} → ItemOf e (input vs) (bytes "?")
   ofInputText : {a : Expr} → ItemOf e (inputText a) (bytes "?")
   ofIf : {a : Expr} {q : Stmt} {bs : List ℕ} → ItemOf e q bs → ItemOf e (ifThen a q) bs
@@ -54,8 +54,8 @@ pub data Prints (e : Env) (semicolon : Bool) : List Item → World → Done → 
   refused : {i : Item} {items : List Item} {w : World} {n : ℕ} → itemBytes e w i ≡ no n → Prints e semicolon (i ∷ items) w (done (stop n) w)
   noRoom : {i : Item} {items : List Item} {w : World} (bs : List ℕ) → itemBytes e w i ≡ is bs → NoRoom w bs → Prints e semicolon (i ∷ items) w (done (stop 17) w)
   noEnd : {w : World} → semicolon ≡ true → Prints e semicolon [] w (done on w)
-  end : {w : World} → semicolon ≡ false → HasRoom w (13 ∷ 10 ∷ []) → Prints e semicolon [] w (done on (wroteItem w (13 ∷ 10 ∷ [])))
-  noRoomForEnd : {w : World} → semicolon ≡ false → NoRoom w (13 ∷ 10 ∷ []) → Prints e semicolon [] w (done (stop 17) w)
+  end : {w : World} → semicolon ≡ false → HasRoom w (byteCR ∷ byteLF ∷ []) → Prints e semicolon [] w (done on (wroteItem w (byteCR ∷ byteLF ∷ [])))
+  noRoomForEnd : {w : World} → semicolon ≡ false → NoRoom w (byteCR ∷ byteLF ∷ []) → Prints e semicolon [] w (done (stop 17) w)
 
 -- LIST line by line: "each line from that number on", up to the first that does not fit
 pub data ListsLines (n : ℕ) : List Stored → World → Done → Type 0 where

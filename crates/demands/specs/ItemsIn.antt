@@ -3,7 +3,7 @@ use Prim.Native.Nat.{ℕ}
 use mathlib.Core.Path.{_≡_}
 use mathlib.Core.Bool.{Bool, false}
 use mathlib.Core.List.{List, [], _∷_}
-use Rattle.nibl.specs.Bytes.{bytes}
+use Rattle.nibl.specs.Bytes.{bytes, byteCR, byteLF}
 use Rattle.nibl.specs.Tree.{Expr, Item, Stmt, print, ifThen, input, inputText, Typed, list, immediate}
 use Rattle.nibl.specs.Values.{is}
 use Rattle.nibl.specs.Page.{recordsOf}
@@ -15,7 +15,7 @@ use Rattle.demands.specs.Leaves.{WroteItems}
 pub data ItemIn (e : Env) (w : World) : Stmt → List ℕ → Type 0 where
   ofPrint : {items : List Item} {b : Bool} {bs : List ℕ} (i : Item) → In i items → itemBytes e w i ≡ is bs → ItemIn e w (print items b) bs
   -- "unless ';'"
-  endOfPrint : {items : List Item} {b : Bool} → b ≡ false → ItemIn e w (print items b) (13 ∷ 10 ∷ [])
+  endOfPrint : {items : List Item} {b : Bool} → b ≡ false → ItemIn e w (print items b) (byteCR ∷ byteLF ∷ [])
   -- "INPUT writes '?'", after its address value
   ofInput : {vs : List ℕ} → ItemIn e w (input vs) (bytes "?")
   ofInputText : {a : Expr} (p : ℕ) → eval e w a ≡ is p → ItemIn e w (inputText a) (bytes "?")

@@ -4,7 +4,7 @@ use mathlib.Core.Path.{_≡_}
 use mathlib.Core.Bool.{Bool, true, false}
 use mathlib.Core.List.{List, [], _∷_}
 use lib.ListN.{length}
-use Rattle.nibl.specs.Bytes.{bytes}
+use Rattle.nibl.specs.Bytes.{bytes, byteCR, byteLF}
 use Rattle.nibl.specs.Tree.{Expr, Item, Stmt, letByte, letCopy, letText, goto, gosub, until, return, doLoop, print, for, next, input, inputText}
 use Rattle.nibl.specs.Values.{is}
 use Rattle.nibl.specs.Typing.{Gathered}
@@ -75,7 +75,7 @@ pub data LacksMemory (e : Env) (w u : World) : Stmt → Type 0 where
 pub data LacksOutput (e : Env) (w u : World) : Stmt → Type 0 where
   forItem : {items : List Item} {i : Item} {bs : List ℕ} (b : Bool) → UpTo e items w i u → ItemBytes e u i (is bs) → NoRoom u bs
       → LacksOutput e w u (print items b)
-  forEnd : {items : List Item} → AllOut e items w u → NoRoom u (13 ∷ 10 ∷ []) → LacksOutput e w u (print items false)
+  forEnd : {items : List Item} → AllOut e items w u → NoRoom u (byteCR ∷ byteLF ∷ []) → LacksOutput e w u (print items false)
   forQuestion : {q : Stmt} → Asking e w q → NoRoom w (bytes "?") → u ≡ w → LacksOutput e w u q
 
 -- a refusal of any number

@@ -22,14 +22,14 @@ pub data GoesTo (p cr : ℕ) : Next → ℕ → Type 0 where
   jumps : {q : ℕ} → GoesTo p cr (go q) q
 
 -- how a call ends whose last member ended so, and left this world
-pub data Ends (page : List ℕ) (p cr : ℕ) (how : Next) (after : World) (budget : ℕ) (o : Outcome) : Type 0 where
+pub data EndsCall (page : List ℕ) (p cr : ℕ) (how : Next) (after : World) (budget : ℕ) (o : Outcome) : Type 0 where
   -- the statement gave the stop
-  halts : how ≡ stop (o .answer .stop) → (o .answer .stop ≡ 14 → ⊥) → o .session ≡ after .session → Ends page p cr how after budget o
+  halts : how ≡ stop (o .answer .stop) → (o .answer .stop ≡ 14 → ⊥) → o .session ≡ after .session → EndsCall page p cr how after budget o
   -- "past the last line": nothing is left where it goes on
-  runsOut : (q : ℕ) → GoesTo p cr how q → PastTheLast page q → o .answer .stop ≡ 0 → o .session ≡ after .session → Ends page p cr how after budget o
+  runsOut : (q : ℕ) → GoesTo p cr how q → PastTheLast page q → o .answer .stop ≡ 0 → o .session ≡ after .session → EndsCall page p cr how after budget o
   -- "budget spent and a statement still to run: paused", there
   pauses : (q : ℕ) (x : Standing) → GoesTo p cr how q → NextAt page q x → o .answer .stop ≡ 14 → o .answer .steps ≡ budget
-      → o .session ≡ withPaused (after .session) (pausedAt q) → Ends page p cr how after budget o
+      → o .session ≡ withPaused (after .session) (pausedAt q) → EndsCall page p cr how after budget o
 
 -- o is what one statement more makes of what o' left
 pub record OneMore (e : Env) (budget : ℕ) (o' o : Outcome) : Type 0 where
@@ -49,7 +49,7 @@ pub record OneMore (e : Env) (budget : ℕ) (o' o : Outcome) : Type 0 where
   pub named : last .line < noLine
   -- how the call ended
   pub clear : after .session .paused ≡ nowhere
-  pub ends : Ends (e .page) (last .place) (last .cr) how after budget o
+  pub ends : EndsCall (e .page) (last .place) (last .cr) how after budget o
   -- what it did is what the call leaves
   pub session : unpaused (o .session) ≡ after .session
   pub page : o .page ≡ o' .page

@@ -6,7 +6,7 @@ use mathlib.Core.Bool.{Bool, true, false}
 use mathlib.Core.List.{List, [], _∷_, _++_}
 use lib.ListN.{length, getD, drop}
 use lib.Bits.{bitAnd, bitOr}
-use Rattle.nibl.specs.Bytes.{All, notCR}
+use Rattle.nibl.specs.Bytes.{All, notCR, byteCR, byte}
 use Rattle.nibl.specs.Tree.{Op, times, dividedBy, andBits, plus, minus, orBits, equal, less, greater, atMost, atLeast, unequal}
 use Rattle.nibl.specs.Tree.{Expr, var, const, stat, top, byteAt, invert, negate, modulo, two}
 use Rattle.nibl.specs.Tree.{Item, text, stored, value}
@@ -15,18 +15,18 @@ use Rattle.nibl.specs.Page.{recordsOf, programBytes}
 use Rattle.nibl.specs.Meaning.{World, Env}
 
 -- "Values are 16-bit signed": whether a value is below 0, and its size
-pub data Signed : ℕ → Bool → ℕ → Type 0 where
-  fromZero : {x : ℕ} → x < 32768 → Signed x false x
-  belowZero : {x : ℕ} → 32768 ≤ x → Signed x true (65536 - x)
+pub data SignAndSize : ℕ → Bool → ℕ → Type 0 where
+  fromZero : {x : ℕ} → x < 32768 → SignAndSize x false x
+  belowZero : {x : ℕ} → 32768 ≤ x → SignAndSize x true (65536 - x)
 
 -- the signed order of 16-bit values: what is below 0 comes first. By sign and size it is `Below` (`the-signed-order`)
 abbrev pub order : ℕ → ℕ
 order x = (x + 32768) % 65536
 
 pub data Below (x y : ℕ) : Type 0 where
-  acrossZero : {m n : ℕ} → Signed x true m → Signed y false n → Below x y
-  aboveZero : {m n : ℕ} → Signed x false m → Signed y false n → m < n → Below x y
-  underZero : {m n : ℕ} → Signed x true m → Signed y true n → n < m → Below x y
+  acrossZero : {m n : ℕ} → SignAndSize x true m → SignAndSize y false n → Below x y
+  aboveZero : {m n : ℕ} → SignAndSize x false m → SignAndSize y false n → m < n → Below x y
+  underZero : {m n : ℕ} → SignAndSize x true m → SignAndSize y true n → n < m → Below x y
 
 -- "Relations are signed and give 1 or 0"
 pub data Related : Op → ℕ → ℕ → ℕ → Type 0 where
@@ -50,18 +50,18 @@ pub data Operated : Op → ℕ → ℕ → Result ℕ → Type 0 where
   differences : {x y : ℕ} → Operated minus x y (is ((x + (65536 - y)) % 65536))
   products : {x y : ℕ} → Operated times x y (is (x * y % 65536))
   -- "Quotients truncate toward zero"; "division or MOD by 0" is 13
-  quotients : {x y m n : ℕ} {s : Bool} → (y ≡ 0 → ⊥) → Signed x s m → Signed y s n → Operated dividedBy x y (is (m / n))
-  quotientsBelow : {x y m n : ℕ} {s t : Bool} → (y ≡ 0 → ⊥) → Signed x s m → Signed y t n → (s ≡ t → ⊥)
+  quotients : {x y m n : ℕ} {s : Bool} → (y ≡ 0 → ⊥) → SignAndSize x s m → SignAndSize y s n → Operated dividedBy x y (is (m / n))
+  quotientsBelow : {x y m n : ℕ} {s t : Bool} → (y ≡ 0 → ⊥) → SignAndSize x s m → SignAndSize y t n → (s ≡ t → ⊥)
       → Operated dividedBy x y (is ((65536 - m / n) % 65536))
   noQuotient : {x y : ℕ} → y ≡ 0 → Operated dividedBy x y (no 13)
   -- "AND, OR .. work on all 16 bits"
-  both : {x y : ℕ} → Operated andBits x y (is (bitAnd x y))
-  either : {x y : ℕ} → Operated orBits x y (is (bitOr x y))
+  ofAnd : {x y : ℕ} → Operated andBits x y (is (bitAnd x y))
+  ofOr : {x y : ℕ} → Operated orBits x y (is (bitOr x y))
   relates : {o : Op} {x y b : ℕ} → Related o x y b → Operated o x y (is b)
 
 -- "MOD is the remainder's absolute value"
 pub data Remains : ℕ → ℕ → Result ℕ → Type 0 where
-  remainders : {x y m n : ℕ} {s t : Bool} → (y ≡ 0 → ⊥) → Signed x s m → Signed y t n → Remains x y (is (m % n))
+  remainders : {x y m n : ℕ} {s t : Bool} → (y ≡ 0 → ⊥) → SignAndSize x s m → SignAndSize y t n → Remains x y (is (m % n))
   noRemainder : {x y : ℕ} → y ≡ 0 → Remains x y (no 13)
 
 pub data ValueOf (e : Env) (w : World) : Expr → Result ℕ → Type 0 where
@@ -96,7 +96,7 @@ pub data FirstRefused (e : Env) (w : World) : List Expr → ℕ → Type 0 where
 -- "A string in memory runs to its first CR"
 pub record StringAt (memory : List ℕ) (p : ℕ) (bs : List ℕ) : Type 0 where
   pub rest : List ℕ
-  pub stands : drop p memory ≡ bs ++ (13 ∷ rest)
+  pub stands : drop p memory ≡ bs ++ (byteCR ∷ rest)
   pub first : All notCR bs
 
 -- "no CR found", in memory or input, from a position on
@@ -105,13 +105,13 @@ NoCR l p = All notCR (drop p l)
 
 -- decimal digits: one of a number below 10; of another those of its tenth part, and then its last
 pub data Decimal : ℕ → List ℕ → Type 0 where
-  oneDigit : {n : ℕ} → n < 10 → Decimal n ((48 + n) ∷ [])
-  moreDigits : {n : ℕ} {ds : List ℕ} → 10 ≤ n → Decimal (n / 10) ds → Decimal n (ds ++ ((48 + n % 10) ∷ []))
+  oneDigit : {n : ℕ} → n < 10 → Decimal n ((byte "0" + n) ∷ [])
+  moreDigits : {n : ℕ} {ds : List ℕ} → 10 ≤ n → Decimal (n / 10) ds → Decimal n (ds ++ ((byte "0" + n % 10) ∷ []))
 
 -- "A number prints as a space or '-', digits, a space"
 pub data PrintedAs : ℕ → List ℕ → Type 0 where
-  shown : {x m : ℕ} {ds : List ℕ} → Signed x false m → Decimal m ds → PrintedAs x (32 ∷ (ds ++ (32 ∷ [])))
-  shownBelow : {x m : ℕ} {ds : List ℕ} → Signed x true m → Decimal m ds → PrintedAs x (45 ∷ (ds ++ (32 ∷ [])))
+  shown : {x m : ℕ} {ds : List ℕ} → SignAndSize x false m → Decimal m ds → PrintedAs x (byte " " ∷ (ds ++ (byte " " ∷ [])))
+  shownBelow : {x m : ℕ} {ds : List ℕ} → SignAndSize x true m → Decimal m ds → PrintedAs x (byte "-" ∷ (ds ++ (byte " " ∷ [])))
 
 -- the bytes of one of PRINT's items, or its refusal
 pub data ItemBytes (e : Env) (w : World) : Item → Result (List ℕ) → Type 0 where

@@ -7,7 +7,7 @@ use mathlib.Core.List.{List, [], _∷_, _++_}
 use mathlib.Core.Option.{some}
 use lib.ListN.{length, getD, drop, set}
 use lib.Seq.{sets}
-use Rattle.nibl.specs.Bytes.{bytes}
+use Rattle.nibl.specs.Bytes.{bytes, byteCR, byteLF}
 use Rattle.nibl.specs.Tree.{Expr, Item, Stmt, letVar, letStat, letByte, letCopy, letText, goto, gosub, until, return, doLoop, remark, end, print, ifThen, for, next, input, inputText}
 use Rattle.nibl.specs.Values.{is, no}
 use Rattle.nibl.specs.Stack.{noPlace, noEntry}
@@ -94,7 +94,7 @@ pub data Past (f : ForEntry) (x : ℕ) : Type 0 where
 
 -- "a store writes its CR too"
 abbrev pub withCR : List ℕ → List ℕ
-withCR bs = bs ++ (13 ∷ [])
+withCR bs = bs ++ (byteCR ∷ [])
 
 abbrev pub HasBytes : World → ℕ → List ℕ → Type 0
 HasBytes w p bs = p + length bs ≤ length (w .memory)
@@ -179,7 +179,7 @@ pub data RefusedWith (e : Env) (w : World) : Stmt → ℕ → World → Type 0 w
   -- "PRINT works item by item, 16 before 17"; "PRINT items already out stay"
   noRoomForItem : {items : List Item} {i : Item} {bs : List ℕ} {u : World} (b : Bool) → UpTo e items w i u → ItemBytes e u i (is bs) → NoRoom u bs
       → RefusedWith e w (print items b) 17 u
-  noRoomForEnd : {items : List Item} {u : World} → AllOut e items w u → NoRoom u (13 ∷ 10 ∷ []) → RefusedWith e w (print items false) 17 u
+  noRoomForEnd : {items : List Item} {u : World} → AllOut e items w u → NoRoom u (byteCR ∷ byteLF ∷ []) → RefusedWith e w (print items false) 17 u
   -- "INPUT: address value, 17, 7, 6, values, 16"; "the '?' stays, a gathered reply is taken, and variables already given stay given"
   noRoomToAsk : {q : Stmt} → Asking e w q → NoRoom w (bytes "?") → RefusedWith e w q 17 w
   noReply : {q : Stmt} → Asking e w q → HasRoom w (bytes "?") → NoCR (e .input) (w .inpos) → RefusedWith e w q 7 (wroteItem w (bytes "?"))
@@ -232,8 +232,8 @@ pub data Performs (e : Env) (w : World) : Stmt → Done → Type 0 where
       → Performs e w (next v) (done on (withSession w (withFors (withVar (w .session) v (stepAdded w v f)) (poppedFor (w .session .fors)))))
   -- "PRINT ends with CR LF unless ';'"
   prints : {items : List Item} {u : World} → AllOut e items w u → Performs e w (print items true) (done on u)
-  printsEnd : {items : List Item} {u : World} → AllOut e items w u → HasRoom u (13 ∷ 10 ∷ [])
-      → Performs e w (print items false) (done on (wroteItem u (13 ∷ 10 ∷ [])))
+  printsEnd : {items : List Item} {u : World} → AllOut e items w u → HasRoom u (byteCR ∷ byteLF ∷ [])
+      → Performs e w (print items false) (done on (wroteItem u (byteCR ∷ byteLF ∷ [])))
   inputs : {vs : List ℕ} {g : Gathered} {es : List Expr} {u : World} → Replied e w g → g .line .long ≡ false → ReplyReading (length vs) (g .line .bytes) es
       → AllGiven e vs es (afterReply w g) u → Performs e w (input vs) (done on u)
   -- "INPUT '$' stores the gathered line, any kept bytes, and CR"

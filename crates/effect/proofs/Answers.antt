@@ -12,7 +12,7 @@ use Rattle.value.specs.declared.Wrote.{Wrote}
 use Rattle.value.specs.declared.Wrote.the-variants as wrote
 use Rattle.world.specs.Stores.{storeGave, storeLeaves, afterStoreIn}
 use Rattle.world.specs.declared.memory.StoreEnd.{StoreEnd}
-use Rattle.world.specs.declared.memory.StoreEnd.the-variants as ended
+use Rattle.world.specs.declared.memory.StoreEnd.the-variants as storeEnd
 use Rattle.world.proofs.memory.Strings.{StringRuns}
 use Rattle.world.proofs.memory.Storing.{left-in}
 use Rattle.world.specs.Hearing.{hears, hearing, heardIn}
@@ -37,8 +37,8 @@ module _ (p : Parts) (vars memory output : List ℕ) where
   put-in wrote.Full h = rw (not-out h .0, not-out h .1)
 
   stored-in : (k : StoreEnd) (m : List ℕ) → didIn (did (storedWay k) p) vars m output ≡ afterStoreIn world (storeGave k m)
-  stored-in ended.Done m = refl
-  stored-in (ended.No n) m = refl
+  stored-in storeEnd.Done m = refl
+  stored-in (storeEnd.No n) m = refl
 
   -- and so is a store
   pub store-in : (k : StoreEnd) {m : List ℕ} (r : Result (List ℕ)) → storeGave k m ≡ storeLeaves memory r → didIn (did (storedWay k) p) vars m output ≡ keepIn world r

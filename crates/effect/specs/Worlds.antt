@@ -2,6 +2,7 @@
 use Prim.Native.Nat.{ℕ}
 use mathlib.Core.List.{List, [], _∷_, _++_}
 use mathlib.Core.Path.{_≡_}
+use Rattle.nibl.specs.Bytes.{byteCR}
 use Rattle.nibl.specs.Meaning.{World, Env, Done, done, given, put, stringAt, storeAt, keepIn}
 use Rattle.nibl.specs.Record.{nowhere, sessionOf}
 use Rattle.nibl.specs.declared.Place.{Place}
@@ -12,7 +13,7 @@ use Rattle.world.specs.Turns.{wayOf}
 use Rattle.world.specs.declared.jump.Way.{Way}
 use Rattle.world.specs.declared.jump.Way.the-variants as way
 use Rattle.world.specs.declared.memory.StoreEnd.{StoreEnd}
-use Rattle.world.specs.declared.memory.StoreEnd.the-variants as ended
+use Rattle.world.specs.declared.memory.StoreEnd.the-variants as storeEnd
 use Rattle.value.specs.declared.Wrote.{Wrote}
 use Rattle.value.specs.declared.Wrote.the-variants as wrote
 use Rattle.world.specs.Hearing.{hearing, heardIn}
@@ -50,8 +51,8 @@ partsAt p i o = record { flags = p .flags; gosubs = p .gosubs; dos = p .dos; for
 
 -- how a store ended, and an output item: it is out whole, or 17
 abbrev pub storedWay : StoreEnd → Way
-storedWay ended.Done = way.On
-storedWay (ended.No n) = way.Stop n
+storedWay storeEnd.Done = way.On
+storedWay (storeEnd.No n) = way.Stop n
 
 abbrev pub wroteIn : Parts → Wrote → Did
 wroteIn p (wrote.To o) = did way.On (partsAt p (p .inpos) o)
@@ -67,7 +68,7 @@ putStored a w = given (stringAt (w .memory) a) w (λ bs. put bs w)
 
 -- INPUT of a string: the reply and its CR go into memory
 abbrev pub keepText : ℕ → World → List ℕ → Done
-keepText x w bs = keepIn w (storeAt (w .memory) x (bs ++ (13 ∷ [])))
+keepText x w bs = keepIn w (storeAt (w .memory) x (bs ++ (byteCR ∷ [])))
 
 abbrev pub keepReply : ℕ → List ℕ → ℕ → World → Done
 keepReply lim input x w = heardIn w (hearing lim input (w .inpos) (w .output) (w .outpos)) (keepText x)

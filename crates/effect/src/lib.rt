@@ -5,7 +5,7 @@ ghost use mathlib.Core.List.{[], _∷_};
 ghost use mathlib.Core.Path.{_≡_};
 ghost use lib.Dec.{leb, eqb};
 ghost use lib.ListN.{length, set};
-ghost use Rattle.nibl.specs.Bytes.{if_then_else_};
+ghost use Rattle.nibl.specs.Bytes.{if_then_else_, byteCR, byteLF};
 ghost use Rattle.nibl.specs.Meaning.{on, skip, stop};
 ghost use Rattle.world.specs.Turns.{wayOf, turned};
 ghost use Rattle.value.specs.Writes.{Writes};
@@ -159,7 +159,7 @@ fn print_byte(output: &mut [u8], at: usize, b: u8) -> Wrote
 
 // CR LF.
 fn print_end(output: &mut [u8], at: usize) -> Wrote
-    ensures { λ r. ⌜ Writes (now (output .entry)) at (13 ∷ 10 ∷ []) r (now (output .exit)) ⌝ }
+    ensures { λ r. ⌜ Writes (now (output .entry)) at (byteCR ∷ byteLF ∷ []) r (now (output .exit)) ⌝ }
 {
     let end = [nibl::CR, nibl::LF];
     value::write_item(output, at, &end)

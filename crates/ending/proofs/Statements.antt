@@ -34,7 +34,7 @@ use Rattle.ending.specs.Lends.{Lists, Accepted, IsStatement}
 use Rattle.ending.proofs.Lent.{may-run, world-same}
 
 module _ {reply replies values ops page text : List ℕ} {n budget : ℕ} {s : Session}
-    (l : Lists reply replies values ops) (a : Accepted (length reply) page budget s) (st : IsStatement text n ops)
+    (l : Lists reply replies values ops) (a : Accepted (length reply) page budget s) (one : IsStatement text n ops)
     (input : List ℕ) (sense inpos outpos : ℕ) (memory output : List ℕ) where
   abbrev env : Env
   env = envWith (length reply) page input sense (place mark)
@@ -45,31 +45,31 @@ module _ {reply replies values ops page text : List ℕ} {n budget : ℕ} {s : S
   pub fair : Fair page (take n ops) values reply replies
   fair =
       let f = ready-fair (may-run {q = 0} l a refl memory output inpos outpos) in
-      let e = length-take-le n ops (st .few) in
+      let e = length-take-le n ops (one .few) in
       let h = l .stack in
-      let k = st .few in
+      let k = one .few in
       record { places = f .places; top = f .top; stack = omega arith; replyOps = f .replyOps; replyValues = f .replyValues; short = f .short }
 
   pub executes : {d : Done} {parts : Parts} → parts ≡ partsOf s inpos outpos
-      → d ≡ runOps env (take n ops) (worldWith (s .vars) parts memory output) [] → d ≡ exec env (st .tree) world
+      → d ≡ runOps env (take n ops) (worldWith (s .vars) parts memory output) [] → d ≡ exec env (one .tree) world
   executes e h =
       h ∙ ap (λ (p : Parts). runOps env (take n ops) (worldWith (s .vars) p memory output) []) e
       ∙ ap (λ (w : World). runOps env (take n ops) w []) (world-same s (a .idle) memory output inpos outpos)
-      ∙ ap (λ (o : List ℕ). runOps env o world []) (st .codes)
-      ∙ compiled env (st .tree) world (typed-fine text (st .tree) (st .reads))
+      ∙ ap (λ (o : List ℕ). runOps env o world []) (one .codes)
+      ∙ compiled env (one .tree) world (typed-fine text (one .tree) (one .reads))
 
-  pub obeyed : {d : Done} → d ≡ exec env (st .tree) world → afterImmediate budget env d ≡ obeyRead budget env world (typed text)
+  pub obeyed : {d : Done} → d ≡ exec env (one .tree) world → afterImmediate budget env d ≡ obeyRead budget env world (typed text)
   unfolding obey
   obeyed e =
       ap (afterImmediate budget env) e
-      ∙ sym (ap (obeyRead budget env world) (st .reads)
-      ∙ ap (λ (b : Bool). elim b [ true ↦ stops 3 world page | false ↦ afterImmediate budget env (exec env (st .tree) world) ]) (st .free))
+      ∙ sym (ap (obeyRead budget env world) (one .reads)
+      ∙ ap (λ (b : Bool). elim b [ true ↦ stops 3 world page | false ↦ afterImmediate budget env (exec env (one .tree) world) ]) (one .free))
 
-  goes : Goes page (exec env (st .tree) world)
-  goes = immediate-goes env (length reply) (l .short) (a .good) (st .tree) world refl (st .free) (a .fits)
+  goes : Goes page (exec env (one .tree) world)
+  goes = immediate-goes env (length reply) (l .short) (a .good) (one .tree) world refl (one .free) (a .fits)
 
   -- where it goes on a run may stand, and the record fits
-  pub onto : {q : ℕ} {w : World} → done (go q) w ≡ exec env (st .tree) world → Stands page q × Fit (placesOf page) (w .session)
+  pub onto : {q : ℕ} {w : World} → done (go q) w ≡ exec env (one .tree) world → Stands page q × Fit (placesOf page) (w .session)
   onto e = by (subst (Goes page) (sym e) goes) where
     by : {q : ℕ} {w : World} → Goes page (done (go q) w) → Stands page q × Fit (placesOf page) (w .session)
     by (toPlace h f) = (h, f)

@@ -178,7 +178,7 @@ pub fn immediate<'a>(
         Way::Skip => stopped(0, next, inpos, outpos),
         Way::Stop(k) => stopped(k, next, inpos, outpos),
         Way::Go(from) => {
-            let onward = Call {
+            let going = Call {
                 inpos: inpos,
                 outpos: outpos,
                 sense: call.sense,
@@ -191,7 +191,7 @@ pub fn immediate<'a>(
                 memory,
                 input,
                 output,
-                onward,
+                going,
                 typed,
                 reply,
                 replies,

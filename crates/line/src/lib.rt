@@ -99,7 +99,7 @@ pub fn read_list(text: &[u8], ops: &mut [u32]) -> ListRead
 }
 
 // Whether p is the end of one of the members of a text. A text that is no statement list has none.
-pub fn is_end(text: &[u8], p: usize, ops: &mut [u32]) -> EndRead
+pub fn ends_member(text: &[u8], p: usize, ops: &mut [u32]) -> EndRead
     ensures { λ r. ⌜ r ≡ (if hasRoom (now (text .entry)) (now (ops .entry)) then EndRead.Is (isAmong (endsOf 0 (length (now (text .entry))) (reading (now (text .entry)))) p) else EndRead.NoRoom) ⌝ }
     ensures { λ r. ⌜ now (ops .exit) ≡ (if hasRoom (now (text .entry)) (now (ops .entry)) then zeros (now (ops .entry)) else now (ops .entry)) ⌝ }
 {

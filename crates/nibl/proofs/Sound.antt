@@ -98,11 +98,11 @@ module _ (rd rd' : Part → Reader Expr) where
   factor-same s h (sign k) t w = chosen k (factor-cases s t h (word-over w .short)) (λ _. neither) w
 
   -- one more operand and what follows it; or none
-  onward-same : (p q : Part) (js : Joints) (go go' : Expr → Reader Expr) (a : Expr) (s : List ℕ) → Reads p s a s
+  joined-on-same : (p q : Part) (js : Joints) (go go' : Expr → Reader Expr) (a : Expr) (s : List ℕ) → Reads p s a s
       → ((o : Op) (b : Expr) (t u : List ℕ) → Joint W js s o t → Reads q t b u → Same (Reads p s) (go (two o a b) u) (go' (two o a b) u))
       → Below (4 * length s) → Same (Reads p s) (moreOperands rd js q go a s) (moreOperands rd' js q go' a s)
   unfolding _>>=_
-  onward-same p q js go go' a s z f h =
+  joined-on-same p q js go go' a s z f h =
       or-else _ _ s (joint-same js s) (λ o t j. and-then (h q t (omega (arith, rank-le q, joint-over j .short))) (λ b u r. f o b t u j r)) (gives z)
 
   part-same : (p : Part) (s : List ℕ) → Below (measure p s) → Same (Reads p s) (part rd p s) (part rd' p s)
@@ -119,19 +119,19 @@ module _ (rd rd' : Part → Reader Expr) where
   part-same relationPart s h =
       and-then (h sumPart s (omega arith)) (λ a t u. as-so (λ b v r. r .1 s u) (h (relatedPart a) t (omega (arith, sum-over u .short))))
   part-same (factorsPart a) s h =
-      onward-same (factorsPart a) factorPart factorJoints (λ b. rd (factorsPart b)) (λ b. rd' (factorsPart b)) a s (here, λ r t. t)
+      joined-on-same (factorsPart a) factorPart factorJoints (λ b. rd (factorsPart b)) (λ b. rd' (factorsPart b)) a s (here, λ r t. t)
       (λ o b t u j f.
       let l = (joint-over j ⨾ factor-over f) in
       as-so (λ c v q. (outside-trans (l .out) (q .0), λ r x. q .1 r (factors x j f))) (h (factorsPart (two o a b)) u (omega arith)))
       (λ p t l. h p t (omega arith))
   part-same (termsPart a) s h =
-      onward-same (termsPart a) termPart termJoints (λ b. rd (termsPart b)) (λ b. rd' (termsPart b)) a s (here, λ r t. t)
+      joined-on-same (termsPart a) termPart termJoints (λ b. rd (termsPart b)) (λ b. rd' (termsPart b)) a s (here, λ r t. t)
       (λ o b t u j f.
       let l = (joint-over j ⨾ term-over f) in
       as-so (λ c v q. (outside-trans (l .out) (q .0), λ r x. q .1 r (terms x j f))) (h (termsPart (two o a b)) u (omega arith)))
       (λ p t l. h p t (omega arith))
   part-same (relatedPart a) s h =
-      onward-same (relatedPart a) sumPart sumJoints give give a s (here, λ r u. aSum u)
+      joined-on-same (relatedPart a) sumPart sumJoints give give a s (here, λ r u. aSum u)
       (λ o b t u j f. gives ((joint-over j ⨾ sum-over f) .out, λ r x. related x j f))
       (λ p t l. h p t (omega arith))
 

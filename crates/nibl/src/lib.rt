@@ -32,6 +32,9 @@ pub const MARK: u16 = 65535;
 // The pause of a record that has none.
 pub const NOWHERE: u16 = 0;
 
+// The pause at the program's start.
+const AT_START: u16 = 1;
+
 // The line of an answer whose stop no program statement gave. No line has this number.
 pub const NO_LINE: u16 = 65535;
 
@@ -276,11 +279,19 @@ impl Paused {
         ensures { λ r. ⌜ pauseNumber r ≡ number ⌝ }
     {
         match number {
-            0 => Paused::Nowhere,
-            1 => Paused::At(Onward::Start),
-            _ => Paused::At(Onward::After(Place(number - 2))),
+            NOWHERE => Paused::Nowhere,
+            AT_START => Paused::At(Onward::Start),
+            _ => Paused::At(Onward::After(Place::at(number as usize - 2))),
         }
     }
+}
+
+// The number that a record holds for a pause at a position.
+pub fn paused_at(position: usize) -> u16
+    requires { ⌜ position ≤ 65534 ⌝ }
+    ensures { λ r. ⌜ r ≡ pausedAt position ⌝ }
+{
+    (position + 1) as u16
 }
 
 impl Onward {
@@ -289,7 +300,7 @@ impl Onward {
         requires { ⌜ positionOf self ≤ 65534 ⌝ }
         ensures { λ r. ⌜ r ≡ pausedAt (positionOf self) ⌝ }
     {
-        (self.position() + 1) as u16
+        paused_at(self.position())
     }
 }
 
@@ -320,9 +331,10 @@ impl PlaceStack {
     pub fn fresh() -> PlaceStack
         ensures { λ r. ⌜ r ≡ freshPlaces ⌝ }
     {
+        let none = Place::at(0);
         PlaceStack {
             depth: 0,
-            places: [Place(0); 8],
+            places: [none; 8],
         }
     }
 }
@@ -335,7 +347,7 @@ impl ForStack {
             var: 0,
             limit: 0,
             step: 0,
-            place: Place(0),
+            place: Place::at(0),
         };
         ForStack {
             depth: 0,

@@ -23,7 +23,7 @@ use Rattle.reader.specs.Code.{texts, itemCode, itemsCode, endCode, compile}
 use Rattle.operation.specs.Operations.{effectBy, variablesOf, lastBy, isLast, runOps}
 use Rattle.world.specs.Stores.{argsOf}
 use Rattle.operation.specs.Fine.{FineExpr, Every, noMore, each, FineItem, aText, aStored, aValue}
-use Rattle.operation.specs.Fine.{FineStmt, aLetVar, aLetStat, aLetByte, aLetCopy, aLetText, aGoto, aGosub, anUntil, aReturn, aLoop, aRemark, anEnd, aPrint, anIf, aFor, aNext, anInput, anInputText}
+use Rattle.operation.specs.Fine.{FineStmt, aLetVar, aLetStat, aLetByte, aLetCopy, aLetText, aGoto, aGosub, anUntil, aReturn, aDo, aRemark, anEnd, aPrint, anIf, aFor, aNext, anInput, anInputText}
 use Rattle.operation.proofs.Values.{code-of, arg-of, values-run}
 
 -- What a result and an end hand on
@@ -216,7 +216,7 @@ module _ (e : Env) where
   compiled q w (aGosub {a} f) = one a f codeGosub 0 w refl ∙ given-bind (eval e w a) (λ n. lineThere (find (e .page) n)) w (gosubTo e w)
   compiled q w (anUntil {a} f) = one a f codeUntil 0 w refl
   compiled q w aReturn = run-end codeReturn 0 w [] refl
-  compiled q w aLoop = run-end codeDo 0 w [] refl
+  compiled q w aDo = run-end codeDo 0 w [] refl
   compiled q w aRemark = refl
   compiled q w anEnd = run-end codeEnd 0 w [] refl
   compiled q w (aPrint {is} {b} f) = items-run is f w (endCode b) ∙ went-same (putItems e is w) _ (putEnd b) (end-run b)

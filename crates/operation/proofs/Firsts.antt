@@ -24,16 +24,16 @@ given-same w (is a) f g h = h a
 given-same w (no n) f g h = refl
 
 module _ (e : Env) (w : World) where
-  abbrev onward : AtEffect → Done
-  onward b = runOps e (b .rest) w (b .stack)
+  abbrev run-on : AtEffect → Done
+  run-on b = runOps e (b .rest) w (b .stack)
 
-  runs-cons : (o : ℕ) (ops vs : List ℕ) → ((us : List ℕ) → runOps e ops w us ≡ given (valuesFirst (sourcesIn e w) ops us) w onward)
-      → (t : Bool) → ltb (codeIn o) effects ≡ t → runOps e (o ∷ ops) w vs ≡ given (valuesFirst (sourcesIn e w) (o ∷ ops) vs) w onward
+  runs-cons : (o : ℕ) (ops vs : List ℕ) → ((us : List ℕ) → runOps e ops w us ≡ given (valuesFirst (sourcesIn e w) ops us) w run-on)
+      → (t : Bool) → ltb (codeIn o) effects ≡ t → runOps e (o ∷ ops) w vs ≡ given (valuesFirst (sourcesIn e w) (o ∷ ops) vs) w run-on
   unfolding runOps valuesFirst
   runs-cons o ops vs r true h =
       rw (h, runOps, valuesFirst)
-      (given-same w (valueStep (sourcesIn e w) o vs) (λ us. runOps e ops w us) (λ us. given (valuesFirst (sourcesIn e w) ops us) w onward) r
-      ∙ given-bind w (valueStep (sourcesIn e w) o vs) (λ us. valuesFirst (sourcesIn e w) ops us) onward)
+      (given-same w (valueStep (sourcesIn e w) o vs) (λ us. runOps e ops w us) (λ us. given (valuesFirst (sourcesIn e w) ops us) w run-on) r
+      ∙ given-bind w (valueStep (sourcesIn e w) o vs) (λ us. valuesFirst (sourcesIn e w) ops us) run-on)
   runs-cons o ops vs r false h = rw (h, valuesFirst) refl
 
   -- a list runs as its values first, then the rest

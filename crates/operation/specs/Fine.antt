@@ -41,7 +41,7 @@ pub data FineStmt : Stmt → Type 0 where
   aGosub : {a : Expr} → FineExpr a → FineStmt (gosub a)
   anUntil : {a : Expr} → FineExpr a → FineStmt (until a)
   aReturn : FineStmt return
-  aLoop : FineStmt doLoop
+  aDo : FineStmt doLoop
   aRemark : FineStmt remark
   anEnd : FineStmt end
   aPrint : {is : List Item} {b : Bool} → Every FineItem is → FineStmt (print is b)

@@ -6,7 +6,7 @@ use mathlib.Core.Bool.{Bool, true, false, _||_}
 use mathlib.Core.List.{List, [], _∷_, _++_, map}
 use lib.Dec.{ltb, leb, eqb}
 use lib.ListN.{length, getD, drop}
-use Rattle.nibl.specs.Bytes.{if_then_else_}
+use Rattle.nibl.specs.Bytes.{if_then_else_, byteCR, byteLF}
 use Rattle.nibl.specs.Values.{Result, is, Value, sub16, not16, mod16, apply, printed}
 use Rattle.nibl.specs.Stack.{popOf, popFor}
 use Rattle.nibl.specs.Page.{find, used}
@@ -79,7 +79,7 @@ effectBy e code arg x y z w =
     if eqb code codeSetVariable then done on (withSession w (withVar (w .session) arg x))
     else if eqb code codeSetStat then done on (withSession w (withFlags (w .session) (x % 8)))
     else if eqb code codeSetByte then keepIn w (storeAt (w .memory) y (x % 256 ∷ []))
-    else if eqb code codeCopyString then keepIn w (bind (stringAt (w .memory) x) (λ bs. storeAt (w .memory) y (bs ++ (13 ∷ []))))
+    else if eqb code codeCopyString then keepIn w (bind (stringAt (w .memory) x) (λ bs. storeAt (w .memory) y (bs ++ (byteCR ∷ []))))
     else if eqb code codeGoto then given (lineThere (find (e .page) x)) w (λ q. done (go q) w)
     else if eqb code codeGosub then given (lineThere (find (e .page) x)) w (gosubTo e w)
     else if eqb code codeReturn then returnBy w (popOf (w .session .gosubs) .top)
@@ -87,13 +87,13 @@ effectBy e code arg x y z w =
     else if eqb code codePrintByte then put (arg % 256 ∷ []) w
     else if eqb code codePrintString then given (stringAt (w .memory) x) w (λ bs. put bs w)
     else if eqb code codePrintNumber then put (printed x) w
-    else if eqb code codePrintEnd then put (13 ∷ 10 ∷ []) w
+    else if eqb code codePrintEnd then put (byteCR ∷ byteLF ∷ []) w
     else if eqb code codeIf then (if eqb x 0 then done skip w else done on w)
     else if eqb code codeDo then doHere e w
     else if eqb code codeUntil then untilBy w x (popOf (w .session .dos) .top)
     else if eqb code codeFor then forHere e w (arg % 256) z y x
     else if eqb code codeNext then nextBy w (arg % 256) (popFor (w .session .fors) .top)
-    else if eqb code codeInputString then asked e w (λ u bs. keepIn u (storeAt (u .memory) x (bs ++ (13 ∷ []))))
+    else if eqb code codeInputString then asked e w (λ u bs. keepIn u (storeAt (u .memory) x (bs ++ (byteCR ∷ []))))
     else done (stop 20) w
 
 -- the variables that operations have as their arguments

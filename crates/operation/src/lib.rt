@@ -61,7 +61,7 @@ fn stat_of(sense: u8, flags: u8) -> u16
 }
 
 // TOP: the page's used bytes.
-fn top_of(page: &[u8]) -> u16
+fn used_of(page: &[u8]) -> u16
     requires { ⌜ used (now page) < 65536 ⌝ }
     ensures { λ r. ⌜ r ≡ used (now (page .entry)) ⌝ }
 {
@@ -108,7 +108,7 @@ fn value_by(
         codes::CONSTANT => Value::Is((arg % 65536) as u16),
         codes::VARIABLE => Value::Is(jump::var_of(vars, arg)),
         codes::STAT => Value::Is(stat_of(sense, flags)),
-        codes::TOP => Value::Is(top_of(page)),
+        codes::TOP => Value::Is(used_of(page)),
         codes::BYTE => memory::byte_of(memory, x),
         codes::NOT => Value::Is(value::invert(x)),
         codes::NEGATE => Value::Is(value::negate(x)),

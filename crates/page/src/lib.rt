@@ -8,7 +8,7 @@ ghost use lib.Dec.{leb, eqb};
 ghost use mathlib.Core.Path.{_≡_};
 ghost use lib.ListN.{length, getD, drop};
 ghost use lib.Seq.{paste};
-ghost use Rattle.nibl.specs.Bytes.{if_then_else_};
+ghost use Rattle.nibl.specs.Bytes.{if_then_else_, byte};
 ghost use Rattle.nibl.specs.Page.{recordBytes, isEnd, find, lineAt, lengthAt, lineOf, used, usedBy, recordsOf};
 ghost use Rattle.nibl.specs.Record.{positionOf};
 ghost use Rattle.nibl.specs.Calls.{lineFrom, textFrom, listed};
@@ -83,7 +83,7 @@ fn byte_at(s: &[u8], i: usize) -> u8
 }
 
 // Whether the end mark stands at `at`, where two bytes stand.
-fn is_mark(page: &[u8], at: usize) -> bool
+fn is_end_mark(page: &[u8], at: usize) -> bool
     requires { ⌜ at + 2 ≤ length (now page) ⌝ }
     ensures { λ r. ⌜ r ≡ isEnd (drop at (now (page .entry))) ⌝ }
 {
@@ -104,11 +104,11 @@ pub fn is_end(page: &[u8], at: usize) -> bool
     if n - at < 2 {
         return false;
     }
-    is_mark(page, at)
+    is_end_mark(page, at)
 }
 
 // Whether a record stands at `at`.
-fn stands(page: &[u8], at: usize) -> bool
+fn has_record(page: &[u8], at: usize) -> bool
     ensures { λ r. ⌜ r ≡ not (stopsAt (drop at (now (page .entry)))) ⌝ }
 {
     let n = page.len();
@@ -118,7 +118,7 @@ fn stands(page: &[u8], at: usize) -> bool
     if n - at < 3 {
         return false;
     }
-    if is_mark(page, at) {
+    if is_end_mark(page, at) {
         return false;
     }
     LEAST <= length_at(page, at)
@@ -136,7 +136,7 @@ fn length_at(page: &[u8], at: usize) -> usize
 pub fn size_at(page: &[u8], at: usize) -> usize
     ensures { λ r. ⌜ r ≡ sizeAt (drop at (now (page .entry))) ⌝ }
 {
-    if !stands(page, at) {
+    if !has_record(page, at) {
         return 0;
     }
     let size = length_at(page, at);
@@ -186,7 +186,7 @@ fn used_from(page: &[u8], from: usize) -> usize
     ensures { λ r. ⌜ r ≡ from + usedBy (recordsOf (drop from (now (page .entry)))) ⌝ }
 {
     let mut at = from;
-    while stands(page, at) {
+    while has_record(page, at) {
         at += length_at(page, at);
     }
     reach(page, at) + 2
@@ -218,7 +218,7 @@ pub fn find_line(page: &[u8], number: LineNumber) -> FoundLine
 {
     let n = number.0;
     let mut at: usize = 0;
-    while stands(page, at) {
+    while has_record(page, at) {
         if number_at(page, at) == n {
             return found_at(at);
         }
@@ -265,7 +265,7 @@ fn text_end(s: &[u8], at: usize) -> usize
 }
 
 // The text from `at` on, up to the next CR.
-fn text_at<'a>(s: &'a [u8], at: usize) -> &'a [u8]
+fn line_from<'a>(s: &'a [u8], at: usize) -> &'a [u8]
     ensures { λ r. ⌜ now r ≡ lineFrom (now (s .entry)) at ⌝ }
 {
     if s.len() <= at {
@@ -280,14 +280,14 @@ pub fn running<'a>(page: &'a [u8], line: &'a [u8], at: Where) -> &'a [u8]
     ensures { λ r. ⌜ now r ≡ textOf (now (page .entry)) (now (line .entry)) at ⌝ }
 {
     match at {
-        Where::Page(a) => text_at(page, a),
+        Where::Page(a) => line_from(page, a),
         Where::Line => line,
     }
 }
 
 // Whether a ":" stands before `at`.
 fn after_colon(page: &[u8], at: usize) -> bool
-    ensures { λ r. ⌜ r ≡ (leb 1 at && eqb (getD (now (page .entry)) (at - 1) 0) 58) ⌝ }
+    ensures { λ r. ⌜ r ≡ (leb 1 at && eqb (getD (now (page .entry)) (at - 1) 0) (byte ":")) ⌝ }
 {
     if at < 1 {
         return false;
@@ -315,7 +315,7 @@ fn find_seat(page: &[u8], number: LineNumber) -> Seat
 {
     let n = number.0;
     let mut at: usize = 0;
-    while stands(page, at) {
+    while has_record(page, at) {
         let line = number_at(page, at);
         if line == n {
             let size = size_at(page, at);

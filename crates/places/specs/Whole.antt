@@ -4,7 +4,7 @@ use mathlib.Core.Bool.{Bool, _&&_}
 use mathlib.Core.List.{List}
 use lib.ListN.{length, getD}
 use lib.Dec.{leb, eqb}
-use Rattle.nibl.specs.Bytes.{if_then_else_}
+use Rattle.nibl.specs.Bytes.{if_then_else_, byteCR}
 use Rattle.nibl.specs.Page.{lengthAt, isRecord}
 
 -- an operation to each byte; a text is a record's
@@ -14,7 +14,7 @@ pub record Roomy (text ops : List ℕ) : Type 0 where
 
 -- the bytes that the length byte names are there, and a CR ends them
 abbrev pub isWholeRecord : List ℕ → Bool
-isWholeRecord q = leb 5 (lengthAt q) && (leb (lengthAt q) (length q) && eqb (getD q (lengthAt q - 1) 0) 13)
+isWholeRecord q = leb 5 (lengthAt q) && (leb (lengthAt q) (length q) && eqb (getD q (lengthAt q - 1) 0) byteCR)
 
 unfoldable pub wholeSize : List ℕ → ℕ
 wholeSize q = if isWholeRecord q then lengthAt q else 0

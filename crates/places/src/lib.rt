@@ -32,7 +32,7 @@ fn ends_at(text: &[u8], p: usize, ops: &mut [u32]) -> bool
     requires { ⌜ Roomy (now text) (now ops) ⌝ }
     ensures { λ r. ⌜ r ≡ isAmong (endsOf 0 (length (now (text .entry))) (reading (now (text .entry)))) p ⌝ }
 {
-    match line::is_end(text, p, ops) {
+    match line::ends_member(text, p, ops) {
         EndRead::Is(ends) => ends,
         EndRead::NoRoom => false,
     }

@@ -3,6 +3,7 @@ use Prim.Native.Nat.{ℕ, _+_}
 use mathlib.Core.Bool.{Bool, true, false}
 use mathlib.Core.List.{List, [], _∷_, _++_, map}
 use lib.ListN.{length}
+use Rattle.nibl.specs.Bytes.{byteCR}
 use Rattle.nibl.specs.Tree.{Item, text, stored, value}
 use Rattle.nibl.specs.Tree.{Stmt, letVar, letStat, letByte, letCopy, letText, goto, gosub, until, return, doLoop, remark, end, print, ifThen, for, next, input, inputText}
 use Rattle.relation.specs.Code.{values}
@@ -29,7 +30,7 @@ unfoldable pub compile : Stmt → List ℕ
 compile (letVar v a) = values a ++ (op codeSetVariable v ∷ [])
 compile (letStat a) = values a ++ (op codeSetStat 0 ∷ [])
 compile (letByte a b) = values a ++ (values b ++ (op codeSetByte 0 ∷ []))
-compile (letText a bs) = values a ++ (op codeStoreString (length bs + 1) ∷ (texts codeStringByte bs ++ (op codeStringByte 13 ∷ [])))
+compile (letText a bs) = values a ++ (op codeStoreString (length bs + 1) ∷ (texts codeStringByte bs ++ (op codeStringByte byteCR ∷ [])))
 compile (letCopy a b) = values a ++ (values b ++ (op codeCopyString 0 ∷ []))
 compile (goto a) = values a ++ (op codeGoto 0 ∷ [])
 compile (gosub a) = values a ++ (op codeGosub 0 ∷ [])

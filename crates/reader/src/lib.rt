@@ -53,7 +53,7 @@ pub enum MemberRead {
 }
 
 // The CR that a stored string ends with, as an operation.
-const STRING_END: u32 = 13 * codes::CODES + codes::STRING_BYTE;
+const STRING_END: u32 = nibl::CR as u32 * codes::CODES + codes::STRING_BYTE;
 
 // The step of FOR where none is given, as an operation.
 const STEP_OF_ONE: u32 = codes::CODES + codes::CONSTANT;

@@ -12,7 +12,7 @@ use Rattle.nibl.proofs.Sound.{read-term, read-relation, read-related}
 use Rattle.relation.specs.Code.{values}
 use Rattle.codes.specs.Codes.{op, codeOperator, codeNegate, codeMod}
 use Rattle.codes.specs.Operators.{opNumber}
-use Rattle.relation.specs.Makes.{ahead, need, Begins, Written, Gives, stopped, refused, Reads, Makes, Leads, onto, only, bare, Over, Stood, stood, Absent, absent, KeyIs, JointIs, LeadIs, seconding, whole, prefix, bracket, pair, other, AtomIs, missing, goes}
+use Rattle.relation.specs.Makes.{ahead, need, FirstTerm, Written, Gives, stopped, refused, Reads, Makes, Leads, onto, only, bare, Over, Stood, stood, Absent, absent, KeyIs, JointIs, LeadIs, seconding, whole, prefix, bracket, pair, other, AtomIs, missing, goes}
 use Rattle.relation.specs.declared.Made.{Made}
 use Rattle.relation.specs.declared.Made.the-variants.{Next, NoReading}
 use Rattle.relation.specs.declared.Joined.{Joined}
@@ -138,11 +138,11 @@ module _ {text : List ℕ} where
         }
 
   -- The first term of a sum
-  pub begins-plain : {ops ops1 : List ℕ} {r m s : Made} → LeadIs text r (Plain m) → Makes (read term) values text ops m ops1 s → Begins text ops r ops1 s
+  pub begins-plain : {ops ops1 : List ℕ} {r m s : Made} → LeadIs text r (Plain m) → Makes (read term) values text ops m ops1 s → FirstTerm text ops r ops1 s
   begins-plain l y = record { low = omega (arith, l .1, y .low); few = λ k. omega (arith, l .2 k, y .few k); on = λ ops2 t z. sum-plain l y z }
 
   pub begins-minus : {ops ops1 ops2 : List ℕ} {r m s t : Made} → LeadIs text r (Minus m) → Makes (read term) values text ops m ops1 s → Written (op codeNegate 0) ops1 s ops2 t
-      → Begins text ops r ops2 t
+      → FirstTerm text ops r ops2 t
   begins-minus l y w =
       record {
         low = omega (arith, l .1 .low, y .low, written-ahead w text);

@@ -165,7 +165,7 @@ LeadIs text r (Minus m) = Leads (only (read sum)) (only negated) text r m × Ove
 LeadIs text r (Plain m) = Leads (only (read sum)) (only plainly) text r m × (ahead text m ≤ ahead text r) × ((k : ℕ) → need k text m ≤ need k text r)
 
 -- the first term of a sum is read from r to s: with the terms joined to it, whatever they are, it is the sum
-pub record Begins (text ops : List ℕ) (r : Made) (ops' : List ℕ) (s : Made) : Type 0 where
+pub record FirstTerm (text ops : List ℕ) (r : Made) (ops' : List ℕ) (s : Made) : Type 0 where
   pub low : ahead text s ≤ ahead text r
   pub few : (k : ℕ) → need k text s ≤ need k text r
   pub on : (ops2 : List ℕ) (t : Made) → Reads (λ a. read (terms a)) values values text ops' s ops2 t → Makes (read sum) values text ops r ops2 t

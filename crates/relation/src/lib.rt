@@ -11,7 +11,7 @@ ghost use mathlib.Core.Path.{_≡_};
 ghost use lib.ListN.{length};
 ghost use Rattle.nibl.specs.Read.{read, factor, term, sum, relation, factors, terms};
 ghost use Rattle.relation.specs.Code.{values};
-ghost use Rattle.relation.specs.Makes.{need, filled, SignIs, KeyIs, numberOf, jointsOf, JointIs, LeadIs, FormIs, cases, AtomIs, Written, Reads, Makes, Begins, firstIn, mayJoin, mayLead};
+ghost use Rattle.relation.specs.Makes.{need, filled, SignIs, KeyIs, numberOf, jointsOf, JointIs, LeadIs, FormIs, cases, AtomIs, Written, Reads, Makes, FirstTerm, firstIn, mayJoin, mayLead};
 ghost use Rattle.nibl.specs.Grammar.{jointOf};
 
 // The cursor past what was read and the number of operations so far, or no reading.
@@ -133,6 +133,11 @@ fn first_of(text: &[u8], r: Made) -> u8
     word::first_at(text, c)
 }
 
+// What the operators that are words begin with.
+const AND_BEGINS: u8 = b'A';
+
+const OR_BEGINS: u8 = b'O';
+
 // Whether an operator that joins factors, terms or sums can begin with a byte.
 fn may_join(level: u8, b: u8) -> bool
     ensures { λ r. ⌜ r ≡ mayJoin (jointsOf level) b ⌝ }
@@ -141,7 +146,7 @@ fn may_join(level: u8, b: u8) -> bool
         return match b {
             sign::TIMES => true,
             sign::DIVIDE => true,
-            b'A' => true,
+            AND_BEGINS => true,
             _ => false,
         };
     }
@@ -149,7 +154,7 @@ fn may_join(level: u8, b: u8) -> bool
         return match b {
             sign::PLUS => true,
             sign::MINUS => true,
-            b'O' => true,
+            OR_BEGINS => true,
             _ => false,
         };
     }
@@ -335,7 +340,7 @@ fn lead_at(text: &[u8], r: Made) -> Lead
 // A sign or none, and the first term of a sum.
 fn first_term(text: &[u8], c: Cursor, o: usize, ops: &mut [u32]) -> Made
     requires { ⌜ need 0 (now text) (Made.Next c o) ≤ length (now ops) ⌝ }
-    ensures { λ s. ⌜ Begins (now (text .entry)) (now (ops .entry)) (Made.Next c o) (now (ops .exit)) s ⌝ }
+    ensures { λ s. ⌜ FirstTerm (now (text .entry)) (now (ops .entry)) (Made.Next c o) (now (ops .exit)) s ⌝ }
 {
     let l = lead_at(text, Made::Next(c, o));
     match l {

@@ -6,7 +6,7 @@ use mathlib.Core.List.{List, _++_}
 use lib.ListN.{length, drop}
 use lib.Seq.{sets}
 use lib.Dec.{leb}
-use Rattle.nibl.specs.Bytes.{if_then_else_}
+use Rattle.nibl.specs.Bytes.{if_then_else_, byte}
 use Rattle.nibl.specs.Values.{Value, is, no, digits, isNegative}
 use Rattle.value.specs.declared.Wrote.{Wrote}
 use Rattle.value.specs.declared.Wrote.the-variants.{To, Full}
@@ -31,4 +31,4 @@ pub record DigitsAt (before : List ℕ) (n first : ℕ) (after : List ℕ) : Typ
   pub bytes : drop first after ≡ digits n ++ drop 7 before
 
 abbrev pub signByte : ℕ → ℕ
-signByte v = if isNegative v then 45 else 32
+signByte v = if isNegative v then byte "-" else byte " "

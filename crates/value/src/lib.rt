@@ -81,7 +81,7 @@ pub fn is_negative(a: u16) -> bool
 }
 
 // The absolute value: that of -32768 is 32768, which is no value of 16 signed bits and is used unsigned.
-pub fn size(a: u16) -> u16
+pub fn magnitude(a: u16) -> u16
     ensures { λ r. ⌜ r ≡ magnitude a ⌝ }
 {
     if a < NEGATIVE {
@@ -96,7 +96,7 @@ pub fn quotient(a: u16, b: u16) -> Value
     if b == 0 {
         return Value::No(BY_ZERO);
     }
-    let q = size(a) / size(b);
+    let q = magnitude(a) / magnitude(b);
     if is_negative(a) == is_negative(b) {
         return Value::Is(q);
     }
@@ -110,8 +110,8 @@ pub fn modulo(a: u16, b: u16) -> Value
     if b == 0 {
         return Value::No(BY_ZERO);
     }
-    let m = size(a);
-    let d = size(b);
+    let m = magnitude(a);
+    let d = magnitude(b);
     Value::Is(m % d)
 }
 
@@ -204,7 +204,7 @@ pub fn write_number(output: &mut [u8], at: usize, v: u16) -> Wrote
     ensures { λ r. ⌜ Writes (now (output .entry)) at (printed v) r (now (output .exit)) ⌝ }
 {
     let mut bytes = [SPACE; 8];
-    let sign = put_digits(&mut bytes, size(v)) - 1;
+    let sign = put_digits(&mut bytes, magnitude(v)) - 1;
     bytes[sign] = sign_byte(v);
     write_item(output, at, &bytes[sign..])
 }

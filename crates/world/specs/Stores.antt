@@ -7,7 +7,7 @@ use Rattle.codes.specs.Codes.{argumentIn}
 use Rattle.world.specs.declared.memory.Extent.{Extent}
 use Rattle.world.specs.declared.memory.Extent.the-variants as extent
 use Rattle.world.specs.declared.memory.StoreEnd.{StoreEnd}
-use Rattle.world.specs.declared.memory.StoreEnd.the-variants as ended
+use Rattle.world.specs.declared.memory.StoreEnd.the-variants as storeEnd
 
 -- where the string ends that begins at an address, or the stop number
 abbrev pub extentOf : Extent → Result ℕ
@@ -24,8 +24,8 @@ afterStore n m = record { next = n; memory = m }
 
 -- what a store's answer says: on, or its stop number
 abbrev pub storeGave : StoreEnd → List ℕ → AfterStore
-storeGave ended.Done m = afterStore on m
-storeGave (ended.No n) m = afterStore (stop n) m
+storeGave storeEnd.Done m = afterStore on m
+storeGave (storeEnd.No n) m = afterStore (stop n) m
 
 -- a refused store leaves the memory as it was
 abbrev pub storeLeaves : List ℕ → Result (List ℕ) → AfterStore

@@ -4,6 +4,7 @@ ghost use mathlib.Core.List.{[], _∷_, _++_};
 ghost use mathlib.Core.Path.{_≡_};
 ghost use lib.ListN.{length};
 ghost use lib.Dec.{leb};
+ghost use Rattle.nibl.specs.Bytes.{byteCR};
 ghost use Rattle.nibl.specs.Values.{is};
 ghost use Rattle.nibl.specs.Meaning.{bind, byteOf, stringAt, storeAt};
 ghost use Rattle.value.specs.Operators.{valueOf};
@@ -89,7 +90,7 @@ pub fn store_args(memory: &mut [u8], a: u16, ops: &[u32]) -> StoreEnd
 
 // A text and its CR are stored, all or nothing.
 pub fn store_text(memory: &mut [u8], a: u16, text: &[u8]) -> StoreEnd
-    ensures { λ r. ⌜ storeGave r (now (memory .exit)) ≡ storeLeaves (now (memory .entry)) (storeAt (now (memory .entry)) a (now (text .entry) ++ (13 ∷ []))) ⌝ }
+    ensures { λ r. ⌜ storeGave r (now (memory .exit)) ≡ storeLeaves (now (memory .entry)) (storeAt (now (memory .entry)) a (now (text .entry) ++ (byteCR ∷ []))) ⌝ }
 {
     let at = a as usize;
     let n = text.len();
@@ -103,7 +104,7 @@ pub fn store_text(memory: &mut [u8], a: u16, text: &[u8]) -> StoreEnd
 
 // A string is copied with its CR, as if it were taken whole first.
 pub fn copy_string(memory: &mut [u8], to: u16, from: u16) -> StoreEnd
-    ensures { λ r. ⌜ storeGave r (now (memory .exit)) ≡ storeLeaves (now (memory .entry)) (bind (stringAt (now (memory .entry)) from) (λ bs. storeAt (now (memory .entry)) to (bs ++ (13 ∷ [])))) ⌝ }
+    ensures { λ r. ⌜ storeGave r (now (memory .exit)) ≡ storeLeaves (now (memory .entry)) (bind (stringAt (now (memory .entry)) from) (λ bs. storeAt (now (memory .entry)) to (bs ++ (byteCR ∷ [])))) ⌝ }
 {
     let first = from as usize;
     match string_end(memory, from) {

@@ -21,7 +21,7 @@ returns-3 c = rw (c .before .match .keys3) (ap is (c .stat-of .ensures))
 
 returns-4 : tie.Need-returns-4
 unfolding valueBy
-returns-4 c = rw (c .before .match .keys4) (ap is (c .top-of .ensures))
+returns-4 c = rw (c .before .match .keys4) (ap is (c .used-of .ensures))
 
 returns-5 : tie.Need-returns-5
 unfolding valueBy

@@ -21,14 +21,14 @@ abbrev μ-loop : tie.MeasureT-loop
 -- what a turn knows of the record that it is at
 turn : (c : tie.Then1 Inv-loop μ-loop) →
     (let p = c .before .before .before .before .args .page .now in let q = drop (c .before .before .loop .at) p in Stood p (c .before .before .loop .at) (lengthAt q))
-turn c = stood _ _ _ refl (sym (c .before .stands .ensures) ∙ c .if1 .taken)
+turn c = stood _ _ _ refl (sym (c .before .has-record .ensures) ∙ c .if1 .taken)
 
 loop-holds : tie.Need-loop-holds Inv-loop μ-loop
 unfolding find
 loop-holds c = let p = c .before .args .page .now in ap (λ (x : ℕ). positionIn (c .before .args .number .0) x (recordsOf p)) (cut-in p 0 (omega arith))
 
-stands-requires : tie.Need-stands-requires Inv-loop μ-loop
-stands-requires c κs = tt
+has-record-requires : tie.Need-has-record-requires Inv-loop μ-loop
+has-record-requires c κs = tt
 
 number-at-requires : tie.Need-number-at-requires Inv-loop μ-loop
 number-at-requires c κs = let m = turn c in omega arith
@@ -81,7 +81,7 @@ returns-2 : tie.Need-returns-2 Inv-loop μ-loop
 returns-2 c =
     let l = c .before .before .loop in
     let a = c .before .before .before .before .args in
-    let e = stops (a .page .now) (l .at) (sym (c .before .stands .ensures) ∙ c .if1 .left) in
+    let e = stops (a .page .now) (l .at) (sym (c .before .has-record .ensures) ∙ c .if1 .left) in
     ap reached (ap (positionIn (a .number .0) (cut (a .page .now) (l .at))) (sym e) ∙ l .inv)
 
 pub find-line-spec : {M : Type 1} → statement M
@@ -91,7 +91,7 @@ find-line-spec =
     Inv-loop
     μ-loop
     loop-holds
-    stands-requires
+    has-record-requires
     number-at-requires
     found-at-requires
     returns

@@ -23,7 +23,7 @@ abbrev μ-loop : tie.MeasureT-loop
 -- what a turn knows of the record that it is at
 turn : (c : tie.Then1 Inv-loop μ-loop) →
     (let p = c .before .before .before .before .args .page .now in let q = drop (c .before .before .loop .at) p in Stood p (c .before .before .loop .at) (lengthAt q))
-turn c = stood _ _ _ refl (sym (c .before .stands .ensures) ∙ c .if1 .taken)
+turn c = stood _ _ _ refl (sym (c .before .has-record .ensures) ∙ c .if1 .taken)
 
 -- a seat that a turn finds at the record that it is at
 seated : (c : tie.Then1 Inv-loop μ-loop) (gone : ℕ) →
@@ -50,8 +50,8 @@ loop-holds c =
     let e = cut-in p 0 (omega arith) in
     (ap (λ (x : ℕ). seatIn (c .before .args .number .0) x (recordsOf p)) e, omega (arith, e))
 
-stands-requires : tie.Need-stands-requires Inv-loop μ-loop
-stands-requires c κs = tt
+has-record-requires : tie.Need-has-record-requires Inv-loop μ-loop
+has-record-requires c κs = tt
 
 number-at-requires : tie.Need-number-at-requires Inv-loop μ-loop
 number-at-requires c κs = let m = turn c in omega arith
@@ -68,7 +68,7 @@ returns c =
     let t = c .before .before .before in
     let m = turn t in
     let e = sym (c .before .before .number-at .ensures) ∙ c .before .if2 .taken in
-    let s = c .size-at .ensures ∙ size-is q (not-true _ (sym (t .before .stands .ensures) ∙ t .if1 .taken)) in
+    let s = c .size-at .ensures ∙ size-is q (not-true _ (sym (t .before .has-record .ensures) ∙ t .if1 .taken)) in
     seated t (c .size-at .result) (rw (m .records, le-ltb (lineAt q) n (omega arith), eq-eqb (lineAt q) n e, s))
 
 returns-2 : tie.Need-returns-2 Inv-loop μ-loop
@@ -124,7 +124,7 @@ returns-3 c =
     let a = c .before .before .before .before .before .args in
     let p = a .page .now in
     let n = a .number .0 in
-    let e = stops p (l .at) (sym (c .before .before .stands .ensures) ∙ c .before .if1 .left) in
+    let e = stops p (l .at) (sym (c .before .before .has-record .ensures) ∙ c .before .if1 .left) in
     let r = c .reach .ensures in
     record {
       is = ap (λ (x : ℕ). record { at = x; gone = 0 }) r ∙ ap (seatIn n (cut p (l .at))) (sym e) ∙ l .inv .0;
@@ -139,7 +139,7 @@ find-seat-spec =
     Inv-loop
     μ-loop
     loop-holds
-    stands-requires
+    has-record-requires
     number-at-requires
     size-at-requires
     returns

@@ -15,11 +15,11 @@ sub-if2 c = search needs
 returns-2 : tie.Need-returns-2
 returns-2 c = let a = c .before .before .before .args in sym (end-past (a .page .now) (a .at) (omega arith))
 
-is-mark-requires : tie.Need-is-mark-requires
-is-mark-requires c κs = search needs
+is-end-mark-requires : tie.Need-is-end-mark-requires
+is-end-mark-requires c κs = search needs
 
 returns-3 : tie.Need-returns-3
-returns-3 c = c .is-mark .ensures
+returns-3 c = c .is-end-mark .ensures
 
 pub is-end-spec : {M : Type 1} → statement M
-is-end-spec = tie.close (tie.spec returns sub-if2 returns-2 is-mark-requires returns-3)
+is-end-spec = tie.close (tie.spec returns sub-if2 returns-2 is-end-mark-requires returns-3)

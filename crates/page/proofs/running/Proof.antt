@@ -5,7 +5,7 @@ use Rattle.page.proofs.running.Statement.{statement}
 use Rattle.page.proofs.running.Tie as tie
 
 returns : tie.Need-returns
-returns c = c .text-at .ensures ∙ sym (rw (c .before .before .at .given .1))
+returns c = c .line-from .ensures ∙ sym (rw (c .before .before .at .given .1))
 
 returns-2 : tie.Need-returns-2
 returns-2 c = sym (rw (c .enum-told .given .1))

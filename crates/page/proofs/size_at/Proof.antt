@@ -12,15 +12,15 @@ use Rattle.page.proofs.size_at.Tie as tie
 
 -- a record begins here
 begins : (c : tie.Else1) → (let a = c .before .before .before .args in stopsAt (drop (a .at) (a .page .now)) ≡ false)
-begins c = not-true _ (sym (c .before .stands .ensures) ∙ not-false _ (c .if1 .left))
+begins c = not-true _ (sym (c .before .has-record .ensures) ∙ not-false _ (c .if1 .left))
 
-stands-requires : tie.Need-stands-requires
-stands-requires c κs = search needs
+has-record-requires : tie.Need-has-record-requires
+has-record-requires c κs = search needs
 
 returns : tie.Need-returns
 returns c =
     let a = c .before .before .before .args in
-    sym (size-none (drop (a .at) (a .page .now)) (not-false _ (sym (c .before .stands .ensures) ∙ not-true _ (c .if1 .taken))))
+    sym (size-none (drop (a .at) (a .page .now)) (not-false _ (sym (c .before .has-record .ensures) ∙ not-true _ (c .if1 .taken))))
 
 length-at-requires : tie.Need-length-at-requires
 length-at-requires c κs =
@@ -54,4 +54,4 @@ returns-3 c =
 pub size-at-spec : {M : Type 1} → statement M
 size-at-spec =
     tie.close
-    (tie.spec stands-requires returns length-at-requires sub-left add-result returns-2 returns-3)
+    (tie.spec has-record-requires returns length-at-requires sub-left add-result returns-2 returns-3)

@@ -19,18 +19,18 @@ abbrev μ-loop : tie.MeasureT-loop
 
 -- what a turn knows of the record that it is at
 turn : (c : tie.After-length-at Inv-loop μ-loop) → Stood (c .before .before .before .before .before .args .page .now) (c .before .before .before .loop .at) (c .length-at .result)
-turn c = stood _ _ _ (c .length-at .ensures) (sym (c .before .before .stands .ensures) ∙ c .before .if1 .taken)
+turn c = stood _ _ _ (c .length-at .ensures) (sym (c .before .before .has-record .ensures) ∙ c .before .if1 .taken)
 
 loop-holds : tie.Need-loop-holds Inv-loop μ-loop
 loop-holds c =
     let a = c .before .args in
     ap (λ (x : ℕ). x + usedBy (recordsOf (drop (a .from) (a .page .now)))) (cut-in (a .page .now) (a .from) (c .before .pre))
 
-stands-requires : tie.Need-stands-requires Inv-loop μ-loop
-stands-requires c κs = tt
+has-record-requires : tie.Need-has-record-requires Inv-loop μ-loop
+has-record-requires c κs = tt
 
 length-at-requires : tie.Need-length-at-requires Inv-loop μ-loop
-length-at-requires c κs = stood _ _ _ refl (sym (c .before .stands .ensures) ∙ c .if1 .taken) .inside
+length-at-requires c κs = stood _ _ _ refl (sym (c .before .has-record .ensures) ∙ c .if1 .taken) .inside
 
 add-at : tie.Need-add-at Inv-loop μ-loop
 add-at c =
@@ -57,7 +57,7 @@ returns : tie.Need-returns Inv-loop μ-loop
 returns c =
     let l = c .before .before .before .loop in
     let p = c .before .before .before .before .before .args .page .now in
-    let e = stops p (l .at) (sym (c .before .before .stands .ensures) ∙ c .before .if1 .left) in
+    let e = stops p (l .at) (sym (c .before .before .has-record .ensures) ∙ c .before .if1 .left) in
     ap (λ (x : ℕ). x + 2) (c .reach .ensures) ∙ ap (λ (rs : List Stored). cut p (l .at) + usedBy rs) (sym e) ∙ l .inv
 
 pub used-from-spec : {M : Type 1} → statement M
@@ -67,7 +67,7 @@ used-from-spec =
     Inv-loop
     μ-loop
     loop-holds
-    stands-requires
+    has-record-requires
     length-at-requires
     add-at
     loop-less

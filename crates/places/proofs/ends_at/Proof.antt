@@ -11,13 +11,13 @@ use Rattle.places.proofs.ends_at.Statement.{statement}
 use Rattle.places.proofs.ends_at.Tie as tie
 
 -- what the answer says of the position
-said : (c : tie.After-is-end) → let a = c .before .before .before .before .args in saysEnd (c .is-end .result) ≡ isAmong (endsOf 0 (length (a .text .now)) (reading (a .text .now))) (a .p)
+said : (c : tie.After-ends-member) → let a = c .before .before .before .before .args in saysEnd (c .ends-member .result) ≡ isAmong (endsOf 0 (length (a .text .now)) (reading (a .text .now))) (a .p)
 said c =
     let a = c .before .before .before .before .args in
     let b : Bool = isAmong (endsOf 0 (length (a .text .now)) (reading (a .text .now))) (a .p) in
-    ap saysEnd (c .is-end .ensures .0 ∙ with-room (a .text .now) (a .ops .now) (end.Is b) end.NoRoom (c .before .before .before .before .pre))
+    ap saysEnd (c .ends-member .ensures .0 ∙ with-room (a .text .now) (a .ops .now) (end.Is b) end.NoRoom (c .before .before .before .before .pre))
 
-is-end-requires : tie.Need-is-end-requires
+is-end-requires : tie.Need-ends-member-requires
 is-end-requires c κs = search needs
 
 enum-known-ends : tie.Need-enum-known-ends

@@ -7,14 +7,14 @@ use Rattle.value.proofs.Digits.{digits-few, printed-part}
 use Rattle.value.proofs.write_number.Statement.{statement}
 use Rattle.value.proofs.write_number.Tie as tie
 
-size-requires : tie.Need-size-requires
-size-requires c κs = search needs
+magnitude-requires : tie.Need-magnitude-requires
+magnitude-requires c κs = search needs
 
 put-digits-requires : tie.Need-put-digits-requires
 put-digits-requires c κs = search needs
 
 sub-sign : tie.Need-sub-sign
-sub-sign c = omega (arith, c .put-digits .ensures .begin, digits-few (c .before .size .result))
+sub-sign c = omega (arith, c .put-digits .ensures .begin, digits-few (c .before .magnitude .result))
 
 sign-byte-requires : tie.Need-sign-byte-requires
 sign-byte-requires c κs = search needs
@@ -42,13 +42,13 @@ returns c =
     let w = c .before .before in
     let s = w .before .before .before .before in
     let p = s .before in
-    rw (s .sign-byte .ensures, printed-part (p .put-digits .ensures) refl _ (p .before .size .ensures) refl) at (w .write-item .ensures)
+    rw (s .sign-byte .ensures, printed-part (p .put-digits .ensures) refl _ (p .before .magnitude .ensures) refl) at (w .write-item .ensures)
 
 pub write-number-spec : {M : Type 1} → statement M
 write-number-spec =
     tie.close
     (tie.spec
-    size-requires
+    magnitude-requires
     put-digits-requires
     sub-sign
     sign-byte-requires

@@ -11,7 +11,7 @@ use Rattle.value.proofs.Laws.{value-same}
 use Rattle.world.specs.declared.memory.Extent.{Extent}
 use Rattle.world.specs.declared.memory.Extent.the-variants as extent
 use Rattle.world.specs.declared.memory.StoreEnd.{StoreEnd}
-use Rattle.world.specs.declared.memory.StoreEnd.the-variants as ended
+use Rattle.world.specs.declared.memory.StoreEnd.the-variants as storeEnd
 use Rattle.world.specs.Stores.{AfterStore, extentOf, storeGave, storeLeaves, argsOf}
 use Rattle.world.proofs.memory.Strings.{ending}
 
@@ -23,10 +23,10 @@ end-same (extent.To d) (extent.No n) h = let z : _≡_ {A = ℕ} 0 1 = cc in abs
 end-same (extent.No m) (extent.To e) h = let z : _≡_ {A = ℕ} 0 1 = cc in absurd (omega arith)
 
 left-same : (a b : StoreEnd) (p q : List ℕ) → storeGave a p ≡ storeGave b q → (p ≡ q) × (a ≡ b)
-left-same ended.Done ended.Done p q e = (λ i. e i .memory, refl)
-left-same (ended.No m) (ended.No n) p q e = let f : stop m ≡ stop n = λ i. e i .next in let k : m ≡ n = cc in (λ i. e i .memory, cc)
-left-same ended.Done (ended.No n) p q e = let f : on ≡ stop n = λ i. e i .next in let z : _≡_ {A = ℕ} 0 1 = cc in absurd (omega arith)
-left-same (ended.No m) ended.Done p q e = let f : stop m ≡ on = λ i. e i .next in let z : _≡_ {A = ℕ} 0 1 = cc in absurd (omega arith)
+left-same storeEnd.Done storeEnd.Done p q e = (λ i. e i .memory, refl)
+left-same (storeEnd.No m) (storeEnd.No n) p q e = let f : stop m ≡ stop n = λ i. e i .next in let k : m ≡ n = cc in (λ i. e i .memory, cc)
+left-same storeEnd.Done (storeEnd.No n) p q e = let f : on ≡ stop n = λ i. e i .next in let z : _≡_ {A = ℕ} 0 1 = cc in absurd (omega arith)
+left-same (storeEnd.No m) storeEnd.Done p q e = let f : stop m ≡ on = λ i. e i .next in let z : _≡_ {A = ℕ} 0 1 = cc in absurd (omega arith)
 
 module _ (mem : List ℕ) (at : ℕ) where
   pub byte-determined : (r s : Value) → valueOf r ≡ byteOf mem at → valueOf s ≡ byteOf mem at → r ≡ s

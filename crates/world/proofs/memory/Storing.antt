@@ -16,15 +16,15 @@ use Rattle.value.proofs.Writing.{sets-append, sets-more}
 use Rattle.page.specs.Edits.{moved, canMove}
 use Rattle.page.proofs.Walk.{by-cases}
 use Rattle.world.specs.Stores.{AfterStore, storeGave, storeLeaves, afterStoreIn, argsOf}
-use Rattle.world.specs.declared.memory.StoreEnd.the-variants as ended
+use Rattle.world.specs.declared.memory.StoreEnd.the-variants as storeEnd
 use Rattle.world.proofs.memory.Strings.{StringRuns}
 
 module _ (mem bs : List ℕ) (a : ℕ) where
-  pub stored : a + length bs ≤ length mem → storeGave ended.Done (sets mem a bs) ≡ storeLeaves mem (storeAt mem a bs)
+  pub stored : a + length bs ≤ length mem → storeGave storeEnd.Done (sets mem a bs) ≡ storeLeaves mem (storeAt mem a bs)
   unfolding storeAt
   stored h = rw (le-leb (a + length bs) (length mem) h)
 
-  pub refused : length mem < a + length bs → storeGave (ended.No 16) mem ≡ storeLeaves mem (storeAt mem a bs)
+  pub refused : length mem < a + length bs → storeGave (storeEnd.No 16) mem ≡ storeLeaves mem (storeAt mem a bs)
   unfolding storeAt
   refused h = rw (lt-leb (a + length bs) (length mem) h)
 
@@ -54,7 +54,7 @@ args-more mem ops a i h =
 
 -- a text that was written, and then its CR
 pub text-stored : {mem after text : List ℕ} {a : ℕ} {r : Wrote} → Writes mem a text r after → a + (length text + 1) ≤ length mem
-    → storeGave ended.Done (set after (a + length text) 13) ≡ storeLeaves mem (storeAt mem a (text ++ (13 ∷ [])))
+    → storeGave storeEnd.Done (set after (a + length text) 13) ≡ storeLeaves mem (storeAt mem a (text ++ (13 ∷ [])))
 text-stored {mem} {after} {text} {a} w h =
     let e : after ≡ sets mem a text = w .output ∙ rw (le-leb (a + length text) (length mem) (omega arith)) in
     rw (e, ← sets-append text (13 ∷ []) mem a) (stored mem (text ++ (13 ∷ [])) a (omega (arith, length-append text (13 ∷ []))))
@@ -76,13 +76,13 @@ module _ {mem : List ℕ} {from e : ℕ} (r : StringRuns mem from e) (to : ℕ) 
   movable : canMove mem from to (e + 1 - from) ≡ leb (to + (e + 1 - from)) (length mem)
   movable = let a = r .ahead in let b = r .inside in rw (le-leb (from + (e + 1 - from)) (length mem) (omega arith))
 
-  pub copied : true ≡ canMove mem from to (e + 1 - from) → storeGave ended.Done (moved mem from to (e + 1 - from)) ≡ copy
+  pub copied : true ≡ canMove mem from to (e + 1 - from) → storeGave storeEnd.Done (moved mem from to (e + 1 - from)) ≡ copy
   copied h =
       let f : to + length whole ≤ length mem = leb-true _ _ (ap (λ (n : ℕ). leb (to + n) (length mem)) size ∙ sym movable ∙ sym h) in
       let k : moved mem from to (e + 1 - from) ≡ sets mem to whole = sym (sets-eq whole mem to f ∙ rw size) in
       rw k (stored mem whole to f ∙ copy-is)
 
-  pub not-copied : false ≡ canMove mem from to (e + 1 - from) → storeGave (ended.No 16) mem ≡ copy
+  pub not-copied : false ≡ canMove mem from to (e + 1 - from) → storeGave (storeEnd.No 16) mem ≡ copy
   not-copied h =
       let f : length mem < to + length whole = leb-false _ _ (ap (λ (n : ℕ). leb (to + n) (length mem)) size ∙ sym movable ∙ sym h) in
       refused mem whole to f ∙ copy-is

@@ -5,8 +5,8 @@ use Rattle.nibl.specs.Read.{reading}
 use Rattle.line.proofs.Lists.{shut, opened, end-is, end-none}
 use borrow.Author.Tests.{not-true, not-false}
 use borrow.Author.Needs.{needs}
-use Rattle.line.proofs.is_end.Statement.{statement}
-use Rattle.line.proofs.is_end.Tie as tie
+use Rattle.line.proofs.ends_member.Statement.{statement}
+use Rattle.line.proofs.ends_member.Tie as tie
 
 returns : tie.Need-returns
 returns c = let e = sym (c .before .has-room .ensures) ∙ not-true _ (c .if1 .taken) in (shut _ e, shut _ e)
@@ -26,6 +26,6 @@ returns-3 c =
     let e = sym (c .before .before .before .before .before .before .before .before .before .before .before .has-room .ensures) ∙ not-false _ (c .before .before .before .before .before .before .before .before .before .before .if1 .left) in
     (opened _ e (end-none (length text) (c .before .before .before .before .before .before .before .before .before .before .before .before .before .before .before .args .p) (reading text) (sym (c .enum-told .given .1) ∙ c .before .before .before .before .before .before .before .before .members .ensures)), opened _ e (c .before .before .before .before .clear .ensures ∙ ap (λ (n : ℕ). replicate n 0) (c .before .before .before .before .before .before .before .before .members .kept .1 .1 .0)))
 
-pub is-end-spec : {M : Type 1} → statement M
-is-end-spec =
+pub ends-member-spec : {M : Type 1} → statement M
+ends-member-spec =
     tie.close (tie.spec (λ c κs. search needs) (λ c. search needs) returns members-requires (λ c κs. search needs) (λ c. search needs) (λ c. search needs) (λ c. search needs) returns-2 (λ c. search needs) returns-3)

@@ -1,4 +1,4 @@
--- `text_at` meets its contract: what is passed up to the CR is the text. Assumes nothing.
+-- `line_from` meets its contract: what is passed up to the CR is the text. Assumes nothing.
 use Prim.Native.Nat.{ℕ, _-_}
 use mathlib.Core.Path.{_≡_, sym, ap, _∙_}
 use native.Mathlib.Omega.{arith}
@@ -7,8 +7,8 @@ use borrow.Author.Needs.{needs}
 use Rattle.nibl.specs.Calls.{lineFrom}
 use Rattle.nibl.specs.Bytes.{notCR}
 use Rattle.page.proofs.Texts.{line-past, line-inside, front-part}
-use Rattle.page.proofs.text_at.Statement.{statement}
-use Rattle.page.proofs.text_at.Tie as tie
+use Rattle.page.proofs.line_from.Statement.{statement}
+use Rattle.page.proofs.line_from.Tie as tie
 
 slice-aggregate-result : tie.Need-slice-aggregate-result
 slice-aggregate-result c = search needs
@@ -34,8 +34,8 @@ returns-2 c =
     let e : c .before .text-end .result - a .at ≡ length (lineFrom (a .s .now) (a .at)) = omega (arith, c .before .text-end .ensures) in
     ap (λ (n : ℕ). take n (drop (a .at) (a .s .now))) e ∙ front-part notCR (drop (a .at) (a .s .now))
 
-pub text-at-spec : {M : Type 1} → statement M
-text-at-spec =
+pub line-from-spec : {M : Type 1} → statement M
+line-from-spec =
     tie.close
     (tie.spec
     slice-aggregate-result

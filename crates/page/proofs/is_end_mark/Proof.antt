@@ -1,11 +1,11 @@
--- `is_mark` meets its contract: both bytes of the end mark. Assumes nothing.
+-- `is_end_mark` meets its contract: both bytes of the end mark. Assumes nothing.
 use mathlib.Core.Path.{sym, _∙_}
 use lib.ListN.{getD}
 use borrow.Author.Tests.{eq-eqb, ne-eqb}
 use borrow.Author.Needs.{needs}
 use Rattle.page.proofs.Walk.{end-at}
-use Rattle.page.proofs.is_mark.Statement.{statement}
-use Rattle.page.proofs.is_mark.Tie as tie
+use Rattle.page.proofs.is_end_mark.Statement.{statement}
+use Rattle.page.proofs.is_end_mark.Tie as tie
 
 shared-slice-read-if1 : tie.Need-shared-slice-read-if1
 shared-slice-read-if1 c = search needs
@@ -26,5 +26,5 @@ returns-2 c =
     let a = c .before .before .before .args in
     sym (end-at (a .page .now) (a .at) ∙ rw (eq-eqb (getD (a .page .now) (a .at) 0) 255 (c .before .if1 .left)))
 
-pub is-mark-spec : {M : Type 1} → statement M
-is-mark-spec = tie.close (tie.spec shared-slice-read-if1 returns add-result shared-slice-read-result returns-2)
+pub is-end-mark-spec : {M : Type 1} → statement M
+is-end-mark-spec = tie.close (tie.spec shared-slice-read-if1 returns add-result shared-slice-read-result returns-2)

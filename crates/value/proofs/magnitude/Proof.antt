@@ -1,9 +1,9 @@
--- `size` meets its contract. Assumes nothing.
+-- `magnitude` meets its contract. Assumes nothing.
 use borrow.Author.Needs.{needs}
 use borrow.Author.Tests.{lt-ltb, le-ltb}
 use native.Mathlib.Omega.{arith}
-use Rattle.value.proofs.size.Statement.{statement}
-use Rattle.value.proofs.size.Tie as tie
+use Rattle.value.proofs.magnitude.Statement.{statement}
+use Rattle.value.proofs.magnitude.Tie as tie
 
 returns : tie.Need-returns
 returns c = simp (lt-ltb _ _ (c .if1 .taken))
@@ -14,5 +14,5 @@ negate-requires c κs = search needs
 returns-2 : tie.Need-returns-2
 returns-2 c = simp (le-ltb _ _ (c .before .if1 .left)) (omega arith)
 
-pub size-spec : {M : Type 1} → statement M
-size-spec = tie.close (tie.spec returns negate-requires returns-2)
+pub magnitude-spec : {M : Type 1} → statement M
+magnitude-spec = tie.close (tie.spec returns negate-requires returns-2)
