@@ -10,11 +10,11 @@ use Rattle.nibl.specs.Typing.{Gathered, gather}
 use Rattle.nibl.specs.Meaning.{World, Env, Done, done, on, skip, go, stop, withSession, exec}
 use Rattle.nibl.specs.Calls.{Ran, runFrom, envAt, afterStep}
 use Rattle.nibl.specs.declared.Session.{Session}
+use Rattle.demands.specs.Leaves.{worldAfter}
 use Rattle.letter.proofs.Typed.{taken}
 use Rattle.demands.proofs.Does.{GivesVariables, gave, refused, gives, Does, writes, takes, refuses, passes, skips, assigns, assignsFlags, stores, goesTo, saves, returns, loops, repeats, leaves, begins, again, finishes, inputs}
 use Rattle.demands.proofs.Effects.{exec-does}
 use Rattle.demands.proofs.Runs.{placeEnding, crOf, every-run}
-use Rattle.demands.proofs.Held.{worldAfter}
 
 pub record Placed (input : List ℕ) (w : World) : Type 0 where
   pub inside : w .inpos ≤ length input

@@ -21,7 +21,7 @@ use Rattle.nibl.specs.declared.Top.the-variants as top
 use Rattle.demands.proofs.Does.{refusals, GivesVariables, gave, refused, gives, Does, writes, takes, refuses, passes, skips, assigns, assignsFlags, stores, goesTo, saves, returns, loops, repeats, leaves, begins, again, finishes, inputs}
 use Rattle.demands.specs.Asks.{inputVars}
 use Rattle.demands.specs.Items.{ItemOf, ListItem}
-use Rattle.demands.specs.Leaves.{WholeItems, noItem, item, WholeLines, noneTaken, line, SameButVars, Refused, Returned, Grown}
+use Rattle.demands.specs.Leaves.{WholeItems, noItem, item, WholeLines, noneTaken, line, SameButVars, Refused, Returned, Grown, worldAfter}
 use Rattle.demands.proofs.Effects.{exec-does, list-does}
 use Rattle.demands.proofs.Runs.{placeEnding, crOf, every-run}
 use Rattle.demands.proofs.Refusing.{Refusing, exec-refuses, list-refuses}
@@ -158,9 +158,6 @@ pub record SameLengths (w u : World) : Type 0 where
 pub record Steady (w u : World) : Type 0 where
   pub lengths : SameLengths w u
   pub paused : u .session .paused ≡ w .session .paused
-
-abbrev pub worldAfter : Done → World
-worldAfter (done n w) = w
 
 pub same-lengths : {w : World} → SameLengths w w
 same-lengths = record { memory = refl; output = refl }

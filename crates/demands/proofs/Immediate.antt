@@ -16,7 +16,7 @@ use Rattle.nibl.specs.Calls.{needsProgram, listed, listFrom}
 use Rattle.nibl.specs.declared.Top.{Top}
 use Rattle.nibl.specs.declared.Top.the-variants as top
 use Rattle.nibl.proofs.Words.{if-split}
-use Rattle.demands.proofs.Held.{worldAfter}
+use Rattle.demands.specs.Leaves.{worldAfter}
 
 pub record Keeps (w : World) (d : Done) : Type 0 where
   pub same : worldAfter d .inpos ≡ w .inpos

@@ -13,10 +13,10 @@ use Rattle.nibl.specs.Meaning.{World, Env, skip, stop, Done, done, withOutput, 
 use Rattle.demands.specs.Items.{In, first, further, itemBytes, ItemOf, Prints, writes, refused, noRoom, noEnd, noRoomForEnd}
 use Rattle.demands.specs.Items as items
 use Rattle.demands.specs.Asks.{inputVars}
-use Rattle.demands.specs.Leaves.{noItem, item, noneTaken, Refused}
+use Rattle.demands.specs.Leaves.{noItem, item, noneTaken, Refused, worldAfter}
 use Rattle.demands.specs.ItemsIn.{ItemIn, ofPrint, endOfPrint, ofInput, ofInputText, ofIf, StatementWrote}
 use Rattle.demands.proofs.Effects.{exec-does}
-use Rattle.demands.proofs.Held.{worldAfter, items-as, refusing-statement}
+use Rattle.demands.proofs.Held.{items-as, refusing-statement}
 use Rattle.demands.proofs.Printing.{print-works-item-by-item}
 use Rattle.demands.proofs.Written.{Grew, nothing-new, does-grew}
 

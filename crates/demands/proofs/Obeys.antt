@@ -23,14 +23,14 @@ use Rattle.page.specs.Standing.{Stands}
 use Rattle.page.proofs.Laid.{good-laid, laid-program}
 use Rattle.record.specs.Fit.{Fit, Goes, toNext, toRecord, toPlace, toEnd}
 use Rattle.record.proofs.Fitted.{fit-vars, fit-paused, fit-cleared}
-use Rattle.demands.specs.Leaves.{worldCleared}
+use Rattle.demands.specs.Leaves.{worldCleared, worldAfter}
 use Rattle.demands.specs.Lent.{budgeted, Typing}
 use Rattle.demands.specs.Starts.{byRUN, byStatement, StartsTyped, typed as typed-at, StartsPaused, paused}
 use Rattle.demands.proofs.Effects.{widen, exec-does, list-does}
 use Rattle.demands.proofs.Budget.{StopsWith, stopped, stopNumbers}
 use Rattle.demands.proofs.Storing.{stored-storable}
 use Rattle.demands.proofs.Accepted.{accepted-of}
-use Rattle.demands.proofs.Held.{worldAfter, Steady, same-lengths, does-steady}
+use Rattle.demands.proofs.Held.{Steady, same-lengths, does-steady}
 use Rattle.demands.proofs.Carried.{Placed, gathered-inside, other-record, does-placed}
 use Rattle.demands.proofs.Running.{LeavesFit, statement-left, list-left, list-stays}
 

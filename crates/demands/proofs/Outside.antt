@@ -22,12 +22,12 @@ use Rattle.page.proofs.Program.{Program, none as no-record, program-length}
 use Rattle.page.proofs.Changes.{with-program, without-program}
 use Rattle.demands.specs.Lent.{Typing}
 use Rattle.demands.proofs.Does.{Does}
-use Rattle.demands.specs.Leaves.{PageHeld, LengthsHeld, Agrees, isEdit}
+use Rattle.demands.specs.Leaves.{PageHeld, LengthsHeld, Agrees, isEdit, worldAfter}
 use Rattle.demands.proofs.Effects.{exec-does, list-does}
 use Rattle.demands.proofs.Ways.{Takes, refused, noCR, overlong, unread, reads, every-line, Continues, refused′, continues, every-continue}
 use Rattle.demands.proofs.Storing.{stored-storable}
 use Rattle.demands.proofs.Retyping.{program, line-short, onto-length, onto-after, onto-used}
-use Rattle.demands.proofs.Held.{SameLengths, same-lengths, worldAfter, does-steady, then-lengths, run-steady}
+use Rattle.demands.proofs.Held.{SameLengths, same-lengths, does-steady, then-lengths, run-steady}
 
 -- The page
 kept-page : (page : List ℕ) → PageHeld page page

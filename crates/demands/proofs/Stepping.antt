@@ -25,13 +25,13 @@ use Rattle.demands.specs.Reading.{Standing, NextAt, PastTheLast}
 use Rattle.demands.specs.Steps.{GoesTo, afterIt, afterRecord, jumps}
 use Rattle.demands.specs.ItemsIn.{StatementWrote}
 use Rattle.demands.specs.Stepping.{OneStep, Runs, over, pauses, halts, goesOn, LeavesRun}
+use Rattle.demands.specs.Leaves.{worldAfter}
 use Rattle.demands.proofs.Good.{good-exact, stands-exact}
 use Rattle.demands.proofs.Reading.{Stood, past, next, past-none, next-finds, next-line, stood-at, found-next, none-past}
 use Rattle.demands.proofs.Runs.{placeEnding, crOf, run-none, run-zero, run-suc, every-run}
 use Rattle.demands.proofs.Running.{statement-left}
 use Rattle.demands.proofs.Sound.{unrefused}
 use Rattle.demands.proofs.Beginning.{a-run-begins, a-paused-run-goes-on}
-use Rattle.demands.proofs.Held.{worldAfter}
 use Rattle.demands.proofs.ItemsIn.{a-statement-writes}
 
 module _ (lim : ℕ) (e : Env) (short : lim ≤ 251) (good : isGood lim (e .page) ≡ true) where

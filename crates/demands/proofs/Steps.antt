@@ -23,7 +23,7 @@ use Rattle.nibl.proofs.Whole.{typed-complete}
 use Rattle.demands.specs.Lent.{budgeted, Typing, OneOfThese}
 use Rattle.demands.specs.Asks.{inputVars, GivenIn, stay}
 use Rattle.demands.specs.ItemsIn.{ItemIn, OwnItem, ofList, ofStatement}
-use Rattle.demands.specs.Leaves.{noItem, noneTaken, Refused}
+use Rattle.demands.specs.Leaves.{noItem, noneTaken, Refused, worldAfter}
 use Rattle.page.specs.Standing.{Stands}
 use Rattle.record.specs.Sound.{Sized, Sound}
 use Rattle.record.proofs.Fitted.{sound-fit, fit-sound}
@@ -36,7 +36,7 @@ use Rattle.demands.proofs.Retyping.{edited-fits, edited-full, line-read
 use Rattle.demands.proofs.Refusing.{needs-asks}
 use Rattle.demands.proofs.Fixed.{unsaid, lines-low, run-named}
 use Rattle.demands.proofs.Five.{no-grammar-refusal-while-running, exactly-5}
-use Rattle.demands.proofs.Held.{worldAfter, run-steady, refusing-list, refused-as}
+use Rattle.demands.proofs.Held.{run-steady, refusing-list, refused-as}
 use Rattle.demands.proofs.ItemsIn.{a-refusing-statement}
 use Rattle.demands.proofs.Immediate.{exec-keeps, list-keeps}
 use Rattle.demands.proofs.LastStep.{LastStep, RunEnds, last-step, unpaused-same}

@@ -15,12 +15,11 @@ use Rattle.nibl.specs.Calls.{Lent, Outcome, Ran, runFrom, envAt, afterStep, run
 use Rattle.nibl.proofs.Words.{if-split}
 use Rattle.demands.specs.Lent.{InRange}
 use Rattle.demands.proofs.Does.{GivesVariables, gave, refused, gives, Does, writes, takes, refuses, passes, skips, assigns, assignsFlags, stores, goesTo, saves, returns, loops, repeats, leaves, begins, again, finishes, inputs}
-use Rattle.demands.specs.Leaves.{WholeItems, noItem, item, WholeLines, noneTaken, line, WroteItems, StaysInRange}
+use Rattle.demands.specs.Leaves.{WholeItems, noItem, item, WholeLines, noneTaken, line, WroteItems, StaysInRange, worldAfter}
 use Rattle.demands.proofs.Effects.{exec-does, list-does}
 use Rattle.demands.proofs.Runs.{placeEnding, crOf, every-run}
 use Rattle.demands.proofs.Ways.{Takes, noCR, overlong, unread, reads, every-line, Continues, refused′, continues, every-continue}
 use Rattle.demands.proofs.Ways as ways
-use Rattle.demands.proofs.Held.{worldAfter}
 use Rattle.demands.proofs.Running.{list-stays}
 use Rattle.demands.proofs.Carried.{gathered-inside}
 

@@ -12,7 +12,7 @@ use Rattle.nibl.specs.Typing.{Gathered, gather}
 use Rattle.nibl.specs.Stack.{popOf}
 use Rattle.nibl.specs.Tree.{Typed, blank, new, clear, run, delete, list, store, immediate}
 use Rattle.nibl.specs.Page.{Stored, recordsOf, programBytes, used}
-use Rattle.nibl.specs.Meaning.{World, Env, withSession}
+use Rattle.nibl.specs.Meaning.{World, Env, Done, done, withSession}
 use Rattle.nibl.specs.Record.{mark, withGosubs, unpaused, stackless, cleared}
 use Rattle.nibl.specs.Calls.{Lent, Outcome, leftAll, answerOf, noLine, begun, takeLine, continueRun, limit}
 use Rattle.nibl.specs.declared.Session.{Session}
@@ -22,6 +22,10 @@ use Rattle.nibl.specs.declared.Answer.{Answer}
 use Rattle.demands.specs.Asks.{GivenIn}
 use Rattle.demands.specs.Lent.{gatheredLine}
 use Rattle.demands.specs.Good.{GoodPage}
+
+-- the world that a statement leaves
+abbrev pub worldAfter : Done → World
+worldAfter (done n w) = w
 
 -- the records of a number, and the others, in their order
 abbrev pub ofLine : ℕ → List Stored → List Stored

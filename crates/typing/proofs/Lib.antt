@@ -1,3 +1,4 @@
+pub mod Determined
 pub mod Meant
 pub mod Obeyed
 pub mod Typed
