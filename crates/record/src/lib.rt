@@ -81,7 +81,7 @@ fn fits_fors(page: &[u8], stack: ForStack) -> bool
 }
 
 // Whether a run may go on there.
-fn fits_paused(page: &[u8], onward: Onward) -> bool
+fn may_go_on(page: &[u8], onward: Onward) -> bool
     ensures { λ r. ⌜ r ≡ fitsPaused (placesOf (now (page .entry))) (pausedAt (positionOf onward)) ⌝ }
 {
     match onward {
@@ -96,7 +96,7 @@ fn fits_paused(page: &[u8], number: u16) -> bool
     let paused = Paused::of(number);
     match paused {
         Paused::Nowhere => true,
-        Paused::At(onward) => fits_paused(page, onward),
+        Paused::At(onward) => may_go_on(page, onward),
     }
 }
 

@@ -15,8 +15,8 @@ enum-told c = search needs
 enum-known-paused : tie.Need-enum-known-paused
 enum-known-paused c = search needs
 
-fits-paused-requires : tie.Need-fits-paused-requires
-fits-paused-requires c κs = search needs
+may-go-on-requires : tie.Need-may-go-on-requires
+may-go-on-requires c κs = search needs
 
 returns : tie.Need-returns
 returns c = let a = c .before .before .before .before .args in ap (fitsPaused (placesOf (a .page .now))) (ap pauseNumber (sym (c .enum-told .given .1)) ∙ c .before .before .of .ensures)
@@ -24,7 +24,7 @@ returns c = let a = c .before .before .before .before .args in ap (fitsPaused (p
 returns-2 : tie.Need-returns-2
 returns-2 c =
     let a = c .before .before .before .before .before .before .args in
-    c .fits-paused .ensures ∙ ap (fitsPaused (placesOf (a .page .now))) (ap pauseNumber (sym (c .before .before .paused .given .1)) ∙ c .before .before .before .before .of .ensures)
+    c .may-go-on .ensures ∙ ap (fitsPaused (placesOf (a .page .now))) (ap pauseNumber (sym (c .before .before .paused .given .1)) ∙ c .before .before .before .before .of .ensures)
 
 pub fits-paused-spec : {M : Type 1} → statement M
-fits-paused-spec = tie.close (tie.spec of-requires enum-told enum-known-paused fits-paused-requires returns returns-2)
+fits-paused-spec = tie.close (tie.spec of-requires enum-told enum-known-paused may-go-on-requires returns returns-2)

@@ -1,11 +1,11 @@
--- `fits_paused` meets its contract: at the start always, after a place of the page. Assumes nothing.
+-- `may_go_on` meets its contract: at the start always, after a place of the page. Assumes nothing.
 use mathlib.Core.Path.{sym, ap, _∙_}
 use borrow.Author.Needs.{needs}
 use Rattle.nibl.specs.Page.{placesOf, fitsPaused}
 use Rattle.nibl.specs.Record.{pausedAt, positionOf}
 use Rattle.nibl.specs.declared.Onward.{Onward}
-use Rattle.record.proofs.fits_paused.Statement.{statement}
-use Rattle.record.proofs.fits_paused.Tie as tie
+use Rattle.record.proofs.may_go_on.Statement.{statement}
+use Rattle.record.proofs.may_go_on.Tie as tie
 
 enum-told : tie.Need-enum-told
 enum-told c = search needs
@@ -24,5 +24,5 @@ returns-2 c =
     c .is-place .ensures
     ∙ ap (λ (o : Onward). fitsPaused (placesOf (c .before .before .before .before .before .args .page .now)) (pausedAt (positionOf o))) (sym (c .before .before .onward .given .1))
 
-pub fits-paused-spec : {M : Type 1} → statement M
-fits-paused-spec = tie.close (tie.spec enum-told enum-known-onward is-place-requires returns returns-2)
+pub may-go-on-spec : {M : Type 1} → statement M
+may-go-on-spec = tie.close (tie.spec enum-told enum-known-onward is-place-requires returns returns-2)
