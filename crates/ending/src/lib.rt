@@ -34,15 +34,8 @@ pub struct Ended {
 pub fn stopped(stop: u8, session: Session, inpos: usize, outpos: usize) -> Ended
     ensures { λ r. ⌜ r ≡ stopped stop session inpos outpos ⌝ }
 {
-    let answer = Answer {
-        stop: stop,
-        line: NO_LINE,
-        steps: 0,
-        inpos: inpos,
-        outpos: outpos,
-    };
     Ended {
-        answer: answer,
+        answer: Answer::of(stop, NO_LINE, 0, inpos, outpos),
         session: session,
     }
 }
@@ -82,13 +75,7 @@ fn ran(ran: Ran, vars: [u16; 26]) -> Ended
     ensures { λ r. ⌜ r ≡ ranEnd ran vars ⌝ }
 {
     let parts = ran.parts;
-    let answer = Answer {
-        stop: ran.stop,
-        line: ran.line,
-        steps: ran.steps,
-        inpos: parts.inpos,
-        outpos: parts.outpos,
-    };
+    let answer = Answer::of(ran.stop, ran.line, ran.steps, parts.inpos, parts.outpos);
     Ended {
         answer: answer,
         session: parts.session(vars, ran.paused),
@@ -178,12 +165,6 @@ pub fn immediate<'a>(
         Way::Skip => stopped(0, next, inpos, outpos),
         Way::Stop(k) => stopped(k, next, inpos, outpos),
         Way::Go(from) => {
-            let going = Call {
-                inpos: inpos,
-                outpos: outpos,
-                sense: call.sense,
-                budget: call.budget,
-            };
             run_from(
                 from,
                 next,
@@ -191,7 +172,7 @@ pub fn immediate<'a>(
                 memory,
                 input,
                 output,
-                going,
+                call.at(inpos, outpos),
                 typed,
                 reply,
                 replies,

@@ -5,6 +5,7 @@ ghost use mathlib.Core.Path.{_≡_};
 ghost use lib.Dec.{eqb};
 ghost use Rattle.nibl.specs.Stack.{onTop, pushOf, topOf, popOf, pushFor, topFor, popFor};
 ghost use Rattle.nibl.specs.Record.{place, mark, positionOf, nowhere, pausedAt, pauseNumber, freshPlaces, freshFors, fresh, unpaused, stackless, cleared, partsOf, sessionOf, withFlags};
+ghost use Rattle.nibl.specs.Calls.{answerOf, withPositions};
 
 // Bytes that the rules name: what ends a typed line, a record's text and a string; what follows it in the output; what stands
 // between two statements; and the end mark, which is two of these.
@@ -450,6 +451,18 @@ pub struct Call {
     pub budget: usize,
 }
 
+impl Call {
+    // The same call at other positions: past what was read and written.
+    pub fn at(self, inpos: usize, outpos: usize) -> Call
+        ensures { λ r. ⌜ r ≡ withPositions inpos outpos self ⌝ }
+    {
+        let mut next = self;
+        next.inpos = inpos;
+        next.outpos = outpos;
+        next
+    }
+}
+
 // What a call answers. The line is that of the program statement that gave the stop, or NO_LINE.
 #[repr(C)]
 pub struct Answer {
@@ -458,4 +471,19 @@ pub struct Answer {
     pub steps: u16,
     pub inpos: usize,
     pub outpos: usize,
+}
+
+impl Answer {
+    // The one function that makes an answer.
+    pub fn of(stop: u8, line: u16, steps: u16, inpos: usize, outpos: usize) -> Answer
+        ensures { λ r. ⌜ r ≡ answerOf stop line steps inpos outpos ⌝ }
+    {
+        Answer {
+            stop: stop,
+            line: line,
+            steps: steps,
+            inpos: inpos,
+            outpos: outpos,
+        }
+    }
 }

@@ -5,7 +5,117 @@ ghost use lib.ListN.{length, drop};
 ghost use Rattle.nibl.specs.Typing.{gather as gathered};
 ghost use Rattle.nibl.specs.Record.{place, mark, unpaused};
 ghost use Rattle.nibl.specs.Read.{typed as readingOf};
-ghost use Rattle.nibl.specs.Calls.{lentAll, withPositions, obeyRead, obeyLine};
+ghost use Rattle.nibl.specs.Calls.{lentAll, obeyRead, obeyLine};
+ghost use Rattle.effect.specs.Worlds.{envWith};
+ghost use Rattle.line.specs.Answers.{kindOf, lineOps};
+ghost use Rattle.ending.specs.Ends.{endedIn, worldAt};
+ghost use Rattle.ending.specs.Lends.{Lists, Accepted};
+ghost use Rattle.typing.specs.ReadAs.{ReadAs};
+use ending::Ended;
+use letter::Gathering;
+use line::LineRead;
+use nibl::Call;
+use nibl::Onward;
+use nibl::Session;
+use page::Where;
+
+// What a typed line does, by what it was read as. The call's positions are past the line, and the pause has ended.
+fn obey(
+    kind: LineRead,
+    session: Session,
+    page: &mut [u8],
+    memory: &mut [u8],
+    input: &[u8],
+    output: &mut [u8],
+    call: Call,
+    typed: &[u8],
+    reply: &mut [u8],
+    replies: &mut [u32],
+    values: &mut [u16],
+    ops: &mut [u32],
+) -> Ended
+    requires { ⌜ Lists (now reply) (now replies) (now values) (now ops) × Accepted (length (now reply)) (now page) (call .budget) session × ReadAs (now typed) kind (now ops) ⌝ }
+    ensures { λ r. ⌜ endedIn r (now (page .exit)) (now (memory .exit)) (now (output .exit)) ≡ obeyRead (call .budget) (envWith (length (now (reply .entry))) (now (page .entry)) (now (input .entry)) (call .sense) (place mark)) (worldAt session (now (memory .entry)) (now (output .entry)) (call .inpos) (call .outpos)) (readingOf (now (typed .entry))) ⌝ }
+{
+    let inpos = call.inpos;
+    let outpos = call.outpos;
+    match kind {
+        LineRead::Blank => ending::stopped(0, session, inpos, outpos),
+        LineRead::New => ending::edited(page::new_page(page), session, inpos, outpos),
+        LineRead::Delete(number) => ending::edited(
+            page::delete_line(page, number),
+            session,
+            inpos,
+            outpos,
+        ),
+        LineRead::Store(number, c) => {
+            let at = c.at;
+            ending::edited(
+                page::store_line(page, number, &typed[at..]),
+                session,
+                inpos,
+                outpos,
+            )
+        }
+        LineRead::Clear => ending::stopped(0, session.cleared(), inpos, outpos),
+        LineRead::List(number) => ending::list(page, number, output, session, inpos, outpos),
+        LineRead::Run => ending::run_from(
+            Onward::Start,
+            session.cleared(),
+            page,
+            memory,
+            input,
+            output,
+            call,
+            typed,
+            reply,
+            replies,
+            values,
+            ops,
+        ),
+        LineRead::Immediate(n, needs) => {
+            if needs {
+                return ending::stopped(3, session, inpos, outpos);
+            }
+            ending::immediate(
+                n,
+                session,
+                page,
+                memory,
+                input,
+                output,
+                call,
+                typed,
+                reply,
+                replies,
+                values,
+                ops,
+            )
+        }
+        LineRead::NoReading => ending::stopped(5, session, inpos, outpos),
+        LineRead::NoRoom => ending::stopped(5, session, inpos, outpos),
+    }
+}
+
+// What was typed is read once, from the part that holds the running statement. Only a text longer than 65,535 bytes lacks
+// room, and a typed line is none.
+fn read_typed<'a>(page: &'a [u8], typed: &'a [u8], ops: &mut [u32]) -> LineRead
+    requires { ⌜ (length (now typed) ≤ length (now ops)) × (length (now typed) ≤ 65535) ⌝ }
+    ensures { λ r. ⌜ r ≡ kindOf (length (now (typed .entry))) (readingOf (now (typed .entry))) ⌝ }
+    ensures { λ r. ⌜ now (ops .exit) ≡ lineOps (now (ops .entry)) (readingOf (now (typed .entry))) ⌝ }
+{
+    let text = page::running(page, typed, Where::Line);
+    line::read_line(text, ops)
+}
+
+// A typed line past the first refusals: gathered, read once, and obeyed.
+ghost use Prim.Native.Nat.{_≤_};
+ghost use mathlib.Core.Path.{_≡_};
+ghost use lib.ListN.{length, drop};
+ghost use Rattle.nibl.specs.Typing.{gather as gathered};
+ghost use Rattle.nibl.specs.Record.{place, mark, unpaused};
+ghost use Rattle.nibl.specs.Read.{typed as readingOf};
+ghost use Rattle.nibl.specs.Calls.{lentAll, obeyRead, obeyLine};
 ghost use Rattle.effect.specs.Worlds.{envWith};
 ghost use Rattle.line.specs.Answers.{kindOf, lineOps};
 ghost use Rattle.ending.specs.Ends.{endedIn, worldAt};
@@ -147,7 +257,7 @@ pub fn typed_line(
                 memory,
                 input,
                 output,
-                past(call, at),
+                call.at(at, call.outpos),
                 &line[..n],
                 reply,
                 replies,
