@@ -21,7 +21,7 @@ use Rattle.operation.specs.declared.Height.the-variants as raised
 use Rattle.operation.specs.declared.Reached.{Reached}
 use Rattle.operation.specs.declared.Reached.the-variants as reached
 use Rattle.operation.proofs.Stacks.{stack-none}
-use Rattle.operation.specs.Stacks.{stackOf, stackAfter, heightOf, topIn, topOf, reachedIn, reachedHeight, reachedTop, worked, assignedBy, assigning}
+use Rattle.operation.specs.Stacks.{stackOf, stackAfter, heightOf, topIn, topAfter, reachedIn, reachedHeight, reachedTop, worked, assignedBy, assigning}
 
 pub nth-determined : (values : List ℕ) (height k a b : ℕ) → a ≡ getD (stackOf values height) k 0 → b ≡ getD (stackOf values height) k 0 → a ≡ b
 nth-determined values height k = determined (getD (stackOf values height) k 0)
@@ -33,7 +33,7 @@ height values zero = refl
 height values (suc n) = ap suc (height values n)
 
 -- an answer, and the values that it counts
-height-same : (r s : Height) (values values′ : List ℕ) → topOf r ≡ topIn values (heightOf r) → topOf s ≡ topIn values′ (heightOf s) → stackAfter r values ≡ stackAfter s values′
+height-same : (r s : Height) (values values′ : List ℕ) → topAfter r ≡ topIn values (heightOf r) → topAfter s ≡ topIn values′ (heightOf s) → stackAfter r values ≡ stackAfter s values′
     → (r ≡ s) × (stackOf values (heightOf r) ≡ stackOf values′ (heightOf s))
 height-same (raised.Top m x) (raised.Top n y) values values′ p q e =
     let v : stackOf values m ≡ stackOf values′ n = cc in
@@ -44,7 +44,7 @@ height-same (raised.No m) (raised.No n) values values′ p q e = let k : m ≡ n
 height-same (raised.Top m x) (raised.No n) values values′ p q e = let z : _≡_ {A = ℕ} 0 1 = cc in absurd (omega arith)
 height-same (raised.No m) (raised.Top n x) values values′ p q e = let z : _≡_ {A = ℕ} 0 1 = cc in absurd (omega arith)
 
-pub step-determined : (s : Sources) (op : ℕ) (vs : List ℕ) (a b : Height) (values values′ : List ℕ) → topOf a ≡ topIn values (heightOf a) → topOf b ≡ topIn values′ (heightOf b)
+pub step-determined : (s : Sources) (op : ℕ) (vs : List ℕ) (a b : Height) (values values′ : List ℕ) → topAfter a ≡ topIn values (heightOf a) → topAfter b ≡ topIn values′ (heightOf b)
     → stackAfter a values ≡ valueStep s op vs → stackAfter b values′ ≡ valueStep s op vs → (a ≡ b) × (stackOf values (heightOf a) ≡ stackOf values′ (heightOf b))
 step-determined s op vs a b values values′ t u p q = height-same a b values values′ t u (determined (valueStep s op vs) (stackAfter a values) (stackAfter b values′) p q)
 

@@ -43,9 +43,9 @@ abbrev pub heightOf : Height → ℕ
 heightOf (raised.Top n x) = n
 heightOf (raised.No n) = 0
 
-abbrev pub topOf : Height → ℕ
-topOf (raised.Top n x) = x
-topOf (raised.No n) = 0
+abbrev pub topAfter : Height → ℕ
+topAfter (raised.Top n x) = x
+topAfter (raised.No n) = 0
 
 -- how far the operations on values of a list lead, and the values then
 abbrev pub reachedIn : Reached → List ℕ → List ℕ → Result AtEffect

@@ -10,7 +10,7 @@ ghost use Rattle.value.specs.Operators.{valueOf};
 ghost use Rattle.codes.specs.Operators.{opOf};
 ghost use Rattle.nibl.specs.Read.{replied};
 ghost use Rattle.operation.specs.Operations.{takes, valueBy, valueStep, valuesFirst, variablesOf};
-ghost use Rattle.operation.specs.Stacks.{sources, stackOf, stackAfter, heightOf, reachedIn, reachedHeight, reachedAt, topIn, topOf, reachedTop, worked, ReplyRoom, Assigning, assignedBy, assigning};
+ghost use Rattle.operation.specs.Stacks.{sources, stackOf, stackAfter, heightOf, reachedIn, reachedHeight, reachedAt, topIn, topAfter, reachedTop, worked, ReplyRoom, Assigning, assignedBy, assigning};
 use line::ListRead;
 use line::RelationRead;
 use value::Value;
@@ -130,7 +130,7 @@ pub fn value_step(
     top: u16,
 ) -> Height
     requires { ⌜ (height < length (now values)) × (used (now page) < 65536) × (top ≡ topIn (now values) height) ⌝ }
-    ensures { λ r. ⌜ (stackAfter r (now (values .exit)) ≡ valueStep (sources (now (vars .entry)) flags sense (now (page .entry)) (now (memory .entry))) op (stackOf (now (values .entry)) height)) × (heightOf r ≤ height + 1) × (topOf r ≡ topIn (now (values .exit)) (heightOf r)) ⌝ }
+    ensures { λ r. ⌜ (stackAfter r (now (values .exit)) ≡ valueStep (sources (now (vars .entry)) flags sense (now (page .entry)) (now (memory .entry))) op (stackOf (now (values .entry)) height)) × (heightOf r ≤ height + 1) × (topAfter r ≡ topIn (now (values .exit)) (heightOf r)) ⌝ }
 {
     let code = op % codes::CODES;
     let y = nth(values, height, 1);
@@ -172,7 +172,17 @@ pub fn work_out(
     let mut top: u16 = 0;
     let mut i: usize = 0;
     while i < ops.len() {
-        let r = value_step(ops[i], vars, flags, sense, page, memory, values, height, top);
+        let r = value_step(
+            ops[i],
+            vars,
+            flags,
+            sense,
+            page,
+            memory,
+            values,
+            height,
+            top,
+        );
         match r {
             Height::Top(n, x) => {
                 height = n;
