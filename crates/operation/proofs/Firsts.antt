@@ -12,7 +12,7 @@ use lib.Seq.{drop-cons}
 use Rattle.nibl.specs.Values.{Result, is, no}
 use Rattle.nibl.specs.Meaning.{World, Env, Done, bind, given}
 use Rattle.codes.specs.Codes.{codeIn, effects}
-use Rattle.operation.specs.Operations.{Sources, sourcesIn, valueStep, Begun, begun, valuesFirst, runOps}
+use Rattle.operation.specs.Operations.{Sources, sourcesIn, valueStep, AtEffect, atEffect, valuesFirst, runOps}
 
 -- what goes on with a result of a result
 given-bind : {A B : Type 0} (w : World) (r : Result A) (k : A → Result B) (f : B → Done) → given r w (λ a. given (k a) w f) ≡ given (bind r k) w f
@@ -24,7 +24,7 @@ given-same w (is a) f g h = h a
 given-same w (no n) f g h = refl
 
 module _ (e : Env) (w : World) where
-  abbrev onward : Begun → Done
+  abbrev onward : AtEffect → Done
   onward b = runOps e (b .rest) w (b .stack)
 
   runs-cons : (o : ℕ) (ops vs : List ℕ) → ((us : List ℕ) → runOps e ops w us ≡ given (valuesFirst (sourcesIn e w) ops us) w onward)
@@ -61,10 +61,10 @@ module _ (s : Sources) (ops vs : List ℕ) (i : ℕ) where
     pub first-off : {n : ℕ} → codeIn there < effects → no n ≡ valueStep s there vs → valuesFirst s (drop i ops) vs ≡ no n
     first-off f e = first-step f ∙ rw (← e) refl
 
-    pub first-effect : effects ≤ codeIn there → valuesFirst s (drop i ops) vs ≡ is (begun (drop i ops) vs)
+    pub first-effect : effects ≤ codeIn there → valuesFirst s (drop i ops) vs ≡ is (atEffect (drop i ops) vs)
     unfolding valuesFirst
-    first-effect f = ap (λ (l : List ℕ). valuesFirst s l vs) split ∙ rw (le-ltb _ _ f, valuesFirst) (ap (λ (l : List ℕ). is (begun l vs)) (sym split))
+    first-effect f = ap (λ (l : List ℕ). valuesFirst s l vs) split ∙ rw (le-ltb _ _ f, valuesFirst) (ap (λ (l : List ℕ). is (atEffect l vs)) (sym split))
 
-  pub first-end : length ops ≤ i → valuesFirst s (drop i ops) vs ≡ is (begun (drop i ops) vs)
+  pub first-end : length ops ≤ i → valuesFirst s (drop i ops) vs ≡ is (atEffect (drop i ops) vs)
   unfolding valuesFirst
   first-end h = rw (drop-of-length-le ops h) refl

@@ -10,7 +10,7 @@ use Rattle.nibl.specs.Values.{Result, is, no}
 use Rattle.nibl.specs.Meaning.{bind}
 use Rattle.codes.specs.Codes.{codeIn, argumentIn}
 use Rattle.operation.specs.Operations.{Sources, takes, valueBy, valueStep, workOut}
-use Rattle.operation.specs.Stacks.{stackOf}
+use Rattle.operation.specs.Stacks.{stackOf, topIn}
 
 -- The value k below the top
 pub nth-in : (values : List ℕ) (n k : ℕ) → k < n → getD (stackOf values n) k 0 ≡ getD values (n - 1 - k) 0
@@ -53,6 +53,14 @@ push-below values height k b v e h =
 pub stack-none : (values : List ℕ) → stackOf values 0 ≡ []
 unfolding stackOf
 stack-none values = refl
+
+-- The value on top of no stack, and of one with a value put on
+pub top-none : (values : List ℕ) → 0 ≡ topIn values 0
+unfolding stackOf
+top-none values = refl
+
+pub top-put : (values : List ℕ) (b v : ℕ) → b < length values → v ≡ topIn (set values b v) (b + 1)
+top-put values b v h = rw (stack-push values b v h) refl
 
 -- An operation on values, by its value
 module _ (s : Sources) (o : ℕ) (values : List ℕ) (height : ℕ) where

@@ -58,19 +58,19 @@ workOut s [] vs = is vs
 workOut s (o ∷ rest) vs = bind (valueStep s o vs) (λ us. workOut s rest us)
 
 -- what the operations on values that a list begins with leave: the operations behind them, and the values
-pub record Begun : Type 0 where
+pub record AtEffect : Type 0 where
   pub rest : List ℕ
   pub stack : List ℕ
 
-abbrev pub begun : List ℕ → List ℕ → Begun
-begun rest stack = record { rest = rest; stack = stack }
+abbrev pub atEffect : List ℕ → List ℕ → AtEffect
+atEffect rest stack = record { rest = rest; stack = stack }
 
-unfoldable pub valuesFirst : Sources → List ℕ → List ℕ → Result Begun
-valuesFirst s [] vs = is (begun [] vs)
+unfoldable pub valuesFirst : Sources → List ℕ → List ℕ → Result AtEffect
+valuesFirst s [] vs = is (atEffect [] vs)
 valuesFirst s (o ∷ rest) vs =
     elim (ltb (codeIn o) effects) [
       | true ↦ bind (valueStep s o vs) (λ us. valuesFirst s rest us)
-      | false ↦ is (begun (o ∷ rest) vs)
+      | false ↦ is (atEffect (o ∷ rest) vs)
     ]
 
 -- what an operation does to the world, x the value on top, y and z below it; any code but these is END's

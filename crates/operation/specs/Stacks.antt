@@ -17,7 +17,7 @@ use Rattle.world.specs.declared.jump.Way.{Way}
 use Rattle.nibl.specs.Values.{Result, is, no, Value}
 use Rattle.line.specs.Answers.{listOf}
 use Rattle.line.specs.declared.ListRead.the-variants as list
-use Rattle.operation.specs.Operations.{Sources, workOut, Begun, begun}
+use Rattle.operation.specs.Operations.{Sources, workOut, AtEffect, atEffect}
 use Rattle.operation.specs.declared.Height.{Height}
 use Rattle.operation.specs.declared.Height.the-variants as raised
 use Rattle.operation.specs.declared.Reached.{Reached}
@@ -31,27 +31,39 @@ unfoldable pub stackOf : List ℕ → ℕ → List ℕ
 stackOf values zero = []
 stackOf values (suc n) = getD values n 0 ∷ stackOf values n
 
+-- the value on top, or 0
+abbrev pub topIn : List ℕ → ℕ → ℕ
+topIn values n = getD (stackOf values n) 0 0
+
 abbrev pub stackAfter : Height → List ℕ → Result (List ℕ)
-stackAfter (raised.Top n) values = is (stackOf values n)
+stackAfter (raised.Top n x) values = is (stackOf values n)
 stackAfter (raised.No n) values = no n
 
 abbrev pub heightOf : Height → ℕ
-heightOf (raised.Top n) = n
+heightOf (raised.Top n x) = n
 heightOf (raised.No n) = 0
 
+abbrev pub topAfter : Height → ℕ
+topAfter (raised.Top n x) = x
+topAfter (raised.No n) = 0
+
 -- how far the operations on values of a list lead, and the values then
-abbrev pub reachedIn : Reached → List ℕ → List ℕ → Result Begun
-reachedIn (reached.To i n) ops values = is (begun (drop i ops) (stackOf values n))
+abbrev pub reachedIn : Reached → List ℕ → List ℕ → Result AtEffect
+reachedIn (reached.To i n x) ops values = is (atEffect (drop i ops) (stackOf values n))
 reachedIn (reached.No n) ops values = no n
 
 -- the operation that is next; after a refusal the first one counts
 abbrev pub reachedAt : ℕ → Reached → ℕ
-reachedAt from (reached.To i n) = i
+reachedAt from (reached.To i n x) = i
 reachedAt from (reached.No n) = from
 
 abbrev pub reachedHeight : Reached → ℕ
-reachedHeight (reached.To i n) = n
+reachedHeight (reached.To i n x) = n
 reachedHeight (reached.No n) = 0
+
+abbrev pub reachedTop : Reached → ℕ
+reachedTop (reached.To i n x) = x
+reachedTop (reached.No n) = 0
 
 -- the value that a list of operations leaves on top
 abbrev pub worked : Sources → List ℕ → Value
@@ -75,8 +87,8 @@ pub record Assigned : Type 0 where
 abbrev pub assignedTo : Next → List ℕ → Assigned
 assignedTo n vars = record { next = n; vars = vars }
 
-abbrev pub assigned : Way → List ℕ → Assigned
-assigned w vars = assignedTo (wayOf w) vars
+abbrev pub assignedBy : Way → List ℕ → Assigned
+assignedBy w vars = assignedTo (wayOf w) vars
 
 -- what is done with a value, or its refusal with the variables as they were
 abbrev pub onValue : Value → List ℕ → (ℕ → Assigned) → Assigned

@@ -10,7 +10,7 @@ ghost use Rattle.value.specs.Operators.{valueOf};
 ghost use Rattle.codes.specs.Operators.{opOf};
 ghost use Rattle.nibl.specs.Read.{replied};
 ghost use Rattle.operation.specs.Operations.{takes, valueBy, valueStep, valuesFirst, variablesOf};
-ghost use Rattle.operation.specs.Stacks.{sources, stackOf, stackAfter, heightOf, reachedIn, reachedHeight, reachedAt, worked, ReplyRoom, Assigning, assigned, assigning};
+ghost use Rattle.operation.specs.Stacks.{sources, stackOf, stackAfter, heightOf, reachedIn, reachedHeight, reachedAt, topIn, topAfter, reachedTop, worked, ReplyRoom, Assigning, assignedBy, assigning};
 use line::ListRead;
 use line::RelationRead;
 use value::Value;
@@ -19,15 +19,16 @@ use world::jump;
 use world::jump::Way;
 use world::memory;
 
-// How high the stack is after an operation, or the stop number.
+// How high the stack is after an operation and the value on top, or the stop number.
 pub enum Height {
-    Top(usize),
+    Top(usize, u16),
     No(u8),
 }
 
-// How far operations on values lead: up to the one that is next, and how high the stack is then; or the stop number.
+// How far operations on values lead: up to the one that is next, how high the stack is then and the value on top; or the
+// stop number.
 pub enum Reached {
-    To(usize, usize),
+    To(usize, usize, u16),
     No(u8),
 }
 
@@ -116,7 +117,7 @@ fn value_by(
     }
 }
 
-// One operation on values.
+// One operation on values. The value on top is at hand, so that only the one below it is read from the stack.
 pub fn value_step(
     op: u32,
     vars: &[u16],
@@ -126,17 +127,17 @@ pub fn value_step(
     memory: &[u8],
     values: &mut [u16],
     height: usize,
+    top: u16,
 ) -> Height
-    requires { ⌜ (height < length (now values)) × (used (now page) < 65536) ⌝ }
-    ensures { λ r. ⌜ (stackAfter r (now (values .exit)) ≡ valueStep (sources (now (vars .entry)) flags sense (now (page .entry)) (now (memory .entry))) op (stackOf (now (values .entry)) height)) × (heightOf r ≤ height + 1) ⌝ }
+    requires { ⌜ (height < length (now values)) × (used (now page) < 65536) × (top ≡ topIn (now values) height) ⌝ }
+    ensures { λ r. ⌜ (stackAfter r (now (values .exit)) ≡ valueStep (sources (now (vars .entry)) flags sense (now (page .entry)) (now (memory .entry))) op (stackOf (now (values .entry)) height)) × (heightOf r ≤ height + 1) × (topAfter r ≡ topIn (now (values .exit)) (heightOf r)) ⌝ }
 {
     let code = op % codes::CODES;
-    let x = nth(values, height, 0);
     let y = nth(values, height, 1);
     let v = value_by(
         code,
         op / codes::CODES,
-        x,
+        top,
         y,
         vars,
         flags,
@@ -148,7 +149,7 @@ pub fn value_step(
         Value::Is(n) => {
             let b = below(height, taken(code));
             values[b] = n;
-            Height::Top(b + 1)
+            Height::Top(b + 1, n)
         }
         Value::No(n) => Height::No(n),
     }
@@ -168,12 +169,24 @@ pub fn work_out(
     ensures { λ r. ⌜ valueOf r ≡ worked (sources (now (vars .entry)) flags sense (now (page .entry)) (now (memory .entry))) (now (ops .entry)) ⌝ }
 {
     let mut height: usize = 0;
+    let mut top: u16 = 0;
     let mut i: usize = 0;
     while i < ops.len() {
-        let r = value_step(ops[i], vars, flags, sense, page, memory, values, height);
+        let r = value_step(
+            ops[i],
+            vars,
+            flags,
+            sense,
+            page,
+            memory,
+            values,
+            height,
+            top,
+        );
         match r {
-            Height::Top(n) => {
+            Height::Top(n, x) => {
                 height = n;
+                top = x;
                 i += 1;
             }
             Height::No(n) => {
@@ -181,7 +194,7 @@ pub fn work_out(
             }
         }
     }
-    Value::Is(nth(values, height, 0))
+    Value::Is(top)
 }
 
 // The operations on values that stand next, up to the first effect or the end of the list.
@@ -196,19 +209,21 @@ pub fn values_first(
     values: &mut [u16],
 ) -> Reached
     requires { ⌜ (length (now ops) ≤ length (now values)) × (used (now page) < 65536) ⌝ }
-    ensures { λ r. ⌜ (reachedIn r (now (ops .entry)) (now (values .exit)) ≡ valuesFirst (sources (now (vars .entry)) flags sense (now (page .entry)) (now (memory .entry))) (drop from (now (ops .entry))) []) × (reachedHeight r ≤ reachedAt from r) × (from ≤ reachedAt from r) ⌝ }
+    ensures { λ r. ⌜ (reachedIn r (now (ops .entry)) (now (values .exit)) ≡ valuesFirst (sources (now (vars .entry)) flags sense (now (page .entry)) (now (memory .entry))) (drop from (now (ops .entry))) []) × (reachedHeight r ≤ reachedAt from r) × (from ≤ reachedAt from r) × (reachedTop r ≡ topIn (now (values .exit)) (reachedHeight r)) ⌝ }
 {
     let mut height: usize = 0;
+    let mut top: u16 = 0;
     let mut i: usize = from;
     while i < ops.len() {
         let op = ops[i];
         if codes::EFFECTS <= op % codes::CODES {
-            return Reached::To(i, height);
+            return Reached::To(i, height, top);
         }
-        let r = value_step(op, vars, flags, sense, page, memory, values, height);
+        let r = value_step(op, vars, flags, sense, page, memory, values, height, top);
         match r {
-            Height::Top(n) => {
+            Height::Top(n, x) => {
                 height = n;
+                top = x;
                 i += 1;
             }
             Height::No(n) => {
@@ -216,7 +231,7 @@ pub fn values_first(
             }
         }
     }
-    Reached::To(i, height)
+    Reached::To(i, height, top)
 }
 
 // The relations of a reply are worked out in turn, each after the earlier assignments, for the variables that the
@@ -235,7 +250,7 @@ fn assign(
     values: &mut [u16],
 ) -> Way
     requires { ⌜ Assigning n (now text) (now page) (now ops) (now values) ⌝ }
-    ensures { λ r. ⌜ assigned r (now (vars .exit)) ≡ assigning (sources (now (vars .entry)) flags sense (now (page .entry)) (now (memory .entry))) (variablesOf (now (rest .entry))) (replied n (now (text .entry))) ⌝ }
+    ensures { λ r. ⌜ assignedBy r (now (vars .exit)) ≡ assigning (sources (now (vars .entry)) flags sense (now (page .entry)) (now (memory .entry))) (variablesOf (now (rest .entry))) (replied n (now (text .entry))) ⌝ }
 {
     let mut c = Cursor { at: 0 };
     let mut i: usize = 0;
@@ -274,7 +289,7 @@ pub fn take_reply(
     values: &mut [u16],
 ) -> Way
     requires { ⌜ ReplyRoom (now text) (now page) (now ops) (now values) ⌝ }
-    ensures { λ r. ⌜ assigned r (now (vars .exit)) ≡ assigning (sources (now (vars .entry)) flags sense (now (page .entry)) (now (memory .entry))) (variablesOf (now (rest .entry))) (replied n (now (text .entry))) ⌝ }
+    ensures { λ r. ⌜ assignedBy r (now (vars .exit)) ≡ assigning (sources (now (vars .entry)) flags sense (now (page .entry)) (now (memory .entry))) (variablesOf (now (rest .entry))) (replied n (now (text .entry))) ⌝ }
 {
     match line::read_reply(text, n, ops) {
         ListRead::Reads => assign(rest, n, text, flags, sense, page, vars, memory, ops, values),

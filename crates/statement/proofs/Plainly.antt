@@ -11,7 +11,7 @@ use Rattle.nibl.specs.Meaning.{World, Env, stop, Done, done, went}
 use Rattle.codes.specs.Codes.{codeIn, argumentIn}
 use Rattle.world.specs.Turns.{wayOf, gosubsIn}
 use Rattle.world.specs.declared.jump.Way.{Way}
-use Rattle.operation.specs.Operations.{Sources, sourcesIn, begun, valuesFirst, effectBy, runOps}
+use Rattle.operation.specs.Operations.{Sources, sourcesIn, atEffect, valuesFirst, effectBy, runOps}
 use Rattle.operation.specs.Stacks.{sources, stackOf}
 use Rattle.operation.proofs.Firsts.{runs-first}
 use Rattle.effect.specs.Worlds.{did, didIn}
@@ -38,7 +38,7 @@ module _ (s : InView) (a : Around) (ops vars : List ℕ) (i : ℕ) where
   pub plain-refused : {n : ℕ} → no n ≡ valuesFirst src (drop i ops) [] → runOps (envFrom s a) (drop i ops) (worldFrom s a vars) [] ≡ done (stop n) (worldFrom s a vars)
   plain-refused e = runs-first (envFrom s a) (worldFrom s a vars) (drop i ops) [] ∙ rw (← e) refl
 
-  pub plain-reached : {rest vs : List ℕ} → is (begun rest vs) ≡ valuesFirst src (drop i ops) []
+  pub plain-reached : {rest vs : List ℕ} → is (atEffect rest vs) ≡ valuesFirst src (drop i ops) []
       → runOps (envFrom s a) (drop i ops) (worldFrom s a vars) [] ≡ runOps (envFrom s a) rest (worldFrom s a vars) vs
   plain-reached e = runs-first (envFrom s a) (worldFrom s a vars) (drop i ops) [] ∙ rw (← e) refl
 

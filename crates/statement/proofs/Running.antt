@@ -23,7 +23,7 @@ use Rattle.world.specs.declared.jump.Way.the-variants as way
 use Rattle.world.specs.Hearing.{Heard, hears, hearing, heardIn}
 use Rattle.world.proofs.input.Answers.{heard-in}
 use Rattle.operation.specs.Operations.{sourcesIn, valueStep, effectBy, variablesOf, isLast, lastBy, runOps}
-use Rattle.operation.specs.Stacks.{sources, assigned, assigning, assignedIn}
+use Rattle.operation.specs.Stacks.{sources, assignedBy, assigning, assignedIn}
 use Rattle.operation.proofs.Meaning.{reply-is}
 use Rattle.nibl.specs.declared.Parts.{Parts}
 use Rattle.effect.specs.declared.Did.{Did}
@@ -78,7 +78,7 @@ module _ (lim : ℕ) (input : List ℕ) (sense : ℕ) (page vs : List ℕ) (n : 
   no-reply h = ap (λ r. heardIn (worldWith vars p memory output) r (takesReply sense page vs n)) h
 
   pub reply-taken : {after bs vars′ : List ℕ} {i o : ℕ} (r : Way) → hears (is bs) i after o ≡ hearing lim input (p .inpos) output (p .outpos)
-      → assigned r vars′ ≡ assigning (sources vars (p .flags) sense page memory) vs (replied n bs)
+      → assignedBy r vars′ ≡ assigning (sources vars (p .flags) sense page memory) vs (replied n bs)
       → didIn (did r (partsAt p i o)) vars′ memory after ≡ answer
   reply-taken {after} {i = i} {o = o} r h a =
       ap (assignedIn (worldWith vars (partsAt p i o) memory after)) a

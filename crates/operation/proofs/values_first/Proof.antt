@@ -5,34 +5,34 @@ use mathlib.Core.List.{[]}
 use native.Mathlib.Omega.{arith}
 use lib.ListN.{length, drop}
 use Rattle.operation.specs.Operations.{valuesFirst}
-use Rattle.operation.specs.Stacks.{sources, stackOf}
-use Rattle.operation.proofs.Stacks.{stack-none}
+use Rattle.operation.specs.Stacks.{sources, stackOf, topIn}
+use Rattle.operation.proofs.Stacks.{stack-none, top-none}
 use Rattle.operation.proofs.Firsts.{first-on, first-off, first-effect, first-end}
 use borrow.Author.Needs.{needs}
 use Rattle.operation.proofs.values_first.Statement.{statement}
 use Rattle.operation.proofs.values_first.Tie as tie
 
 abbrev Inv-loop : tie.InvT-loop
-Inv-loop ops from vars flags sense page memory values₀ height₀ i₀ values height i =
-    (height ≤ i) × (from ≤ i) × (length values ≡ length values₀)
+Inv-loop ops from vars flags sense page memory values₀ height₀ top₀ i₀ values height top i =
+    (height ≤ i) × (from ≤ i) × (length values ≡ length values₀) × (top ≡ topIn values height)
     × (valuesFirst (sources vars flags sense page memory) (drop from ops) [] ≡ valuesFirst (sources vars flags sense page memory) (drop i ops) (stackOf values height))
 
 abbrev μ-loop : tie.MeasureT-loop
-μ-loop ops from vars flags sense page memory values₀ height₀ i₀ values height i = length ops - i
+μ-loop ops from vars flags sense page memory values₀ height₀ top₀ i₀ values height top i = length ops - i
 
 loop-holds : tie.Need-loop-holds Inv-loop μ-loop
 loop-holds c =
     let a = c .before .before .before .before .before .args in
-    (omega arith, omega arith, refl, ap (valuesFirst (sources (a .vars .now) (a .flags) (a .sense) (a .page .now) (a .memory .now)) (drop (a .from) (a .ops .now))) (sym (stack-none (a .values .now))))
+    (omega arith, omega arith, refl, top-none (a .values .now), ap (valuesFirst (sources (a .vars .now) (a .flags) (a .sense) (a .page .now) (a .memory .now)) (drop (a .from) (a .ops .now))) (sym (stack-none (a .values .now))))
 
 returns : tie.Need-returns Inv-loop μ-loop
 returns c =
     let a = c .before .before .before .before .before .before .before .before .before .args in
     let l = c .before .before .before .loop in
-    (sym (l .inv .3 ∙ first-effect (sources (a .vars .now) (a .flags) (a .sense) (a .page .now) (a .memory .now)) (a .ops .now) (stackOf (l .values) (l .height)) (l .i) (c .before .before .loop-test .taken) (c .if1 .taken)), l .inv .0, l .inv .1)
+    (sym (l .inv .4 ∙ first-effect (sources (a .vars .now) (a .flags) (a .sense) (a .page .now) (a .memory .now)) (a .ops .now) (stackOf (l .values) (l .height)) (l .i) (c .before .before .loop-test .taken) (c .if1 .taken)), l .inv .0, l .inv .1, l .inv .3)
 
 value-step-requires : tie.Need-value-step-requires Inv-loop μ-loop
-value-step-requires c κs = let h = c .before .before .before .before .before .before .before .before .before .before .pre in let v = c .before .before .before .before .loop .inv in let t = c .before .before .before .loop-test .taken in (omega arith, h .1)
+value-step-requires c κs = let h = c .before .before .before .before .before .before .before .before .before .before .pre in let v = c .before .before .before .before .loop .inv in let t = c .before .before .before .loop-test .taken in (omega arith, h .1, v .3)
 
 add-i : tie.Need-add-i Inv-loop μ-loop
 add-i c = let g = c .before .before .before .before .before .before .before .before .before .before .before .before .before .before .before .before .good in let t = c .before .before .before .before .before .before .before .before .before .loop-test .taken in omega arith
@@ -52,7 +52,8 @@ loop-again c =
       omega arith,
       omega arith,
       q .kept .1 .1 .1 .1 .1 .1 .0 ∙ l .inv .2,
-      l .inv .3 ∙ first-on (sources (a .vars .now) (a .flags) (a .sense) (a .page .now) (a .memory .now)) (a .ops .now) (stackOf (l .values) (l .height)) (l .i) t (omega (arith, c .before .before .before .before .before .before .before .if1 .left))
+      rw (c .before .r .given .1) at (q .ensures .2),
+      l .inv .4 ∙ first-on (sources (a .vars .now) (a .flags) (a .sense) (a .page .now) (a .memory .now)) (a .ops .now) (stackOf (l .values) (l .height)) (l .i) t (omega (arith, c .before .before .before .before .before .before .before .if1 .left))
           (rw (c .before .r .given .1) at (q .ensures .0)),
     )
 
@@ -64,17 +65,18 @@ returns-2 c =
     let a = c .before .before .before .before .before .before .before .before .before .before .before .before .before .before .before .before .args in
     let l = c .before .before .before .before .before .before .before .before .before .before .loop in (
       sym
-          (l .inv .3
+          (l .inv .4
           ∙ first-off (sources (a .vars .now) (a .flags) (a .sense) (a .page .now) (a .memory .now)) (a .ops .now) (stackOf (l .values) (l .height)) (l .i) (c .before .before .before .before .before .before .before .before .before .loop-test .taken) (omega (arith, c .before .before .before .before .before .before .before .if1 .left)) (rw (c .before .r2 .given .1) at (c .before .before .before .before .before .value-step .ensures .0))),
       omega arith,
       omega arith,
+      top-none _,
     )
 
 returns-3 : tie.Need-returns-3 Inv-loop μ-loop
 returns-3 c =
     let a = c .before .before .before .before .before .before .before .args in
     let l = c .before .loop in
-    (sym (l .inv .3 ∙ first-end (sources (a .vars .now) (a .flags) (a .sense) (a .page .now) (a .memory .now)) (a .ops .now) (stackOf (l .values) (l .height)) (l .i) (c .loop-test .left)), l .inv .0, l .inv .1)
+    (sym (l .inv .4 ∙ first-end (sources (a .vars .now) (a .flags) (a .sense) (a .page .now) (a .memory .now)) (a .ops .now) (stackOf (l .values) (l .height)) (l .i) (c .loop-test .left)), l .inv .0, l .inv .1, l .inv .3)
 
 pub values-first-spec : {M : Type 1} → statement M
 values-first-spec =

@@ -6,27 +6,27 @@ use native.Mathlib.Omega.{arith}
 use lib.ListN.{length, drop}
 use Rattle.nibl.specs.Values.{is}
 use Rattle.operation.specs.Operations.{workOut}
-use Rattle.operation.specs.Stacks.{sources, stackOf}
-use Rattle.operation.proofs.Stacks.{work-on, work-off, work-end, stack-none, topmost}
+use Rattle.operation.specs.Stacks.{sources, stackOf, topIn}
+use Rattle.operation.proofs.Stacks.{work-on, work-off, work-end, stack-none, top-none, topmost}
 use borrow.Author.Needs.{needs}
 use Rattle.operation.proofs.work_out.Statement.{statement}
 use Rattle.operation.proofs.work_out.Tie as tie
 
 abbrev Inv-loop : tie.InvT-loop
-Inv-loop ops vars flags sense page memory values₀ height₀ i₀ values height i =
-    (height ≤ i) × (i ≤ length ops) × (length values ≡ length values₀)
+Inv-loop ops vars flags sense page memory values₀ height₀ top₀ i₀ values height top i =
+    (height ≤ i) × (i ≤ length ops) × (length values ≡ length values₀) × (top ≡ topIn values height)
     × (workOut (sources vars flags sense page memory) ops [] ≡ workOut (sources vars flags sense page memory) (drop i ops) (stackOf values height))
 
 abbrev μ-loop : tie.MeasureT-loop
-μ-loop ops vars flags sense page memory values₀ height₀ i₀ values height i = length ops - i
+μ-loop ops vars flags sense page memory values₀ height₀ top₀ i₀ values height top i = length ops - i
 
 loop-holds : tie.Need-loop-holds Inv-loop μ-loop
 loop-holds c =
     let a = c .before .before .before .before .before .args in
-    (omega arith, omega arith, refl, ap (workOut (sources (a .vars .now) (a .flags) (a .sense) (a .page .now) (a .memory .now)) (a .ops .now)) (sym (stack-none (a .values .now))))
+    (omega arith, omega arith, refl, top-none (a .values .now), ap (workOut (sources (a .vars .now) (a .flags) (a .sense) (a .page .now) (a .memory .now)) (a .ops .now)) (sym (stack-none (a .values .now))))
 
 value-step-requires : tie.Need-value-step-requires Inv-loop μ-loop
-value-step-requires c κs = let h = c .before .before .before .before .before .before .before .before .before .pre in let v = c .before .before .before .loop .inv in let t = c .before .before .loop-test .taken in (omega arith, h .1)
+value-step-requires c κs = let h = c .before .before .before .before .before .before .before .before .before .pre in let v = c .before .before .before .loop .inv in let t = c .before .before .loop-test .taken in (omega arith, h .1, v .3)
 
 add-i : tie.Need-add-i Inv-loop μ-loop
 add-i c = let g = c .before .before .before .before .before .before .before .before .before .before .before .before .before .before .before .good in let t = c .before .before .before .before .before .before .before .before .loop-test .taken in omega arith
@@ -45,7 +45,8 @@ loop-again c =
       omega arith,
       omega arith,
       q .kept .1 .1 .1 .1 .1 .1 .0 ∙ l .inv .2,
-      l .inv .3 ∙ work-on (sources (a .vars .now) (a .flags) (a .sense) (a .page .now) (a .memory .now)) (a .ops .now) (stackOf (l .values) (l .height)) (l .i) t
+      rw (c .before .r .given .1) at (q .ensures .2),
+      l .inv .4 ∙ work-on (sources (a .vars .now) (a .flags) (a .sense) (a .page .now) (a .memory .now)) (a .ops .now) (stackOf (l .values) (l .height)) (l .i) t
           (rw (c .before .r .given .1) at (q .ensures .0)),
     )
 
@@ -57,20 +58,20 @@ returns c =
     let a = c .before .before .before .before .before .before .before .before .before .before .before .before .before .before .before .args in
     let l = c .before .before .before .before .before .before .before .before .before .loop in
     topmost
-    (l .inv .3
+    (l .inv .4
     ∙ work-off (sources (a .vars .now) (a .flags) (a .sense) (a .page .now) (a .memory .now)) (a .ops .now) (stackOf (l .values) (l .height)) (l .i) (c .before .before .before .before .before .before .before .before .loop-test .taken)
     (rw (c .before .r2 .given .1) at (c .before .before .before .before .before .value-step .ensures .0)))
 
 returns-2 : tie.Need-returns-2 Inv-loop μ-loop
 returns-2 c =
-    let a = c .before .before .before .before .before .before .before .before .before .args in
-    let l = c .before .before .before .loop in
-    ap is (c .nth .ensures)
+    let a = c .before .before .before .before .before .before .before .args in
+    let l = c .before .loop in
+    ap is (l .inv .3)
     ∙ topmost
-    (l .inv .3
-    ∙ work-end (sources (a .vars .now) (a .flags) (a .sense) (a .page .now) (a .memory .now)) (a .ops .now) (stackOf (l .values) (l .height)) (l .i) (c .before .before .loop-test .left))
+    (l .inv .4
+    ∙ work-end (sources (a .vars .now) (a .flags) (a .sense) (a .page .now) (a .memory .now)) (a .ops .now) (stackOf (l .values) (l .height)) (l .i) (c .loop-test .left))
 
 pub work-out-spec : {M : Type 1} → statement M
 work-out-spec =
     tie.close
-    (tie.spec Inv-loop μ-loop loop-holds (λ c. search needs) (λ c. omega arith) value-step-requires (λ c. search needs) add-i loop-less loop-again (λ c. search needs) same-length returns (λ c κs. search needs) (λ c. c .before .before .before .loop .inv .2) returns-2)
+    (tie.spec Inv-loop μ-loop loop-holds (λ c. search needs) (λ c. omega arith) value-step-requires (λ c. search needs) add-i loop-less loop-again (λ c. search needs) same-length returns (λ c. c .before .loop .inv .2) returns-2)
