@@ -1,5 +1,5 @@
 -- What an operation that acts at once, or a turn, leaves in the world is what it does there. Assumes nothing.
-use Prim.Native.Nat.{ℕ, suc, _%_, _≤_}
+use Prim.Native.Nat.{ℕ, _%_, _≤_}
 use mathlib.Core.Path.{_≡_, refl, sym, ap, _∙_}
 use mathlib.Core.Bool.{false}
 use mathlib.Core.Logic.{_⊎_, inl, inr}
@@ -8,16 +8,12 @@ use mathlib.Core.Option.{Option, none, some}
 use native.Mathlib.Omega.{arith}
 use borrow.Author.Tests.{eqb-true}
 use lib.Dec.{eqb}
-use lib.ListN.{set}
-use Rattle.nibl.specs.Bytes.{if_then_else_}
-use Rattle.nibl.specs.Page.{find}
-use Rattle.nibl.specs.Meaning.{World, Next, on, skip, go, stop, Done, done}
+use Rattle.nibl.specs.Meaning.{Next, on, skip, Done, done}
 use Rattle.nibl.specs.declared.Place.{Place}
 use Rattle.nibl.specs.declared.PlaceStack.{PlaceStack}
 use Rattle.nibl.specs.declared.ForStack.{ForStack}
-use Rattle.page.specs.Walk.{reached}
 use Rattle.page.proofs.Walk.{by-cases}
-use Rattle.world.specs.Turns.{wayTo, turnedForTo, nextTurn, backedTo, nextBack, untilTurn, untilBack, gosubsIn, dosIn, forsIn}
+use Rattle.world.specs.Turns.{turnedForTo, nextTurn, backedTo, nextBack, untilTurn, untilBack, gosubsIn, dosIn, forsIn}
 use Rattle.world.proofs.jump.Worlds.{goto-called, gosub-called, return-in, do-in, until-in, for-in, next-in, back-turns, back-none, until-turns}
 use Rattle.codes.specs.Codes.{effects, codeSetVariable, codeIf, codeGoto, codeGosub, codeReturn, codeDo, codeUntil, codeFor, codeNext}
 use Rattle.operation.specs.Operations.{effectBy, isLast}
