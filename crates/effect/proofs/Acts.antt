@@ -1,29 +1,24 @@
--- What an operation that acts at once leaves in the world is what it does there. Assumes nothing.
-use Prim.Native.Nat.{ℕ, suc, _%_, _≤_}
+-- What an operation that acts at once, or a turn, leaves in the world is what it does there. Assumes nothing.
+use Prim.Native.Nat.{ℕ, _%_, _≤_}
 use mathlib.Core.Path.{_≡_, refl, sym, ap, _∙_}
-use mathlib.Core.Bool.{true, false}
+use mathlib.Core.Bool.{false}
+use mathlib.Core.Logic.{_⊎_, inl, inr}
 use mathlib.Core.List.{List}
 use mathlib.Core.Option.{Option, none, some}
 use native.Mathlib.Omega.{arith}
 use borrow.Author.Tests.{eqb-true}
-use lib.Dec.{eqb, ltb}
-use lib.ListN.{set}
-use Rattle.nibl.specs.Bytes.{if_then_else_}
-use Rattle.nibl.specs.Page.{find}
-use Rattle.nibl.specs.Meaning.{World, Next, on, skip, go, stop, Done, done, went, after}
+use lib.Dec.{eqb}
+use Rattle.nibl.specs.Meaning.{Next, on, skip, Done, done}
 use Rattle.nibl.specs.declared.Place.{Place}
 use Rattle.nibl.specs.declared.PlaceStack.{PlaceStack}
 use Rattle.nibl.specs.declared.ForStack.{ForStack}
-use Rattle.nibl.specs.declared.Top.{Top}
-use Rattle.nibl.specs.declared.Top.the-variants as top
-use Rattle.page.specs.Walk.{reached}
 use Rattle.page.proofs.Walk.{by-cases}
-use Rattle.world.specs.Turns.{wayTo, TurnedFor, turnedForTo, nextTurn, backedTo, nextBack, untilTurn, untilBack, Turned, turnedTo, keepTurn, gosubTurn, returnOn, returnTurn, gosubsIn, dosIn, forsIn}
-use Rattle.world.proofs.jump.Worlds.{goto-called, gosub-called, return-in, until-in, next-in, back-turns, back-none, until-turns}
-use Rattle.codes.specs.Codes.{effects, codeSetVariable, codeIf, codeGoto, codeGosub, codeReturn, codeUntil, codeNext}
+use Rattle.world.specs.Turns.{turnedForTo, nextTurn, backedTo, nextBack, untilTurn, untilBack, gosubsIn, dosIn, forsIn}
+use Rattle.world.proofs.jump.Worlds.{goto-called, gosub-called, return-in, do-in, until-in, for-in, next-in, back-turns, back-none, until-turns}
+use Rattle.codes.specs.Codes.{effects, codeSetVariable, codeIf, codeGoto, codeGosub, codeReturn, codeDo, codeUntil, codeFor, codeNext}
 use Rattle.operation.specs.Operations.{effectBy, isLast}
 use Rattle.effect.specs.Worlds.{worldWith}
-use Rattle.effect.specs.Acts.{Acted, actedTo, backTo, actBy, isCall, callTurn}
+use Rattle.effect.specs.Acts.{Acted, actedTo, backTo, actBy, callTurn, loopTurn, countTurn}
 use Rattle.effect.proofs.Answers.{done-if}
 use Rattle.effect.proofs.Codes.{Given, world}
 
@@ -110,44 +105,56 @@ module _ (page : List ℕ) (dos : PlaceStack) (fors : ForStack) (arg x : ℕ) (v
       (λ h. let k = nextBack fors vars (arg % 256) in back-not fors vars (arg % 256) (k .to) (k .vars) refl (rw (a, b, c, u, h) at e))
       (λ d. ap (λ (a : Acted). a .vars) (rw (a, b, c, u, d) at e))))))
 
--- GOSUB and RETURN are the turns of their stack
+-- A turn does what its operation does, by the code
 module _ (g : Given) where
+  abbrev here : Place
+  here = record { 0 = g .env .here }
+
   abbrev call : ℕ → Done
-  call code = gosubsIn (world g) (callTurn (g .env .page) (record { 0 = g .env .here }) (g .parts .gosubs) code (g .x))
+  call code = gosubsIn (world g) (callTurn (g .env .page) here (g .parts .gosubs) code (g .x))
 
-  gosub-does : does g codeGosub ≡ call codeGosub
+  abbrev turn : ℕ → Done
+  turn code = dosIn (world g) (loopTurn here (g .parts .dos) code (g .x))
+
+  abbrev count : ℕ → Done
+  count code = forsIn (world g) (countTurn here (g .parts .fors) (g .vars) code (g .arg) (g .x) (g .y) (g .z))
+
+  -- it is an operation that changes the world, and takes no rest of the list
+  abbrev Does : ℕ → Done → Type 0
+  Does code d = (does g code ≡ d) × (effects ≤ code) × (isLast code ≡ false)
+
+  gosub-does : Does codeGosub (call codeGosub)
   unfolding effectBy callTurn
-  gosub-does = gosub-called (g .env) (world g) (g .env .page) (g .x) (g .short)
+  gosub-does = (gosub-called (g .env) (world g) (g .env .page) (g .x) (g .short), omega arith, refl)
 
-  return-does : does g codeReturn ≡ call codeReturn
+  return-does : Does codeReturn (call codeReturn)
   unfolding effectBy callTurn
-  return-does = return-in (world g)
+  return-does = (return-in (world g), omega arith, refl)
 
-  pub call-does : (code : ℕ) → isCall code ≡ true → (does g code ≡ call code) × (effects ≤ code) × (isLast code ≡ false)
-  call-does code e =
-      by-cases (eqb code codeGosub) (λ h. rw (eqb-true code codeGosub h) (gosub-does, omega arith, refl))
-      (λ a. by-cases (eqb code codeReturn) (λ h. rw (eqb-true code codeReturn h) (return-does, omega arith, refl))
-      (λ b. let f = rw (a, b) at e in let z : _≡_ {A = ℕ} 0 1 = cc in absurd (omega arith)))
+  pub call-does : {code : ℕ} → (code ≡ codeGosub) ⊎ (code ≡ codeReturn) → Does code (call code)
+  call-does (inl h) = rw h gosub-does
+  call-does (inr h) = rw h return-does
 
--- and no more operations come behind them
-module _ (w : World) (k : World → Done) where
-  abbrev Last : Turned → Type 0
-  Last t = went (gosubsIn w t) k ≡ gosubsIn w t
+  do-does : Does codeDo (turn codeDo)
+  unfolding effectBy loopTurn
+  do-does = (do-in (g .env) (world g), omega arith, refl)
 
-  keep-last : (here : Place) (s : PlaceStack) (q : ℕ) → Last (keepTurn here s (go q))
-  unfolding keepTurn
-  keep-last here s q = by-cases (ltb (s .depth) 8) (λ h. rw h) (λ h. rw h)
+  until-turn : Does codeUntil (turn codeUntil)
+  unfolding effectBy loopTurn
+  until-turn = (until-in (world g) (g .x), omega arith, refl)
 
-  gosub-last : (here : Place) (s : PlaceStack) (o : Option ℕ) → Last (gosubTurn here s o)
-  unfolding gosubTurn
-  gosub-last here s none = refl
-  gosub-last here s (some q) = keep-last here s q
+  pub loop-does : {code : ℕ} → (code ≡ codeDo) ⊎ (code ≡ codeUntil) → Does code (turn code)
+  loop-does (inl h) = rw h do-does
+  loop-does (inr h) = rw h until-turn
 
-  return-last : (s : PlaceStack) (t : Top) → Last (returnOn s t)
-  unfolding returnOn
-  return-last s top.Empty = refl
-  return-last s (top.At p) = by-cases (eqb (p .0) 65535) (λ h. rw h) (λ h. rw h)
+  for-does : Does codeFor (count codeFor)
+  unfolding effectBy countTurn
+  for-does = (for-in (g .env) (world g) (g .arg % 256) (g .z) (g .y) (g .x), omega arith, refl)
 
-  pub call-last : (page : List ℕ) (here : Place) (s : PlaceStack) (code x : ℕ) → Last (callTurn page here s code x)
-  unfolding callTurn returnTurn
-  call-last page here s code x = by-cases (eqb code codeGosub) (λ h. rw h (gosub-last here s (reached (find page x)))) (λ h. rw h (return-last s _))
+  next-turn : Does codeNext (count codeNext)
+  unfolding effectBy countTurn
+  next-turn = (next-in (world g) (g .arg % 256), omega arith, refl)
+
+  pub count-does : {code : ℕ} → (code ≡ codeFor) ⊎ (code ≡ codeNext) → Does code (count code)
+  count-does (inl h) = rw h for-does
+  count-does (inr h) = rw h next-turn

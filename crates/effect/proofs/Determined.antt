@@ -1,5 +1,5 @@
--- One outcome: two answers that meet the promise of `effect`, of `act` or of `call_turn` for the same arguments are equal, and so
--- are the variables, the memory and the output; of the line's slots it says nothing. Assumes nothing.
+-- One outcome: two answers that meet the promise of `effect`, of `act` or of one of the turns for the same arguments are equal, and
+-- so are the variables, the memory and the output; of the line's slots it says nothing. Assumes nothing.
 use Prim.Native.Nat.{ℕ}
 use mathlib.Core.Path.{_≡_, refl, ap}
 use mathlib.Core.List.{List}
@@ -9,12 +9,14 @@ use Rattle.nibl.proofs.Determined.{determined}
 use Rattle.nibl.specs.Meaning.{World, Next, Done, done}
 use Rattle.nibl.specs.declared.Place.{Place}
 use Rattle.nibl.specs.declared.PlaceStack.{PlaceStack}
-use Rattle.world.specs.Turns.{wayOf, turned}
+use Rattle.nibl.specs.declared.ForStack.{ForStack}
+use Rattle.world.specs.Turns.{wayOf, turned, turnedFor}
 use Rattle.world.specs.declared.jump.Turn.{Turn}
-use Rattle.world.proofs.jump.Determined.{way-determined, turn-determined}
+use Rattle.world.specs.declared.jump.ForTurn.{ForTurn}
+use Rattle.world.proofs.jump.Determined.{way-determined, turn-determined, for-turn-determined}
 use Rattle.effect.specs.declared.AtOnce.{AtOnce}
 use Rattle.effect.specs.declared.AtOnce.the-variants as once
-use Rattle.effect.specs.Acts.{Acted, acted, wayAtOnce, callTurn}
+use Rattle.effect.specs.Acts.{Acted, acted, wayAtOnce, callTurn, loopTurn, countTurn}
 use Rattle.effect.specs.declared.Did.{Did}
 use Rattle.effect.specs.Worlds.{didIn}
 
@@ -63,3 +65,10 @@ act-determined x a b vars vars′ p q =
 pub call-determined : (page : List ℕ) (here : Place) (s : PlaceStack) (code x : ℕ) (a b : Turn)
     → turned a ≡ callTurn page here s code x → turned b ≡ callTurn page here s code x → a ≡ b
 call-determined page here s code x = turn-determined (callTurn page here s code x)
+
+pub loop-determined : (here : Place) (s : PlaceStack) (code x : ℕ) (a b : Turn) → turned a ≡ loopTurn here s code x → turned b ≡ loopTurn here s code x → a ≡ b
+loop-determined here s code x = turn-determined (loopTurn here s code x)
+
+pub count-determined : (here : Place) (s : ForStack) (vars : List ℕ) (code arg x y z : ℕ) (a b : ForTurn) (u u′ : List ℕ)
+    → turnedFor a u ≡ countTurn here s vars code arg x y z → turnedFor b u′ ≡ countTurn here s vars code arg x y z → (a ≡ b) × (u ≡ u′)
+count-determined here s vars code arg x y z = for-turn-determined (countTurn here s vars code arg x y z)

@@ -1,7 +1,6 @@
 -- The operations that act at once: what they do needs, besides the values, the page, the variables and a look at two stacks, and
--- changes the variables alone. GOSUB and RETURN change their stack alone, and end the statement.
+-- changes the variables alone. The turns change one stack besides, and no other part.
 use Prim.Native.Nat.{ℕ, suc, _%_}
-use mathlib.Core.Bool.{Bool, _||_}
 use mathlib.Core.List.{List}
 use mathlib.Core.Option.{Option, none, some}
 use lib.Dec.{eqb}
@@ -13,9 +12,9 @@ use Rattle.nibl.specs.declared.Place.{Place}
 use Rattle.nibl.specs.declared.PlaceStack.{PlaceStack}
 use Rattle.nibl.specs.declared.ForStack.{ForStack}
 use Rattle.page.specs.Walk.{reached}
-use Rattle.world.specs.Turns.{wayOf, wayTo, Turned, gosubTurn, returnTurn, backOf, Backed, nextBack, untilBack}
+use Rattle.world.specs.Turns.{wayOf, wayTo, Turned, TurnedFor, gosubTurn, returnTurn, doTurn, untilTurn, forTurn, nextTurn, backOf, Backed, nextBack, untilBack}
 use Rattle.world.specs.declared.jump.Back.{Back}
-use Rattle.codes.specs.Codes.{codeSetVariable, codeIf, codeGoto, codeGosub, codeReturn, codeUntil, codeNext}
+use Rattle.codes.specs.Codes.{codeSetVariable, codeIf, codeGoto, codeGosub, codeDo, codeUntil, codeFor, codeNext}
 use Rattle.effect.specs.declared.AtOnce.{AtOnce}
 use Rattle.effect.specs.declared.AtOnce.the-variants as once
 
@@ -54,8 +53,12 @@ actBy page dos fors code arg x vars =
     else if eqb code codeNext then backActed (nextBack fors vars (arg % 256))
     else actedTo none vars
 
-abbrev pub isCall : ℕ → Bool
-isCall code = eqb code codeGosub || eqb code codeReturn
-
+-- GOSUB, and RETURN for any other code; DO, and UNTIL; FOR, and NEXT
 unfoldable pub callTurn : List ℕ → Place → PlaceStack → ℕ → ℕ → Turned
 callTurn page here gosubs code x = if eqb code codeGosub then gosubTurn here gosubs (reached (find page x)) else returnTurn gosubs
+
+unfoldable pub loopTurn : Place → PlaceStack → ℕ → ℕ → Turned
+loopTurn here dos code x = if eqb code codeDo then doTurn here dos else untilTurn x dos
+
+unfoldable pub countTurn : Place → ForStack → List ℕ → ℕ → ℕ → ℕ → ℕ → ℕ → TurnedFor
+countTurn here fors vars code arg x y z = if eqb code codeFor then forTurn here fors vars (arg % 256) z y x else nextTurn fors vars (arg % 256)

@@ -7,11 +7,11 @@ ghost use lib.Dec.{leb, eqb};
 ghost use lib.ListN.{length, set};
 ghost use Rattle.nibl.specs.Bytes.{if_then_else_, byteCR, byteLF};
 ghost use Rattle.nibl.specs.Meaning.{on, skip, stop};
-ghost use Rattle.world.specs.Turns.{wayOf, turned};
+ghost use Rattle.world.specs.Turns.{wayOf, turned, turnedFor};
 ghost use Rattle.value.specs.Writes.{Writes};
 ghost use Rattle.operation.specs.Operations.{effectBy};
 ghost use Rattle.effect.specs.Worlds.{envWith, worldWith, did, didIn, withFlagsIn, withGosubsIn, withDosIn, withForsIn, partsAt, storedWay, wroteIn, KeepsVars, putStored, keepReply};
-ghost use Rattle.effect.specs.Acts.{acted, actBy, goesBack, wayAtOnce, isCall, callTurn};
+ghost use Rattle.effect.specs.Acts.{acted, actBy, goesBack, wayAtOnce, callTurn, loopTurn, countTurn};
 use nibl::ForStack;
 use nibl::Onward;
 use nibl::Parts;
@@ -230,12 +230,7 @@ pub fn act(
     }
 }
 
-// Whether an operation is GOSUB or RETURN, which need no more of the parts than their stack, and end the statement.
-pub fn is_call(code: u32) -> bool
-    ensures { λ r. ⌜ r ≡ isCall code ⌝ }
-{
-    code == codes::GOSUB || code == codes::RETURN
-}
+// The turns: the operations that end their statement and change one stack. Each is given that stack alone.
 
 // GOSUB, and RETURN for any other code.
 pub fn call_turn(code: u32, x: u16, here: Place, page: &[u8], gosubs: PlaceStack) -> Turn
@@ -245,6 +240,35 @@ pub fn call_turn(code: u32, x: u16, here: Place, page: &[u8], gosubs: PlaceStack
         return jump::go_sub(page, x, here, gosubs);
     }
     jump::return_from(gosubs)
+}
+
+// DO, and UNTIL for any other code.
+pub fn loop_turn(code: u32, x: u16, here: Place, dos: PlaceStack) -> Turn
+    ensures { λ r. ⌜ turned r ≡ loopTurn here dos code x ⌝ }
+{
+    if code == codes::DO {
+        return jump::do_here(dos, here);
+    }
+    jump::until(dos, x)
+}
+
+// FOR, and NEXT for any other code.
+pub fn count_turn(
+    code: u32,
+    arg: u32,
+    x: u16,
+    y: u16,
+    z: u16,
+    here: Place,
+    vars: &mut [u16],
+    fors: ForStack,
+) -> ForTurn
+    ensures { λ r. ⌜ turnedFor r (now (vars .exit)) ≡ countTurn here fors (now (vars .entry)) code arg x y z ⌝ }
+{
+    if code == codes::FOR {
+        return jump::for_here(fors, here, vars, low_byte(arg), z, y, x);
+    }
+    jump::next_of(fors, vars, low_byte(arg))
 }
 
 // INPUT of a string: the reply and its CR go into memory.

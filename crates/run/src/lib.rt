@@ -175,32 +175,28 @@ pub fn run_steps<'a>(
             memory,
             values,
         );
-        match r {
-            Plain::Ends(way) => {
-                let led = led_by(way, at, cr);
-                match led {
-                    Led::To(o) => {
-                        q = o;
-                    }
-                    Led::Stops(n) => {
-                        return stops(page, n, at, steps, p);
-                    }
-                }
-            }
+        let led = match r {
+            Plain::Ends(way) => led_by(way, at, cr),
             Plain::Calls(code, x) => {
                 let t = effect::call_turn(code, x, at, page, p.gosubs);
                 let way = t.way;
                 let stack = t.stack;
                 p.gosubs = stack;
-                let led = led_by(way, at, cr);
-                match led {
-                    Led::To(o) => {
-                        q = o;
-                    }
-                    Led::Stops(n) => {
-                        return stops(page, n, at, steps, p);
-                    }
-                }
+                led_by(way, at, cr)
+            }
+            Plain::Loops(code, x) => {
+                let t = effect::loop_turn(code, x, at, dos);
+                let way = t.way;
+                let stack = t.stack;
+                p.dos = stack;
+                led_by(way, at, cr)
+            }
+            Plain::Counts(code, arg, x, y, z) => {
+                let t = effect::count_turn(code, arg, x, y, z, at, vars, fors);
+                let way = t.way;
+                let stack = t.stack;
+                p.fors = stack;
+                led_by(way, at, cr)
             }
             Plain::Needs(i, height) => {
                 let d = statement::run_from(
@@ -222,15 +218,15 @@ pub fn run_steps<'a>(
                 let way = d.way;
                 let next = d.parts;
                 p = next;
-                let led = led_by(way, at, cr);
-                match led {
-                    Led::To(o) => {
-                        q = o;
-                    }
-                    Led::Stops(n) => {
-                        return stops(page, n, at, steps, p);
-                    }
-                }
+                led_by(way, at, cr)
+            }
+        };
+        match led {
+            Led::To(o) => {
+                q = o;
+            }
+            Led::Stops(n) => {
+                return stops(page, n, at, steps, p);
             }
         }
     }

@@ -1,5 +1,5 @@
 -- Operations run one at a time, and the two that take the rest of the list. Assumes nothing.
-use Prim.Native.Nat.{ℕ, _+_, _/_, _%_, _≤_, _<_}
+use Prim.Native.Nat.{ℕ, _+_, _≤_, _<_}
 use mathlib.Core.Path.{_≡_, refl, sym, ap, _∙_}
 use mathlib.Core.Bool.{Bool, true, false}
 use mathlib.Core.List.{List, [], _∷_}
@@ -12,7 +12,7 @@ use lib.Seq.{drop-cons}
 use Rattle.nibl.specs.Values.{Result, is, no}
 use Rattle.nibl.specs.Stack.{noPlace}
 use Rattle.nibl.specs.Read.{replied}
-use Rattle.nibl.specs.Meaning.{World, Env, on, stop, Done, done, given, went, keepIn, storeAt}
+use Rattle.nibl.specs.Meaning.{World, Env, on, skip, go, stop, Done, done, given, went, keepIn, storeAt}
 use Rattle.nibl.specs.declared.Place.{Place}
 use Rattle.codes.specs.Codes.{codeIn, argumentIn, effects, codeStoreString}
 use Rattle.world.specs.Stores.{argsOf}
@@ -130,6 +130,23 @@ module _ (e : Env) (ops : List ℕ) (w : World) (vs : List ℕ) (i : ℕ) where
   pub run-end : length ops ≤ i → runOps e (drop i ops) w vs ≡ done on w
   unfolding runOps
   run-end h = rw (drop-of-length-le ops h) refl
+
+-- the last operation of a list, where it changes the world
+went-end : (d : Done) → went d (done on) ≡ d
+went-end (done on w) = refl
+went-end (done skip w) = refl
+went-end (done (go q) w) = refl
+went-end (done (stop n) w) = refl
+
+pub effect-ends : (e : Env) (ops : List ℕ) (w : World) (vs : List ℕ) (i : ℕ) → i < length ops → length ops ≤ i + 1 → {d : Done}
+    → (effectBy e (codeIn (getD ops i 0)) (argumentIn (getD ops i 0)) (getD vs 0 0) (getD vs 1 0) (getD vs 2 0) w ≡ d) × (effects ≤ codeIn (getD ops i 0)) × (isLast (codeIn (getD ops i 0)) ≡ false)
+    → runOps e (drop i ops) w vs ≡ d
+unfolding runOps
+effect-ends e ops w vs i h l {d} f =
+    effect-way e ops w vs i h (le-ltb _ _ (f .1)) (f .2)
+    ∙ ap (λ (x : Done). went x (λ u. runOps e (drop (i + 1) ops) u [])) (f .0)
+    ∙ ap (λ (rest : List ℕ). went d (λ u. runOps e rest u [])) (drop-of-length-le ops l)
+    ∙ went-end d
 
 -- As the functions tell it: the line's slots are as many as before, the values are those on top
 module _ (lim : ℕ) (page input : List ℕ) (sense : ℕ) (here : Place) where

@@ -1,5 +1,5 @@
 // A statement's operations run. What that needs besides is lent: room for values, for a reply's bytes and its operations.
-ghost use Prim.Native.Nat.{_≤_};
+ghost use Prim.Native.Nat.{_≤_, _<_};
 ghost use mathlib.Core.List.{[]};
 ghost use mathlib.Core.Path.{_≡_};
 ghost use lib.ListN.{length, drop};
@@ -10,7 +10,7 @@ ghost use Rattle.operation.specs.Stacks.{stackOf};
 ghost use Rattle.world.specs.Hearing.{hearing, heardIn};
 ghost use Rattle.effect.specs.Worlds.{envWith, worldWith, didIn};
 ghost use Rattle.statement.specs.Lending.{Fair, isOn, takesReply};
-ghost use Rattle.statement.specs.Plain.{RunsPlainly};
+ghost use Rattle.statement.specs.Plain.{RunsPlainly, LeftAt};
 use effect::AtOnce;
 use effect::Did;
 use nibl::ForStack;
@@ -24,11 +24,14 @@ use world::input::Reply;
 use world::jump::Way;
 use world::memory;
 
-// How far a statement runs without the parts: to its end; up to GOSUB or RETURN, by its code and the value on top; or up to
-// an operation that needs them, and how high the stack is then.
+// How far a statement runs without the parts: to its end; up to a turn that ends it and needs its stack alone, by its code and
+// what it is given, which is GOSUB or RETURN, DO or UNTIL, FOR or NEXT; or up to an operation that needs them, and how high the
+// stack of values is then.
 pub enum Plain {
     Ends(Way),
     Calls(u32, u16),
+    Loops(u32, u16),
+    Counts(u32, u32, u16, u16, u16),
     Needs(usize, usize),
 }
 
@@ -128,6 +131,30 @@ fn is_on(way: Way) -> bool
     }
 }
 
+// What is left to do at an operation that does not act at once. Only where no more operations come behind it is a turn left to
+// the run: what it does is then the statement's end.
+fn left_at(ops: &[u32], at: usize, values: &[u16], height: usize) -> Plain
+    requires { ⌜ (at < length (now ops)) × (height ≤ at) ⌝ }
+    ensures { λ r. ⌜ LeftAt (now (ops .entry)) (now (values .entry)) at height r ⌝ }
+{
+    if at + 1 < ops.len() {
+        return Plain::Needs(at, height);
+    }
+    let op = ops[at];
+    let code = op % codes::CODES;
+    let x = operation::nth(values, height, 0);
+    match code {
+        codes::GOSUB | codes::RETURN => Plain::Calls(code, x),
+        codes::DO | codes::UNTIL => Plain::Loops(code, x),
+        codes::FOR | codes::NEXT => {
+            let y = operation::nth(values, height, 1);
+            let z = operation::nth(values, height, 2);
+            Plain::Counts(code, op / codes::CODES, x, y, z)
+        }
+        _ => Plain::Needs(at, height),
+    }
+}
+
 // A statement as far as it runs without the parts: its values and the operations that act at once.
 pub fn run_plain(
     ops: &[u32],
@@ -150,12 +177,11 @@ pub fn run_plain(
             Reached::No(n) => {
                 return Plain::Ends(Way::Stop(n));
             }
-            Reached::To(j, height) => {
+            Reached::To(j, height, x) => {
                 if ops.len() <= j {
                     return Plain::Ends(Way::On);
                 }
                 let op = ops[j];
-                let x = operation::nth(values, height, 0);
                 let a = effect::act(
                     op % codes::CODES,
                     op / codes::CODES,
@@ -166,10 +192,7 @@ pub fn run_plain(
                     fors,
                 );
                 let AtOnce::Ended(way) = a else {
-                    if effect::is_call(op % codes::CODES) {
-                        return Plain::Calls(op % codes::CODES, x);
-                    }
-                    return Plain::Needs(j, height);
+                    return left_at(ops, j, values, height);
                 };
                 if !is_on(way) {
                     return Plain::Ends(way);
@@ -207,9 +230,20 @@ pub fn run_from(
         let op = ops[i];
         let code = op % codes::CODES;
         if code < codes::EFFECTS {
-            let t = operation::value_step(op, vars, p.flags, sense, page, memory, values, height);
+            let top = operation::nth(values, height, 0);
+            let t = operation::value_step(
+                op,
+                vars,
+                p.flags,
+                sense,
+                page,
+                memory,
+                values,
+                height,
+                top,
+            );
             match t {
-                Height::Top(n) => {
+                Height::Top(n, _) => {
                     height = n;
                     i += 1;
                 }

@@ -1,28 +1,38 @@
 -- `run_steps` meets its contract: what is left of the run, after the steps so far, leaves what the whole run does. Assumes nothing.
 use Prim.Native.Nat.{ℕ, _+_, _-_, _≤_, _<_}
 use mathlib.Core.List.{List, [], _∷_}
+use mathlib.Core.Logic.{⊎-elim}
 use mathlib.Core.Path.{_≡_, refl, sym, ap, _∙_}
 use native.Mathlib.Omega.{arith}
-use lib.ListN.{length, take}
+use lib.ListN.{length, take, drop}
 use lib.Seq.{length-take-le}
 use Rattle.nibl.specs.Read.{member}
 use Rattle.nibl.specs.Page.{lineOf, placesOf}
 use Rattle.nibl.specs.Record.{mark, place, positionOf}
-use Rattle.nibl.specs.Meaning.{World, Env, go, stop}
+use Rattle.nibl.specs.Meaning.{World, Env, Done, go}
 use Rattle.nibl.specs.Calls.{lineFrom, stopAt, runFrom, runOutcome}
 use Rattle.nibl.specs.declared.Place.{Place}
+use Rattle.nibl.specs.declared.Parts.{Parts}
+use Rattle.nibl.specs.declared.Onward.{Onward}
 use Rattle.page.specs.Standing.{Stands}
 use Rattle.page.proofs.Standing.{stands-inside}
 use Rattle.record.specs.Fit.{Fit}
 use Rattle.world.specs.declared.jump.Way.{Way}
 use Rattle.operation.specs.Operations.{runOps}
+use Rattle.operation.specs.Stacks.{stackOf}
 use Rattle.effect.specs.declared.Did.{Did}
-use Rattle.world.specs.Turns.{gosubsIn}
-use Rattle.effect.specs.Worlds.{worldWith, envWith, did, didIn, withGosubsIn}
+use Rattle.world.specs.Turns.{wayOf, turned, turnedFor, gosubsIn, dosIn, forsIn}
+use Rattle.world.specs.declared.jump.Turn.{Turn}
+use Rattle.world.specs.declared.jump.ForTurn.{ForTurn}
+use Rattle.effect.specs.Acts.{callTurn, loopTurn, countTurn}
+use Rattle.effect.specs.Worlds.{worldWith, envWith, did, didIn, withGosubsIn, withDosIn, withForsIn}
 use Rattle.statement.specs.Lending.{Fair}
 use Rattle.statement.specs.Plain.{Around}
-use Rattle.statement.proofs.Plainly.{plain-ends, plain-calls, plain-needs, plain-within}
-use Rattle.run.specs.StepEnds.{StepEnd, ledTo, doneEnd, stepOf, tally}
+use Rattle.statement.specs.declared.Plain.the-variants as plain
+use Rattle.statement.proofs.Plainly.{plain-ends, plain-calls, plain-loops, plain-counts, plain-needs, plain-within}
+use Rattle.run.specs.declared.Led.{Led}
+use Rattle.run.specs.declared.Led.the-variants as by
+use Rattle.run.specs.StepEnds.{StepEnd, ledTo, nextAfter, doneEnd, stepOf, tally}
 use Rattle.run.specs.Running.{MayRun, ranTo, ranIn, pauseOf}
 use Rattle.run.proofs.Starts.{ready-fair}
 use Rattle.run.proofs.Members.{NextMember, fetch-found, fetch-past, member-steps}
@@ -147,48 +157,144 @@ module _ (s : tie.After-run-plain Inv-loop μ-loop) where
   one-left : 0 < loop .loop .left
   one-left = let h = some-left in omega arith
 
--- any end of the step that its operations came to
-module _ (s : tie.After-run-plain Inv-loop μ-loop) (d : Did) (vars memory output : List ℕ)
-    (e : didIn d vars memory output ≡ runOps (envWith (length (loop s .loop .reply)) (page (loop s)) (start (loop s) .args .input .now) (start (loop s) .args .sense) (at (taken s))) (ops (taken s)) (world (loop s)) [])
-  where
-    abbrev t : StepEnd
-    t = doneEnd (didIn d vars memory output) (at (taken s) .0) (cr (taken s) .0)
+-- What a step came to, by any of its ways: how its operations ended and what they left, where that leads, and that what is lent is as
+-- long as before
+module _ (s : tie.After-run-plain Inv-loop μ-loop) where
+  abbrev runs : Done
+  runs = runOps (envWith (length (loop s .loop .reply)) (page (loop s)) (start (loop s) .args .input .now) (start (loop s) .args .sense) (at (taken s))) (ops (taken s)) (world (loop s)) []
 
-    abbrev l : tie.At-loop Inv-loop μ-loop
-    l = loop s
+  abbrev Leads : Led → Way → Type 0
+  Leads led w = ledTo led ≡ nextAfter (wayOf w) (at (taken s) .0) (cr (taken s) .0)
 
-    abbrev a : ℕ
-    a = fetches (taken s) .from
+  record CameTo (vars memory output reply replies values : List ℕ) (p : Parts) (led : Led) : Type 0 where
+    way : Way
+    comes : didIn (did way p) vars memory output ≡ runs
+    leads : Leads led way
+    vars-kept : length vars ≡ length (start (loop s) .args .vars .now)
+    memory-kept : length memory ≡ length (start (loop s) .args .memory .now)
+    output-kept : length output ≡ length (start (loop s) .args .output .now)
+    reply-kept : length reply ≡ length (start (loop s) .args .reply .now)
+    replies-kept : length replies ≡ length (start (loop s) .args .replies .now)
+    values-kept : length values ≡ length (start (loop s) .args .values .now)
 
-    is-step : t ≡ stepOf (env l) a (world l) (member (lineFrom (page l) a))
-    is-step = step (taken s) d vars memory output e
+  at-meeting : {vars vars′ memory memory′ output output′ reply reply′ replies replies′ values values′ : List ℕ} {p p′ : Parts} {led led′ : Led}
+      → CameTo vars′ memory′ output′ reply′ replies′ values′ p′ led′
+      → vars ≡ vars′ → memory ≡ memory′ → output ≡ output′ → reply ≡ reply′ → replies ≡ replies′ → values ≡ values′ → p ≡ p′ → led ≡ led′
+      → CameTo vars memory output reply replies values p led
+  at-meeting k a b c d e f g h = rw (a, b, c, d, e, f, g, h) k
 
-    place-small : at (taken s) .0 < 65535
-    place-small =
-        let i = step-inside (lim l) (env l) (begun l .short) (begun l .good) (from l) a (l .loop .inv .1) (fetches (taken s) .text) (world l) (l .loop .inv .2) t is-step in
-        let p = fair l .places in
-        omega arith
+  -- without more than the variables
+  abbrev Plainly : List ℕ → Parts → Led → Type 0
+  Plainly vars p led = CameTo vars (loop s .loop .memory) (loop s .loop .output) (loop s .loop .reply) (loop s .loop .replies) (values-plain s) p led
 
-    still-fits : Fit (placesOf (page l)) (t .world .session)
-    still-fits = step-fits (lim l) (env l) (begun l .short) (begun l .good) (from l) a (l .loop .inv .1) (fetches (taken s) .text) (world l) (l .loop .inv .2) t is-step
+  plainly : {vars : List ℕ} {p : Parts} {led : Led} (w : Way) → didIn (did w p) vars (loop s .loop .memory) (loop s .loop .output) ≡ runs
+      → length vars ≡ length (vars-plain s) → Leads led w → Plainly vars p led
+  plainly w e v g =
+      let i = loop s .loop .inv in
+      record {
+        way = w;
+        comes = e;
+        leads = g;
+        vars-kept = v ∙ s .run-plain .kept .1 .1 .1 .1 .1 .1 .0 ∙ i .3;
+        memory-kept = i .4;
+        output-kept = i .5;
+        reply-kept = i .6;
+        replies-kept = i .7;
+        values-kept = s .run-plain .kept .1 .1 .1 .1 .1 .1 .1 .1 .0 ∙ i .8;
+      }
 
-    module _ (x : ℕ) (g : t .next ≡ go x) where
-      stands : Stands (page l) x
-      stands = step-stands (lim l) (env l) (begun l .short) (begun l .good) (from l) a (l .loop .inv .1) (fetches (taken s) .text) (world l) (l .loop .inv .2) t is-step x g
+  ended : {w : Way} {led : Led} → s .run-plain .result ≡ plain.Ends w → Leads led w → Plainly (vars-plain s) (loop s .loop .p) led
+  ended {w} e g = plainly w (plain-ends (s .run-plain .ensures) e (around s)) refl g
 
-      goes-on : tally (l .loop .steps) (runFrom (l .loop .left) (env l) (from l) (world l)) (page l) ≡ tally (l .loop .steps + 1) (runFrom (l .loop .left - 1) (env l) x (t .world)) (page l)
-      goes-on = step-goes (lim l) (env l) (begun l .short) (begun l .good) (from l) a (l .loop .inv .1) (fetches (taken s) .text) (world l) (l .loop .inv .2) t is-step (l .loop .left) (l .loop .steps) (some-left s) x g
+  called : {code x : ℕ} (t : Turn) {led : Led} → s .run-plain .result ≡ plain.Calls code x
+      → turned t ≡ callTurn (page (loop s)) (at (taken s)) (loop s .loop .p .gosubs) code x → Leads led (t .way)
+      → Plainly (vars-plain s) (withGosubsIn (loop s .loop .p) (t .stack)) led
+  called t e h g =
+      let l = loop s .loop in
+      plainly (t .way) (ap (gosubsIn (worldWith (vars-plain s) (l .p) (l .memory) (l .output))) h ∙ plain-calls (s .run-plain .ensures) e (around s)) refl g
 
-    -- what the answer says of a stop is what the whole run comes to
-    stops-so : (i : ℕ) → t .next ≡ stop i
-        → (let b = start l .args in
-        ranIn (ranTo i (stopAt i (lineOf (page l) (at (taken s) .0) ∷ [])) (l .loop .steps + 1) (pauseOf i (at (taken s) .0)) (d .parts)) vars (page l) memory output
-        ≡ runOutcome (runFrom (b .budget) (env l) (positionOf (b .from)) (worldWith (b .vars .now) (b .parts) (b .memory .now) (b .output .now))) (page l))
-    stops-so i g =
-        stop-told i (stopAt i (lineOf (page l) (at (taken s) .0) ∷ [])) (l .loop .steps + 1) (at (taken s) .0) (d .parts) vars (page l) memory output
-        ∙ sym
-        (l .loop .inv .10
-        ∙ step-stops (lim l) (env l) (begun l .short) (begun l .good) (from l) a (l .loop .inv .1) (fetches (taken s) .text) (world l) (l .loop .inv .2) t is-step (l .loop .left) (l .loop .steps) (some-left s) i g)
+  looped : {code x : ℕ} (t : Turn) {led : Led} → s .run-plain .result ≡ plain.Loops code x
+      → turned t ≡ loopTurn (at (taken s)) (loop s .loop .p .dos) code x → Leads led (t .way)
+      → Plainly (vars-plain s) (withDosIn (loop s .loop .p) (t .stack)) led
+  looped t e h g =
+      let l = loop s .loop in
+      plainly (t .way) (ap (dosIn (worldWith (vars-plain s) (l .p) (l .memory) (l .output))) h ∙ plain-loops (s .run-plain .ensures) e (around s)) refl g
+
+  counted : {code arg x y z : ℕ} (t : ForTurn) {vars : List ℕ} {led : Led} → s .run-plain .result ≡ plain.Counts code arg x y z
+      → turnedFor t vars ≡ countTurn (at (taken s)) (loop s .loop .p .fors) (vars-plain s) code arg x y z → length vars ≡ length (vars-plain s) → Leads led (t .way)
+      → Plainly vars (withForsIn (loop s .loop .p) (t .stack)) led
+  counted t e h v g =
+      let l = loop s .loop in
+      plainly (t .way) (ap (forsIn (worldWith (vars-plain s) (l .p) (l .memory) (l .output))) h ∙ plain-counts (s .run-plain .ensures) e (around s)) v g
+
+  -- with the parts
+  needed : {i n : ℕ} (d : Did) {vars memory output reply replies values : List ℕ} {led : Led} → s .run-plain .result ≡ plain.Needs i n
+      → didIn d vars memory output
+      ≡ runOps (envWith (length (loop s .loop .reply)) (page (loop s)) (start (loop s) .args .input .now) (start (loop s) .args .sense) (at (taken s))) (drop i (ops (taken s))) (worldWith (vars-plain s) (loop s .loop .p) (loop s .loop .memory) (loop s .loop .output)) (stackOf (values-plain s) n)
+      → (let l = loop s .loop in
+      (length vars ≡ length (vars-plain s)) × (length memory ≡ length (l .memory)) × (length output ≡ length (l .output)) × (length reply ≡ length (l .reply)) × (length replies ≡ length (l .replies)) × (length values ≡ length (values-plain s)))
+      → Leads led (d .way)
+      → CameTo vars memory output reply replies values (d .parts) led
+  needed d e h l g =
+      let i = loop s .loop .inv in
+      record {
+        way = d .way;
+        comes = h ∙ plain-needs (s .run-plain .ensures) e (around s);
+        leads = g;
+        vars-kept = l .0 ∙ s .run-plain .kept .1 .1 .1 .1 .1 .1 .0 ∙ i .3;
+        memory-kept = l .1 ∙ i .4;
+        output-kept = l .2 ∙ i .5;
+        reply-kept = l .3 ∙ i .6;
+        replies-kept = l .4 ∙ i .7;
+        values-kept = l .5 ∙ s .run-plain .kept .1 .1 .1 .1 .1 .1 .1 .1 .0 ∙ i .8;
+      }
+
+-- and where the run is then
+module _ (s : tie.After-run-plain Inv-loop μ-loop) {vars memory output reply replies values : List ℕ} {p : Parts} {led : Led} (k : CameTo s vars memory output reply replies values p led) where
+  abbrev t : StepEnd
+  t = doneEnd (didIn (did (k .way) p) vars memory output) (at (taken s) .0) (cr (taken s) .0)
+
+  abbrev l : tie.At-loop Inv-loop μ-loop
+  l = loop s
+
+  abbrev a : ℕ
+  a = fetches (taken s) .from
+
+  is-step : t ≡ stepOf (env l) a (world l) (member (lineFrom (page l) a))
+  is-step = step (taken s) (did (k .way) p) vars memory output (k .comes)
+
+  place-small : at (taken s) .0 < 65535
+  place-small =
+      let i = step-inside (lim l) (env l) (begun l .short) (begun l .good) (from l) a (l .loop .inv .1) (fetches (taken s) .text) (world l) (l .loop .inv .2) t is-step in
+      let p = fair l .places in
+      omega arith
+
+  still-fits : Fit (placesOf (page l)) (t .world .session)
+  still-fits = step-fits (lim l) (env l) (begun l .short) (begun l .good) (from l) a (l .loop .inv .1) (fetches (taken s) .text) (world l) (l .loop .inv .2) t is-step
+
+  module _ {o : Onward} (e : led ≡ by.To o) where
+    abbrev x : ℕ
+    x = positionOf o
+
+    g : t .next ≡ go x
+    g = sym (k .leads) ∙ ap ledTo e
+
+    stands : Stands (page l) x
+    stands = step-stands (lim l) (env l) (begun l .short) (begun l .good) (from l) a (l .loop .inv .1) (fetches (taken s) .text) (world l) (l .loop .inv .2) t is-step x g
+
+    goes-on : tally (l .loop .steps) (runFrom (l .loop .left) (env l) (from l) (world l)) (page l) ≡ tally (l .loop .steps + 1) (runFrom (l .loop .left - 1) (env l) x (t .world)) (page l)
+    goes-on = step-goes (lim l) (env l) (begun l .short) (begun l .good) (from l) a (l .loop .inv .1) (fetches (taken s) .text) (world l) (l .loop .inv .2) t is-step (l .loop .left) (l .loop .steps) (some-left s) x g
+
+  -- what the answer says of a stop is what the whole run comes to
+  stops-so : {i : ℕ} → led ≡ by.Stops i
+      → (let b = start l .args in
+      ranIn (ranTo i (stopAt i (lineOf (page l) (at (taken s) .0) ∷ [])) (l .loop .steps + 1) (pauseOf i (at (taken s) .0)) p) vars (page l) memory output
+      ≡ runOutcome (runFrom (b .budget) (env l) (positionOf (b .from)) (worldWith (b .vars .now) (b .parts) (b .memory .now) (b .output .now))) (page l))
+  stops-so {i} e =
+      stop-told i (stopAt i (lineOf (page l) (at (taken s) .0) ∷ [])) (l .loop .steps + 1) (at (taken s) .0) p vars (page l) memory output
+      ∙ sym
+      (l .loop .inv .10
+      ∙ step-stops (lim l) (env l) (begun l .short) (begun l .good) (from l) a (l .loop .inv .1) (fetches (taken s) .text) (world l) (l .loop .inv .2) t is-step (l .loop .left) (l .loop .steps) (some-left s) i (sym (k .leads) ∙ ap ledTo e))
 
 loop-holds : tie.Need-loop-holds Inv-loop μ-loop
 loop-holds c =
@@ -251,126 +357,6 @@ add-steps c =
 run-plain-requires : tie.Need-run-plain-requires Inv-loop μ-loop
 run-plain-requires c κs = let k = c .before .before .before .before .before .before .before in let f = fair (head k) in let t = f .top in (values-room k, f .places, omega arith)
 
--- where the step ended without the parts
-module _ (c : tie.After-known-told2 Inv-loop μ-loop) where
-  abbrev plainly : tie.After-run-plain Inv-loop μ-loop
-  plainly = c .before .before .before .before .before .before .before
-
-  abbrev way : Way
-  way = c .before .r .given .0 .0
-
-  abbrev ended : Did
-  ended = did way (loop plainly .loop .p)
-
-  plain-done : didIn ended (vars-plain plainly) (loop plainly .loop .memory) (loop plainly .loop .output)
-      ≡ runOps (envWith (length (loop plainly .loop .reply)) (page (loop plainly)) (start (loop plainly) .args .input .now) (start (loop plainly) .args .sense) (at (taken plainly))) (ops (taken plainly)) (world (loop plainly)) []
-  plain-done = plain-ends (plainly .run-plain .ensures) (c .before .r .given .1) (around plainly)
-
--- where it came to GOSUB or RETURN
-module _ (c : tie.After-call-turn Inv-loop μ-loop) where
-  abbrev calling : tie.After-run-plain Inv-loop μ-loop
-  calling = c .before .before .before .before .before .before .before .before
-
-  abbrev called : Did
-  called = did (c .call-turn .result .way) (withGosubsIn (loop calling .loop .p) (c .call-turn .result .stack))
-
-  call-done : didIn called (vars-plain calling) (loop calling .loop .memory) (loop calling .loop .output)
-      ≡ runOps (envWith (length (loop calling .loop .reply)) (page (loop calling)) (start (loop calling) .args .input .now) (start (loop calling) .args .sense) (at (taken calling))) (ops (taken calling)) (world (loop calling)) []
-  call-done =
-      let l = loop calling in
-      ap (gosubsIn (worldWith (vars-plain calling) (l .loop .p) (l .loop .memory) (l .loop .output))) (c .call-turn .ensures)
-      ∙ plain-calls (calling .run-plain .ensures) (c .before .before .r2 .given .1) (around calling)
-
--- and where it needed the parts
-module _ (c : tie.After-run-from Inv-loop μ-loop) where
-  abbrev needed : tie.After-run-plain Inv-loop μ-loop
-  needed = c .before .before .before .before .before .before .before .before .before .before .before .before .before .before .before
-
-  abbrev vars-left : List ℕ
-  vars-left = c .run-from .last .1 .1 .1 .1 .1 .1 .1 .0
-
-  abbrev memory-left : List ℕ
-  memory-left = c .run-from .last .1 .1 .1 .1 .1 .1 .1 .1 .0
-
-  abbrev output-left : List ℕ
-  output-left = c .run-from .last .1 .1 .1 .1 .1 .1 .1 .1 .1 .0
-
-  rest-done : didIn (c .run-from .result) vars-left memory-left output-left
-      ≡ runOps (envWith (length (loop needed .loop .reply)) (page (loop needed)) (start (loop needed) .args .input .now) (start (loop needed) .args .sense) (at (taken needed))) (ops (taken needed)) (world (loop needed)) []
-  rest-done = c .run-from .ensures ∙ plain-needs (needed .run-plain .ensures) (c .before .before .before .before .before .before .before .before .before .r3 .given .1) (around needed)
-
-loop-less : tie.Need-loop-less Inv-loop μ-loop
-loop-less c = omega (arith, one-left (c .before .before .before .before .before .before .before .before .before .before .before))
-
-loop-again : tie.Need-loop-again Inv-loop μ-loop
-loop-again c =
-    let e = c .before .before .before .before in
-    let s = c .before .before .before .before .before .before .before .before .before .before .before in
-    let l = loop s in
-    let i = l .loop .inv in
-    let x = positionOf (c .before .led .given .0 .0) in
-    let g = sym (c .before .before .before .led-by .ensures) ∙ ap ledTo (c .before .led .given .1) in
-    let b = i .0 in (
-      omega (arith, one-left s),
-      stands s (ended e) (vars-plain s) (l .loop .memory) (l .loop .output) (plain-done e) x g,
-      still-fits s (ended e) (vars-plain s) (l .loop .memory) (l .loop .output) (plain-done e),
-      s .run-plain .kept .1 .1 .1 .1 .1 .1 .0 ∙ i .3,
-      i .4,
-      i .5,
-      i .6,
-      i .7,
-      s .run-plain .kept .1 .1 .1 .1 .1 .1 .1 .1 .0 ∙ i .8,
-      s .before .before .before .before .before .before .before .before .before .before .before .before .before .fetch .kept .1 .1 .1 .0 ∙ i .9,
-      i .10 ∙ goes-on s (ended e) (vars-plain s) (l .loop .memory) (l .loop .output) (plain-done e) x g,
-    )
-
-stops-requires : tie.Need-stops-requires Inv-loop μ-loop
-stops-requires c κs = let e = c .before .before .before .before in let s = c .before .before .before .before .before .before .before .before .before .before .before in let l = loop s in omega (arith, place-small s (ended e) (vars-plain s) (l .loop .memory) (l .loop .output) (plain-done e))
-
-returns-3 : tie.Need-returns-3 Inv-loop μ-loop
-returns-3 c =
-    let e = c .before .before .before .before .before in
-    let s = c .before .before .before .before .before .before .before .before .before .before .before .before in
-    let l = loop s in
-    rw (c .stops .ensures)
-    (stops-so s (ended e) (vars-plain s) (l .loop .memory) (l .loop .output) (plain-done e) (c .before .before .led2 .given .0 .0) (sym (c .before .before .before .before .led-by .ensures) ∙ ap ledTo (c .before .before .led2 .given .1)))
-
-loop-less-2 : tie.Need-loop-less-2 Inv-loop μ-loop
-loop-less-2 c = omega (arith, one-left (c .before .before .before .before .before .before .before .before .before .before .before .before .before))
-
-loop-again-2 : tie.Need-loop-again-2 Inv-loop μ-loop
-loop-again-2 c =
-    let e = c .before .before .before .before .before in
-    let s = c .before .before .before .before .before .before .before .before .before .before .before .before .before in
-    let l = loop s in
-    let i = l .loop .inv in
-    let x = positionOf (c .before .led3 .given .0 .0) in
-    let g = sym (c .before .before .before .led-by2 .ensures) ∙ ap ledTo (c .before .led3 .given .1) in
-    let b = i .0 in (
-      omega (arith, one-left s),
-      stands s (called e) (vars-plain s) (l .loop .memory) (l .loop .output) (call-done e) x g,
-      still-fits s (called e) (vars-plain s) (l .loop .memory) (l .loop .output) (call-done e),
-      s .run-plain .kept .1 .1 .1 .1 .1 .1 .0 ∙ i .3,
-      i .4,
-      i .5,
-      i .6,
-      i .7,
-      s .run-plain .kept .1 .1 .1 .1 .1 .1 .1 .1 .0 ∙ i .8,
-      s .before .before .before .before .before .before .before .before .before .before .before .before .before .fetch .kept .1 .1 .1 .0 ∙ i .9,
-      i .10 ∙ goes-on s (called e) (vars-plain s) (l .loop .memory) (l .loop .output) (call-done e) x g,
-    )
-
-stops-requires-2 : tie.Need-stops-requires-2 Inv-loop μ-loop
-stops-requires-2 c κs = let e = c .before .before .before .before .before in let s = c .before .before .before .before .before .before .before .before .before .before .before .before .before in let l = loop s in omega (arith, place-small s (called e) (vars-plain s) (l .loop .memory) (l .loop .output) (call-done e))
-
-returns-4 : tie.Need-returns-4 Inv-loop μ-loop
-returns-4 c =
-    let e = c .before .before .before .before .before .before in
-    let s = c .before .before .before .before .before .before .before .before .before .before .before .before .before .before in
-    let l = loop s in
-    rw (c .stops2 .ensures)
-    (stops-so s (called e) (vars-plain s) (l .loop .memory) (l .loop .output) (call-done e) (c .before .before .led4 .given .0 .0) (sym (c .before .before .before .before .led-by2 .ensures) ∙ ap ledTo (c .before .before .led4 .given .1)))
-
 run-from-requires : tie.Need-run-from-requires Inv-loop μ-loop
 run-from-requires c κs =
     let s = c .before .before .before .before .before .before .before .before .before .before .before .before .before .before in
@@ -386,43 +372,59 @@ run-from-requires c κs =
     let u = f .replyValues in
     let w = f .short in (
       record { places = f .places; top = f .top; stack = omega (arith, values-room k); replyOps = omega arith; replyValues = omega arith; short = omega arith },
-      plain-within (s .run-plain .ensures) (c .before .before .before .before .before .before .before .before .r3 .given .1),
+      plain-within (s .run-plain .ensures) (c .before .before .before .before .before .before .before .before .r5 .given .1),
     )
 
-loop-less-3 : tie.Need-loop-less-3 Inv-loop μ-loop
-loop-less-3 c = omega (arith, one-left (c .before .before .before .before .before .before .before .before .before .before .before .before .before .before .before .before .before .before .before .before .before .before .before .before .before .before .before .before .before .before .before .before))
+-- where the ways meet
+module _ (c : tie.At-match2-came Inv-loop μ-loop) where
+  abbrev before : tie.After-run-plain Inv-loop μ-loop
+  before = c .before .before .before .before .before
 
-loop-again-3 : tie.Need-loop-again-3 Inv-loop μ-loop
-loop-again-3 c =
-    let r = c .before .before .before .before .before .before .before .before .before .before .before .before .before .before .before .before .before in
-    let s = needed r in
-    let l = loop s in
-    let k = r .run-from .kept in
-    let i = l .loop .inv in
-    let x = positionOf (c .before .led5 .given .0 .0) in
-    let g = sym (c .before .before .before .led-by3 .ensures) ∙ ap ledTo (c .before .led5 .given .1) in
+  came : (let m = c .match2 in CameTo before (m .vars) (m .memory) (m .output) (m .reply) (m .replies) (m .values) (m .p) (m .led))
+  came =
+      ⊎-elim
+      (λ w. at-meeting before (ended before (w .1 .given .1) (w .3 .ensures)) (w .4) (w .5) (w .6) (w .7) (w .8) (w .9) (w .10) (w .11))
+      (⊎-elim
+      (λ w. at-meeting before (called before (w .3 .result) (w .1 .given .1) (w .3 .ensures) (w .5 .ensures)) (w .6) (w .7) (w .8) (w .9) (w .10) (w .11) (w .12) (w .13))
+      (⊎-elim
+      (λ w. at-meeting before (looped before (w .3 .result) (w .1 .given .1) (w .3 .ensures) (w .5 .ensures)) (w .6) (w .7) (w .8) (w .9) (w .10) (w .11) (w .12) (w .13))
+      (⊎-elim
+      (λ w. at-meeting before (counted before (w .4 .result) (w .1 .given .1) (w .4 .ensures) (w .4 .kept .1 .1 .1 .1 .1 .1 .0) (w .8 .ensures)) (w .9) (w .10) (w .11) (w .12) (w .13) (w .14) (w .15) (w .16))
+      (λ w. let f = w .10 .kept in
+      at-meeting before (needed before (w .10 .result) (w .1 .given .1) (w .10 .ensures)
+      (f .1 .1 .1 .1 .1 .1 .1 .0, f .1 .1 .1 .1 .1 .1 .1 .1 .0, f .1 .1 .1 .1 .1 .1 .1 .1 .1 .0, f .1 .1 .1 .1 .1 .1 .1 .1 .1 .1 .0, f .1 .1 .1 .1 .1 .1 .1 .1 .1 .1 .1 .0, f .1 .1 .1 .1 .1 .1 .1 .1 .1 .1 .1 .1 .0)
+      (w .24 .ensures)) (w .25) (w .26) (w .27) (w .28) (w .29) (w .30) (w .31) (w .32)))))
+      (c .match2 .came)
+
+loop-less : tie.Need-loop-less Inv-loop μ-loop
+loop-less c = omega (arith, one-left (before (c .before .before .before)))
+
+loop-again : tie.Need-loop-again Inv-loop μ-loop
+loop-again c =
+    let j = c .before .before .before in
+    let s = before j in
+    let k = came j in
+    let i = loop s .loop .inv in
+    let e = c .before .led .given .1 in
     let b = i .0 in (
       omega (arith, one-left s),
-      stands s (r .run-from .result) (vars-left r) (memory-left r) (output-left r) (rest-done r) x g,
-      still-fits s (r .run-from .result) (vars-left r) (memory-left r) (output-left r) (rest-done r),
-      k .1 .1 .1 .1 .1 .1 .1 .0 ∙ s .run-plain .kept .1 .1 .1 .1 .1 .1 .0 ∙ i .3,
-      k .1 .1 .1 .1 .1 .1 .1 .1 .0 ∙ i .4,
-      k .1 .1 .1 .1 .1 .1 .1 .1 .1 .0 ∙ i .5,
-      k .1 .1 .1 .1 .1 .1 .1 .1 .1 .1 .0 ∙ i .6,
-      k .1 .1 .1 .1 .1 .1 .1 .1 .1 .1 .1 .0 ∙ i .7,
-      k .1 .1 .1 .1 .1 .1 .1 .1 .1 .1 .1 .1 .0 ∙ s .run-plain .kept .1 .1 .1 .1 .1 .1 .1 .1 .0 ∙ i .8,
+      stands s k e,
+      still-fits s k,
+      k .vars-kept,
+      k .memory-kept,
+      k .output-kept,
+      k .reply-kept,
+      k .replies-kept,
+      k .values-kept,
       s .before .before .before .before .before .before .before .before .before .before .before .before .before .fetch .kept .1 .1 .1 .0 ∙ i .9,
-      i .10 ∙ goes-on s (r .run-from .result) (vars-left r) (memory-left r) (output-left r) (rest-done r) x g,
+      i .10 ∙ goes-on s k e,
     )
 
-stops-requires-3 : tie.Need-stops-requires-3 Inv-loop μ-loop
-stops-requires-3 c κs = let r = c .before .before .before .before .before .before .before .before .before .before .before .before .before .before .before .before .before in omega (arith, place-small (needed r) (r .run-from .result) (vars-left r) (memory-left r) (output-left r) (rest-done r))
+stops-requires : tie.Need-stops-requires Inv-loop μ-loop
+stops-requires c κs = let j = c .before .before .before in omega (arith, place-small (before j) (came j))
 
-returns-5 : tie.Need-returns-5 Inv-loop μ-loop
-returns-5 c =
-    let r = c .before .before .before .before .before .before .before .before .before .before .before .before .before .before .before .before .before .before in
-    rw (c .stops3 .ensures)
-    (stops-so (needed r) (r .run-from .result) (vars-left r) (memory-left r) (output-left r) (rest-done r) (c .before .before .led6 .given .0 .0) (sym (c .before .before .before .before .led-by3 .ensures) ∙ ap ledTo (c .before .before .led6 .given .1)))
+returns-3 : tie.Need-returns-3 Inv-loop μ-loop
+returns-3 c = let j = c .before .before .before .before in rw (c .stops .ensures) (stops-so (before j) (came j) (c .before .before .led2 .given .1))
 
 pub run-steps-spec : {M : Type 1} → statement M
 run-steps-spec =
@@ -461,49 +463,29 @@ run-steps-spec =
     (λ c. search needs)
     (λ c κs. search needs)
     (λ c. search needs)
-    loop-less
-    loop-again
-    (λ c. search needs)
-    stops-requires
-    (λ c. c .before .before .before .before .before .before .before .before .before .before .before .before .run-plain .kept .1 .1 .1 .1 .1 .1 .0 ∙ c .before .before .before .before .before .before .before .before .before .before .before .before .before .before .before .before .before .before .before .before .before .before .before .before .before .before .before .loop .inv .3)
-    (λ c. c .before .before .before .before .before .before .before .before .before .before .before .before .before .before .before .before .before .before .before .before .before .before .before .before .before .before .before .loop .inv .4)
-    (λ c. c .before .before .before .before .before .before .before .before .before .before .before .before .before .before .before .before .before .before .before .before .before .before .before .before .before .before .before .loop .inv .5)
-    (λ c. c .before .before .before .before .before .before .before .before .before .before .before .before .before .before .before .before .before .before .before .before .before .before .before .before .before .before .before .loop .inv .6)
-    (λ c. c .before .before .before .before .before .before .before .before .before .before .before .before .before .before .before .before .before .before .before .before .before .before .before .before .before .before .before .loop .inv .7)
-    (λ c. c .before .before .before .before .before .before .before .before .before .before .before .before .run-plain .kept .1 .1 .1 .1 .1 .1 .1 .1 .0 ∙ c .before .before .before .before .before .before .before .before .before .before .before .before .before .before .before .before .before .before .before .before .before .before .before .before .before .before .before .loop .inv .8)
-    (λ c. c .before .before .before .before .before .before .before .before .before .before .before .before .before .before .before .before .before .before .before .before .before .before .before .before .before .fetch .kept .1 .1 .1 .0 ∙ c .before .before .before .before .before .before .before .before .before .before .before .before .before .before .before .before .before .before .before .before .before .before .before .before .before .before .before .loop .inv .9)
-    returns-3
+    (λ c κs. search needs)
+    (λ c κs. search needs)
     (λ c. search needs)
     (λ c κs. search needs)
     (λ c κs. search needs)
     (λ c. search needs)
-    loop-less-2
-    loop-again-2
-    (λ c. search needs)
-    stops-requires-2
-    (λ c. c .before .before .before .before .before .before .before .before .before .before .before .before .before .before .run-plain .kept .1 .1 .1 .1 .1 .1 .0 ∙ c .before .before .before .before .before .before .before .before .before .before .before .before .before .before .before .before .before .before .before .before .before .before .before .before .before .before .before .before .before .loop .inv .3)
-    (λ c. c .before .before .before .before .before .before .before .before .before .before .before .before .before .before .before .before .before .before .before .before .before .before .before .before .before .before .before .before .before .loop .inv .4)
-    (λ c. c .before .before .before .before .before .before .before .before .before .before .before .before .before .before .before .before .before .before .before .before .before .before .before .before .before .before .before .before .before .loop .inv .5)
-    (λ c. c .before .before .before .before .before .before .before .before .before .before .before .before .before .before .before .before .before .before .before .before .before .before .before .before .before .before .before .before .before .loop .inv .6)
-    (λ c. c .before .before .before .before .before .before .before .before .before .before .before .before .before .before .before .before .before .before .before .before .before .before .before .before .before .before .before .before .before .loop .inv .7)
-    (λ c. c .before .before .before .before .before .before .before .before .before .before .before .before .before .before .run-plain .kept .1 .1 .1 .1 .1 .1 .1 .1 .0 ∙ c .before .before .before .before .before .before .before .before .before .before .before .before .before .before .before .before .before .before .before .before .before .before .before .before .before .before .before .before .before .loop .inv .8)
-    (λ c. c .before .before .before .before .before .before .before .before .before .before .before .before .before .before .before .before .before .before .before .before .before .before .before .before .before .before .before .fetch .kept .1 .1 .1 .0 ∙ c .before .before .before .before .before .before .before .before .before .before .before .before .before .before .before .before .before .before .before .before .before .before .before .before .before .before .before .before .before .loop .inv .9)
-    returns-4
+    (λ c κs. search needs)
+    (λ c κs. search needs)
     (λ c. search needs)
     (λ c. omega (arith, fits (c .before .before .before .before .before .before .before .before .before .before .before .before .before .before .before)))
     (λ c. sym (few (c .before .before .before .before .before .before .before .before .before .before .before .before .before .before .before .before)))
     run-from-requires
     (λ c κs. search needs)
     (λ c. search needs)
-    loop-less-3
-    loop-again-3
+    loop-less
+    loop-again
     (λ c. search needs)
-    stops-requires-3
-    (λ c. let r = c .before .before .before .before .before .before .before .before .before .before .before .before .before .before .before .before .before .before in r .run-from .kept .1 .1 .1 .1 .1 .1 .1 .0 ∙ needed r .run-plain .kept .1 .1 .1 .1 .1 .1 .0 ∙ loop (needed r) .loop .inv .3)
-    (λ c. let r = c .before .before .before .before .before .before .before .before .before .before .before .before .before .before .before .before .before .before in r .run-from .kept .1 .1 .1 .1 .1 .1 .1 .1 .0 ∙ loop (needed r) .loop .inv .4)
-    (λ c. let r = c .before .before .before .before .before .before .before .before .before .before .before .before .before .before .before .before .before .before in r .run-from .kept .1 .1 .1 .1 .1 .1 .1 .1 .1 .0 ∙ loop (needed r) .loop .inv .5)
-    (λ c. let r = c .before .before .before .before .before .before .before .before .before .before .before .before .before .before .before .before .before .before in r .run-from .kept .1 .1 .1 .1 .1 .1 .1 .1 .1 .1 .0 ∙ loop (needed r) .loop .inv .6)
-    (λ c. let r = c .before .before .before .before .before .before .before .before .before .before .before .before .before .before .before .before .before .before in r .run-from .kept .1 .1 .1 .1 .1 .1 .1 .1 .1 .1 .1 .0 ∙ loop (needed r) .loop .inv .7)
-    (λ c. let r = c .before .before .before .before .before .before .before .before .before .before .before .before .before .before .before .before .before .before in r .run-from .kept .1 .1 .1 .1 .1 .1 .1 .1 .1 .1 .1 .1 .0 ∙ needed r .run-plain .kept .1 .1 .1 .1 .1 .1 .1 .1 .0 ∙ loop (needed r) .loop .inv .8)
-    (λ c. let s = needed (c .before .before .before .before .before .before .before .before .before .before .before .before .before .before .before .before .before .before) in s .before .before .before .before .before .before .before .before .before .before .before .before .before .fetch .kept .1 .1 .1 .0 ∙ loop s .loop .inv .9)
-    returns-5)
+    stops-requires
+    (λ c. came (c .before .before .before .before) .vars-kept)
+    (λ c. came (c .before .before .before .before) .memory-kept)
+    (λ c. came (c .before .before .before .before) .output-kept)
+    (λ c. came (c .before .before .before .before) .reply-kept)
+    (λ c. came (c .before .before .before .before) .replies-kept)
+    (λ c. came (c .before .before .before .before) .values-kept)
+    (λ c. let s = before (c .before .before .before .before) in s .before .before .before .before .before .before .before .before .before .before .before .before .before .fetch .kept .1 .1 .1 .0 ∙ loop s .loop .inv .9)
+    returns-3)

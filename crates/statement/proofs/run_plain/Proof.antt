@@ -1,6 +1,6 @@
 -- `run_plain` meets its contract: what is left of the list, on the variables so far, does what the whole list does. Assumes
 -- nothing.
-use Prim.Native.Nat.{ℕ, _-_, _<_}
+use Prim.Native.Nat.{ℕ, _-_, _≤_, _<_}
 use mathlib.Core.Path.{_≡_, refl, sym, ap, _∙_}
 use mathlib.Core.List.{List, []}
 use mathlib.Core.Option.{some}
@@ -8,15 +8,15 @@ use native.Mathlib.Omega.{arith}
 use borrow.Author.Tests.{not-true, not-false}
 use lib.ListN.{length, drop, getD}
 use Rattle.codes.specs.Codes.{codeIn, argumentIn}
-use Rattle.world.specs.Turns.{wayOf, gosubsIn}
+use Rattle.world.specs.Turns.{wayOf}
 use Rattle.world.specs.declared.jump.Way.{Way}
 use Rattle.operation.specs.Operations.{runOps}
-use Rattle.operation.specs.Stacks.{stackOf}
-use Rattle.effect.specs.Acts.{actedTo, actBy, callTurn}
+use Rattle.operation.specs.Stacks.{stackOf, topIn}
+use Rattle.effect.specs.Acts.{actedTo, actBy}
 use Rattle.effect.proofs.Acts.{act-not}
 use Rattle.statement.specs.Plain.{InView, Around, seen, envFrom, worldFrom}
 use Rattle.statement.proofs.Running.{run-end}
-use Rattle.statement.proofs.Plainly.{Reaches, plain-refused, plain-reached, plain-on, plain-off, plain-called}
+use Rattle.statement.proofs.Plainly.{Reaches, plain-refused, plain-reached, plain-on, plain-off}
 use borrow.Author.Needs.{needs}
 use Rattle.statement.proofs.run_plain.Statement.{statement}
 use Rattle.statement.proofs.run_plain.Tie as tie
@@ -64,8 +64,20 @@ module _ (c : tie.After-known-told2 Inv-loop μ-loop) where
   abbrev height : ℕ
   height = c .before .r2 .given .0 .1 .0
 
+  abbrev values : List ℕ
+  values = c .before .before .before .before .before .values-first .last .1 .1 .1 .1 .1 .1 .1 .0
+
   abbrev stack : List ℕ
-  stack = stackOf (c .before .before .before .before .before .values-first .last .1 .1 .1 .1 .1 .1 .1 .0) height
+  stack = stackOf values height
+
+  abbrev x : ℕ
+  x = c .before .r2 .given .0 .1 .1 .0
+
+  top : x ≡ topIn values height
+  top = rw (c .before .r2 .given .1) at (c .before .before .before .before .before .values-first .ensures .3)
+
+  low : height ≤ next
+  low = rw (c .before .r2 .given .1) at (c .before .before .before .before .before .values-first .ensures .1)
 
   abbrev there : ℕ
   there = getD (ops head) next 0
@@ -84,44 +96,37 @@ returns-2 c =
 
 -- where it does not act at once: the variables are as they were
 module _ (c : tie.After-enum-told Inv-loop μ-loop) where
-  abbrev waits : tie.After-known-told2 Inv-loop μ-loop
-  waits = c .before .before .before .before .before .before .before .before .before .before
+  abbrev left : tie.After-known-told2 Inv-loop μ-loop
+  left = c .before .before .before .before .before .before .before .before
 
-  some-next : next waits < length (ops (head waits))
-  some-next = omega (arith, c .before .before .before .before .before .before .before .before .before .if1 .left)
+  some-next : next left < length (ops (head left))
+  some-next = omega (arith, c .before .before .before .before .before .before .before .if1 .left)
 
-  same-vars : c .before .before .before .before .act .last .1 .1 .1 .1 .0 ≡ head waits .loop .vars
+  same-vars : c .before .before .before .before .act .last .1 .1 .1 .1 .0 ≡ head left .loop .vars
   same-vars =
-      let n = start (head waits) .args in
-      act-not (n .page .now) (n .dos) (n .fors) (argumentIn (there waits)) (c .before .before .before .before .before .before .nth .result) (head waits .loop .vars) (codeIn (there waits)) (rw (c .enum-told .given .1) at (c .before .before .before .before .act .ensures))
+      let n = start (head left) .args in
+      act-not (n .page .now) (n .dos) (n .fors) (argumentIn (there left)) (x left) (head left .loop .vars) (codeIn (there left)) (rw (c .enum-told .given .1) at (c .before .before .before .before .act .ensures))
+
+left-at-requires : tie.Need-left-at-requires Inv-loop μ-loop
+left-at-requires c κs = (some-next (c .before), low (left (c .before)))
 
 returns-3 : tie.Need-returns-3 Inv-loop μ-loop
 returns-3 c =
     let d = c .before .before in
-    let k = waits d in
+    let k = left d in
     let l = head k in
+    let p = c .left-at .ensures in
     record {
-      runs = λ a. sym
-          (reached k a
-          ∙ plain-called (sees l) a (start l .pre .1) (ops l) (l .loop .vars) (stack k) (next k) (some-next d) (c .before .before .before .before .before .before .before .before .nth .ensures) (sym (c .before .is-call .ensures) ∙ c .if2 .taken)
-          ∙ ap (λ (v : List ℕ). gosubsIn (worldFrom (sees l) a v) (callTurn (start l .args .page .now) (a .here) (a .gosubs) (codeIn (there k)) (c .before .before .before .before .before .before .before .before .nth .result))) (sym (same-vars d)));
-      within = omega arith;
-    }
-
-returns-4 : tie.Need-returns-4 Inv-loop μ-loop
-returns-4 c =
-    let d = c .before .before in
-    let k = waits d in
-    let l = head k in
-    record {
-      runs = λ a. sym (reached k a ∙ ap (λ (v : List ℕ). runOps (envFrom (sees l) a) (drop (next k) (ops l)) (worldFrom (sees l) a v) (stack k)) (sym (same-vars d)));
-      within = rw (c .before .before .before .before .before .before .before .before .before .before .before .before .before .r2 .given .1) at (c .before .before .before .before .before .before .before .before .before .before .before .before .before .before .before .before .before .values-first .ensures .1);
+      runs = λ a. p .runs (sees l) a (d .before .before .before .before .act .last .1 .1 .1 .1 .0) (start l .pre .1)
+          ∙ ap (λ (v : List ℕ). runOps (envFrom (sees l) a) (drop (next k) (ops l)) (worldFrom (sees l) a v) (stack k)) (same-vars d)
+          ∙ sym (reached k a);
+      within = p .within;
     }
 
 -- where an operation acted at once, and how it ended
 module _ (c : tie.After-is-on Inv-loop μ-loop) where
   abbrev before : tie.After-known-told2 Inv-loop μ-loop
-  before = c .before .before .before .before .before .before .before .before .before .before .before .before
+  before = c .before .before .before .before .before .before .before .before .before .before
 
   abbrev way : Way
   way = c .before .before .a .given .0 .0
@@ -130,28 +135,28 @@ module _ (c : tie.After-is-on Inv-loop μ-loop) where
   vars = c .before .before .before .before .before .before .act .last .1 .1 .1 .1 .0
 
   some-left : next before < length (ops (head before))
-  some-left = omega (arith, c .before .before .before .before .before .before .before .before .before .before .before .if1 .left)
+  some-left = omega (arith, c .before .before .before .before .before .before .before .before .before .if1 .left)
 
-  is-acted : (let n = start (head before) .args in actedTo (some (wayOf way)) vars ≡ actBy (n .page .now) (n .dos) (n .fors) (codeIn (there before)) (argumentIn (there before)) (c .before .before .before .before .before .before .before .before .nth .result) (head before .loop .vars))
+  is-acted : (let n = start (head before) .args in actedTo (some (wayOf way)) vars ≡ actBy (n .page .now) (n .dos) (n .fors) (codeIn (there before)) (argumentIn (there before)) (x before) (head before .loop .vars))
   is-acted = rw (c .before .before .a .given .1) at (c .before .before .before .before .before .before .act .ensures)
 
-returns-5 : tie.Need-returns-5 Inv-loop μ-loop
-returns-5 c =
+returns-4 : tie.Need-returns-4 Inv-loop μ-loop
+returns-4 c =
     let b = c .before in
     let k = before b in
     let l = head k in
     record {
       runs = λ a. sym
           (reached k a
-          ∙ plain-off (sees l) a (start l .pre .1) (ops l) (l .loop .vars) (stack k) (next k) (some-left b) (c .before .before .before .before .before .before .before .before .before .nth .ensures) (way b) (is-acted b) (sym (c .before .is-on .ensures) ∙ not-true _ (c .if3 .taken)));
+          ∙ plain-off (sees l) a (start l .pre .1) (ops l) (l .loop .vars) (stack k) (next k) (some-left b) (top k) (way b) (is-acted b) (sym (c .before .is-on .ensures) ∙ not-true _ (c .if2 .taken)));
       within = omega arith;
     }
 
 add-i : tie.Need-add-i Inv-loop μ-loop
-add-i c = let g = c .before .before .before .before .before .before .before .before .before .before .before .before .before .before .before .before .before .before .before .before .before .before .before .before .before .before .before .good in omega (arith, some-left (c .before))
+add-i c = let g = c .before .before .before .before .before .before .before .before .before .before .before .before .before .before .before .before .before .before .before .before .before .before .before .before .before .good in omega (arith, some-left (c .before))
 
 loop-less : tie.Need-loop-less Inv-loop μ-loop
-loop-less c = let f = rw (c .before .before .before .before .before .before .before .before .before .before .before .before .before .before .r2 .given .1) at (c .before .before .before .before .before .before .before .before .before .before .before .before .before .before .before .before .before .before .values-first .ensures .2) in omega (arith, some-left (c .before))
+loop-less c = let f = rw (c .before .before .before .before .before .before .before .before .before .before .before .before .r2 .given .1) at (c .before .before .before .before .before .before .before .before .before .before .before .before .before .before .before .before .values-first .ensures .2) in omega (arith, some-left (c .before))
 
 loop-again : tie.Need-loop-again Inv-loop μ-loop
 loop-again c =
@@ -159,10 +164,10 @@ loop-again c =
     let k = before b in
     let l = head k in (
       c .before .before .before .before .before .before .before .act .kept .1 .1 .1 .1 .0 ∙ l .loop .inv .0,
-      c .before .before .before .before .before .before .before .before .before .before .before .before .before .before .before .before .before .before .values-first .kept .1 .1 .1 .1 .1 .1 .1 .0 ∙ l .loop .inv .1,
+      c .before .before .before .before .before .before .before .before .before .before .before .before .before .before .before .before .values-first .kept .1 .1 .1 .1 .1 .1 .1 .0 ∙ l .loop .inv .1,
       record {
         at = λ a. reached k a
-            ∙ plain-on (sees l) a (start l .pre .1) (ops l) (l .loop .vars) (stack k) (next k) (some-left b) (c .before .before .before .before .before .before .before .before .before .nth .ensures) (way b) (is-acted b) (sym (c .before .is-on .ensures) ∙ not-false _ (c .if3 .left));
+            ∙ plain-on (sees l) a (start l .pre .1) (ops l) (l .loop .vars) (stack k) (next k) (some-left b) (top k) (way b) (is-acted b) (sym (c .before .is-on .ensures) ∙ not-false _ (c .if2 .left));
       },
     )
 
@@ -185,20 +190,16 @@ run-plain-spec =
     (λ c. search needs)
     (λ c. search needs)
     (λ c κs. search needs)
-    (λ c κs. search needs)
     (λ c. search needs)
     (λ c. search needs)
-    (λ c κs. search needs)
-    (λ c. c .before .before .before .before .before .before .act .kept .1 .1 .1 .1 .0 ∙ c .before .before .before .before .before .before .before .before .before .before .before .before .before .before .before .before .before .before .before .before .loop .inv .0)
-    (λ c. c .before .before .before .before .before .before .before .before .before .before .before .before .before .before .before .before .before .values-first .kept .1 .1 .1 .1 .1 .1 .1 .0 ∙ c .before .before .before .before .before .before .before .before .before .before .before .before .before .before .before .before .before .before .before .before .loop .inv .1)
+    left-at-requires
+    (λ c. c .before .before .before .before .before .before .act .kept .1 .1 .1 .1 .0 ∙ c .before .before .before .before .before .before .before .before .before .before .before .before .before .before .before .before .before .before .loop .inv .0)
+    (λ c. c .before .before .before .before .before .before .before .before .before .before .before .before .before .before .before .values-first .kept .1 .1 .1 .1 .1 .1 .1 .0 ∙ c .before .before .before .before .before .before .before .before .before .before .before .before .before .before .before .before .before .before .loop .inv .1)
     returns-3
-    (λ c. c .before .before .before .before .before .before .act .kept .1 .1 .1 .1 .0 ∙ c .before .before .before .before .before .before .before .before .before .before .before .before .before .before .before .before .before .before .before .before .loop .inv .0)
-    (λ c. c .before .before .before .before .before .before .before .before .before .before .before .before .before .before .before .before .before .values-first .kept .1 .1 .1 .1 .1 .1 .1 .0 ∙ c .before .before .before .before .before .before .before .before .before .before .before .before .before .before .before .before .before .before .before .before .loop .inv .1)
-    returns-4
     (λ c κs. search needs)
-    (λ c. c .before .before .before .before .before .before .before .act .kept .1 .1 .1 .1 .0 ∙ c .before .before .before .before .before .before .before .before .before .before .before .before .before .before .before .before .before .before .before .before .before .loop .inv .0)
-    (λ c. c .before .before .before .before .before .before .before .before .before .before .before .before .before .before .before .before .before .before .values-first .kept .1 .1 .1 .1 .1 .1 .1 .0 ∙ c .before .before .before .before .before .before .before .before .before .before .before .before .before .before .before .before .before .before .before .before .before .loop .inv .1)
-    returns-5
+    (λ c. c .before .before .before .before .before .before .before .act .kept .1 .1 .1 .1 .0 ∙ c .before .before .before .before .before .before .before .before .before .before .before .before .before .before .before .before .before .before .before .loop .inv .0)
+    (λ c. c .before .before .before .before .before .before .before .before .before .before .before .before .before .before .before .before .values-first .kept .1 .1 .1 .1 .1 .1 .1 .0 ∙ c .before .before .before .before .before .before .before .before .before .before .before .before .before .before .before .before .before .before .before .loop .inv .1)
+    returns-4
     add-i
     loop-less
     loop-again)
