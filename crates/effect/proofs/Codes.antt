@@ -120,9 +120,9 @@ module _ (g : Given) where
   unfolding effectBy
   if-then r h = ap (λ n. done n world) h ∙ done-if (eqb (g .x) 0) skip on world
 
-  pub loop : (t : Turn) → turned t ≡ doTurn (record { 0 = g .env .here }) (g .parts .dos) → alone (did (t .way) (withDosIn (g .parts) (t .stack))) ≡ code codeDo
+  pub do-here : (t : Turn) → turned t ≡ doTurn (record { 0 = g .env .here }) (g .parts .dos) → alone (did (t .way) (withDosIn (g .parts) (t .stack))) ≡ code codeDo
   unfolding effectBy
-  loop t h = ap (dosIn world) h ∙ sym (do-in (g .env) world)
+  do-here t h = ap (dosIn world) h ∙ sym (do-in (g .env) world)
 
   pub until : (t : Turn) → turned t ≡ untilTurn (g .x) (g .parts .dos) → alone (did (t .way) (withDosIn (g .parts) (t .stack))) ≡ code codeUntil
   unfolding effectBy

@@ -52,10 +52,10 @@ endOf none d = d
 endOf (some n) d = n
 
 at-once-same : (a b : AtOnce) → wayAtOnce a ≡ wayAtOnce b → a ≡ b
-at-once-same (once.Ended v) (once.Ended w) e = ap once.Ended (way-determined (wayOf w) v w (ap (λ (o : Option Next). endOf o (wayOf w)) e) refl)
+at-once-same (once.Acts v) (once.Acts w) e = ap once.Acts (way-determined (wayOf w) v w (ap (λ (o : Option Next). endOf o (wayOf w)) e) refl)
 at-once-same once.Not once.Not e = refl
-at-once-same (once.Ended v) once.Not e = let z : _≡_ {A = ℕ} 0 1 = cc in absurd (omega arith)
-at-once-same once.Not (once.Ended w) e = let z : _≡_ {A = ℕ} 0 1 = cc in absurd (omega arith)
+at-once-same (once.Acts v) once.Not e = let z : _≡_ {A = ℕ} 0 1 = cc in absurd (omega arith)
+at-once-same once.Not (once.Acts w) e = let z : _≡_ {A = ℕ} 0 1 = cc in absurd (omega arith)
 
 pub act-determined : (x : Acted) (a b : AtOnce) (vars vars′ : List ℕ) → acted a vars ≡ x → acted b vars′ ≡ x → (a ≡ b) × (vars ≡ vars′)
 act-determined x a b vars vars′ p q =

@@ -27,7 +27,7 @@ abbrev pub actedTo : Option Next → List ℕ → Acted
 actedTo next vars = record { next = next; vars = vars }
 
 abbrev pub wayAtOnce : AtOnce → Option Next
-wayAtOnce (once.Ended w) = some (wayOf w)
+wayAtOnce (once.Acts w) = some (wayOf w)
 wayAtOnce once.Not = none
 
 abbrev pub acted : AtOnce → List ℕ → Acted

@@ -37,7 +37,7 @@ pub struct Did {
 
 // How an operation ended that acts at once; or that it needs the parts, and is not done.
 pub enum AtOnce {
-    Ended(Way),
+    Acts(Way),
     Not,
 }
 
@@ -199,7 +199,7 @@ fn back_ends(b: Back) -> AtOnce
     ensures { λ r. ⌜ wayAtOnce r ≡ goesBack b ⌝ }
 {
     match b {
-        Back::To(p) => AtOnce::Ended(Way::Go(Onward::After(p))),
+        Back::To(p) => AtOnce::Acts(Way::Go(Onward::After(p))),
         Back::Not => AtOnce::Not,
     }
 }
@@ -220,10 +220,10 @@ pub fn act(
     match code {
         codes::SET_VARIABLE => {
             jump::set_var(vars, arg, x);
-            AtOnce::Ended(Way::On)
+            AtOnce::Acts(Way::On)
         }
-        codes::IF => AtOnce::Ended(if_way(x)),
-        codes::GOTO => AtOnce::Ended(jump::go_to(page, x)),
+        codes::IF => AtOnce::Acts(if_way(x)),
+        codes::GOTO => AtOnce::Acts(jump::go_to(page, x)),
         codes::UNTIL => back_ends(jump::until_back(dos, x)),
         codes::NEXT => back_ends(jump::next_back(fors, vars, low_byte(arg))),
         _ => AtOnce::Not,

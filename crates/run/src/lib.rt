@@ -96,7 +96,7 @@ fn pause(stop: u8, at: Place) -> u16
     ensures { λ r. ⌜ r ≡ pauseOf stop (at .0) ⌝ }
 {
     if stop == 14 {
-        return (at.position() + 1) as u16;
+        return nibl::paused_at(at.position());
     }
     nibl::NOWHERE
 }
@@ -199,7 +199,7 @@ pub fn run_steps<'a>(
                 led_by(way, at, cr)
             }
             Plain::Needs(i, height) => {
-                let d = statement::run_from(
+                let d = statement::run_ops_from(
                     &ops[..count],
                     i,
                     height,

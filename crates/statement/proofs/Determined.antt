@@ -1,4 +1,4 @@
--- One outcome: two answers that meet the promise of `run_ops` or of `run_from` for the same arguments are equal, and so
+-- One outcome: two answers that meet the promise of `run_ops` or of `run_ops_from` for the same arguments are equal, and so
 -- are the variables, the memory and the output; of the room that is lent it says nothing. What two answers of `run_plain` did and
 -- left to do comes to the same. Assumes nothing.
 use Prim.Native.Nat.{ℕ}
@@ -12,7 +12,7 @@ use Rattle.effect.proofs.Determined.{effect-determined}
 use Rattle.nibl.specs.declared.PlaceStack.{PlaceStack}
 use Rattle.nibl.specs.declared.ForStack.{ForStack}
 use Rattle.statement.specs.declared.Plain.{Plain}
-use Rattle.statement.specs.Plain.{Around, seen, plainIn, RunsPlainly}
+use Rattle.statement.specs.Plain.{Around, viewOf, plainIn, RunsPlainly}
 
 pub run-determined : (e : Env) (ops : List ℕ) (w : World) (d f : Did) (vars vars′ memory memory′ output output′ : List ℕ)
     → didIn d vars memory output ≡ runOps e ops w [] → didIn f vars′ memory′ output′ ≡ runOps e ops w []
@@ -26,5 +26,5 @@ from-determined e rest vs w = effect-determined (runOps e rest w vs)
 
 pub plain-determined : (ops page : List ℕ) (sense flags : ℕ) (dos : PlaceStack) (fors : ForStack) (vars memory : List ℕ) (r s : Plain) (vars₁ vars₂ values₁ values₂ : List ℕ)
     → RunsPlainly ops page sense flags dos fors vars memory r vars₁ values₁ → RunsPlainly ops page sense flags dos fors vars memory s vars₂ values₂
-    → (a : Around) → plainIn (seen page sense flags dos fors memory) a r ops vars₁ values₁ ≡ plainIn (seen page sense flags dos fors memory) a s ops vars₂ values₂
+    → (a : Around) → plainIn (viewOf page sense flags dos fors memory) a r ops vars₁ values₁ ≡ plainIn (viewOf page sense flags dos fors memory) a s ops vars₂ values₂
 plain-determined ops page sense flags dos fors vars memory r s vars₁ vars₂ values₁ values₂ p q a = p .runs a ∙ sym (q .runs a)

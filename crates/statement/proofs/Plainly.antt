@@ -25,7 +25,7 @@ use Rattle.nibl.specs.declared.ForStack.{ForStack}
 use Rattle.nibl.specs.declared.PlaceStack.{PlaceStack}
 use Rattle.statement.specs.declared.Plain.{Plain}
 use Rattle.statement.specs.declared.Plain.the-variants as plain
-use Rattle.statement.specs.Plain.{InView, Around, seen, envFrom, partsFrom, worldFrom, plainIn, plainHeight, plainAt, RunsPlainly, LeftAt}
+use Rattle.statement.specs.Plain.{InView, Around, viewOf, envFrom, partsFrom, worldFrom, plainIn, plainHeight, plainAt, RunsPlainly, LeftAt}
 use Rattle.statement.proofs.Running.{went-on, went-off, effect-way, effect-ends}
 
 -- what is left of a list, on the variables so far, does what the whole list does
@@ -109,7 +109,7 @@ module _ {ops page : List ℕ} {sense flags : ℕ} {dos : PlaceStack} {fors : Fo
     (runs : RunsPlainly ops page sense flags dos fors vars memory r vars′ values′)
   where
     abbrev sees : InView
-    sees = seen page sense flags dos fors memory
+    sees = viewOf page sense flags dos fors memory
 
     pub plain-ends : {w : Way} → r ≡ plain.Ends w → (a : Around)
         → didIn (did w (partsFrom sees a)) vars′ memory (a .output) ≡ runOps (envFrom sees a) ops (worldFrom sees a vars) []

@@ -53,8 +53,8 @@ module _ (s : InView) (a : Around) where
   plainIn (plain.Counts c v x y z) ops vars values = forsIn (worldFrom vars) (countTurn (a .here) (s .fors) vars c v x y z)
   plainIn (plain.Needs i n) ops vars values = runOps envFrom (drop i ops) (worldFrom vars) (stackOf values n)
 
-abbrev pub seen : List ℕ → ℕ → ℕ → PlaceStack → ForStack → List ℕ → InView
-seen page sense flags dos fors memory = record { page = page; sense = sense; flags = flags; dos = dos; fors = fors; memory = memory }
+abbrev pub viewOf : List ℕ → ℕ → ℕ → PlaceStack → ForStack → List ℕ → InView
+viewOf page sense flags dos fors memory = record { page = page; sense = sense; flags = flags; dos = dos; fors = fors; memory = memory }
 
 abbrev pub plainHeight : Plain → ℕ
 plainHeight (plain.Ends w) = 0
@@ -71,7 +71,7 @@ plainAt (plain.Counts c v x y z) = 0
 plainAt (plain.Needs i n) = i
 
 pub record RunsPlainly (ops page : List ℕ) (sense flags : ℕ) (dos : PlaceStack) (fors : ForStack) (vars memory : List ℕ) (r : Plain) (vars′ values′ : List ℕ) : Type 0 where
-  pub runs : (a : Around) → (let s = seen page sense flags dos fors memory in plainIn s a r ops vars′ values′ ≡ runOps (envFrom s a) ops (worldFrom s a vars) [])
+  pub runs : (a : Around) → (let s = viewOf page sense flags dos fors memory in plainIn s a r ops vars′ values′ ≡ runOps (envFrom s a) ops (worldFrom s a vars) [])
   pub within : plainHeight r ≤ plainAt r
 
 -- what is left at an operation is what the list does from there on, in any world with a page as long as a call's

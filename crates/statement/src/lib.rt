@@ -191,7 +191,7 @@ pub fn run_plain(
                     dos,
                     fors,
                 );
-                let AtOnce::Ended(way) = a else {
+                let AtOnce::Acts(way) = a else {
                     return left_at(ops, j, values, height);
                 };
                 if !is_on(way) {
@@ -204,7 +204,7 @@ pub fn run_plain(
 }
 
 // The operations of a statement from one on, where so many values lie on the stack.
-pub fn run_from(
+pub fn run_ops_from(
     ops: &[u32],
     from: usize,
     filled: usize,
@@ -318,7 +318,7 @@ pub fn run_ops(
     requires { ⌜ Fair (now page) (now ops) (now values) (now reply) (now replies) ⌝ }
     ensures { λ r. ⌜ didIn r (now (vars .exit)) (now (memory .exit)) (now (output .exit)) ≡ runOps (envWith (length (now (reply .entry))) (now (page .entry)) (now (input .entry)) sense here) (now (ops .entry)) (worldWith (now (vars .entry)) parts (now (memory .entry)) (now (output .entry))) [] ⌝ }
 {
-    run_from(
+    run_ops_from(
         ops,
         0,
         0,

@@ -1,7 +1,7 @@
 -- `effect` meets its contract: for each code the law of its answer. Assumes nothing.
 use lib.ListN.{length}
 use Rattle.effect.specs.Worlds.{envWith}
-use Rattle.effect.proofs.Codes.{Given, let-var, let-stat, let-byte, let-copy, goto, gosub, return, room, put-byte, put-stored, put-number, put-line, if-then, loop, until, for, next, input-text, end}
+use Rattle.effect.proofs.Codes.{Given, let-var, let-stat, let-byte, let-copy, goto, gosub, return, room, put-byte, put-stored, put-number, put-line, if-then, do-here, until, for, next, input-text, end}
 use borrow.Author.Needs.{needs}
 use Rattle.effect.proofs.effect.Statement.{statement}
 use Rattle.effect.proofs.effect.Tie as tie
@@ -64,7 +64,7 @@ returns-13 : tie.Need-returns-13
 returns-13 c = rw (c .before .before .match .keys13, c .ends3 .ensures) (if-then (given (c .before .before .before)) (c .before .if-way .result) (c .before .if-way .ensures))
 
 returns-14 : tie.Need-returns-14
-returns-14 c = rw (c .before .before .match .keys14, c .in-dos .ensures) (loop (given (c .before .before .before)) (c .before .do-here .result) (c .before .do-here .ensures))
+returns-14 c = rw (c .before .before .match .keys14, c .in-dos .ensures) (do-here (given (c .before .before .before)) (c .before .do-here .result) (c .before .do-here .ensures))
 
 returns-15 : tie.Need-returns-15
 returns-15 c = rw (c .before .before .match .keys15, c .in-dos2 .ensures) (until (given (c .before .before .before)) (c .before .until .result) (c .before .until .ensures))

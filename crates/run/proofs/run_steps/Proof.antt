@@ -357,8 +357,8 @@ add-steps c =
 run-plain-requires : tie.Need-run-plain-requires Inv-loop μ-loop
 run-plain-requires c κs = let k = c .before .before .before .before .before .before .before in let f = fair (head k) in let t = f .top in (values-room k, f .places, omega arith)
 
-run-from-requires : tie.Need-run-from-requires Inv-loop μ-loop
-run-from-requires c κs =
+run-ops-from-requires : tie.Need-run-ops-from-requires Inv-loop μ-loop
+run-ops-from-requires c κs =
     let s = c .before .before .before .before .before .before .before .before .before .before .before .before .before .before in
     let k = c .before .before .before .before .before .before .before .before .before .before .before .before .before .before .before .before .before .before .before .before .before .before in
     let l = loop s in
@@ -474,7 +474,7 @@ run-steps-spec =
     (λ c. search needs)
     (λ c. omega (arith, fits (c .before .before .before .before .before .before .before .before .before .before .before .before .before .before .before)))
     (λ c. sym (few (c .before .before .before .before .before .before .before .before .before .before .before .before .before .before .before .before)))
-    run-from-requires
+    run-ops-from-requires
     (λ c κs. search needs)
     (λ c. search needs)
     loop-less

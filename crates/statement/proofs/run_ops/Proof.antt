@@ -9,16 +9,16 @@ use borrow.Author.Needs.{needs}
 use Rattle.statement.proofs.run_ops.Statement.{statement}
 use Rattle.statement.proofs.run_ops.Tie as tie
 
-run-from-requires : tie.Need-run-from-requires
-run-from-requires c κs = (c .before .before .before .before .before .before .before .before .before .before .before .before .before .before .before .pre, omega arith)
+run-ops-from-requires : tie.Need-run-ops-from-requires
+run-ops-from-requires c κs = (c .before .before .before .before .before .before .before .before .before .before .before .before .before .before .before .pre, omega arith)
 
 returns : tie.Need-returns
 returns c =
     let a = c .before .before .before .before .before .before .before .before .before .before .before .before .before .before .before .before .before .before .before .before .before .before .before .before .before .before .before .before .args in
-    c .before .before .before .before .before .before .before .before .before .before .before .before .run-from .ensures
+    c .before .before .before .before .before .before .before .before .before .before .before .before .run-ops-from .ensures
     ∙ ap (runOps (envWith (length (a .reply .now)) (a .page .now) (a .input .now) (a .sense) (a .here)) (a .ops .now) (worldWith (a .vars .now) (a .parts) (a .memory .now) (a .output .now))) (stack-none (a .values .now))
 
 pub run-ops-spec : {M : Type 1} → statement M
 run-ops-spec =
     tie.close
-    (tie.spec run-from-requires (λ c. search needs) (λ c. search needs) (λ c. search needs) (λ c. search needs) (λ c. search needs) (λ c. search needs) returns)
+    (tie.spec run-ops-from-requires (λ c. search needs) (λ c. search needs) (λ c. search needs) (λ c. search needs) (λ c. search needs) (λ c. search needs) returns)

@@ -14,7 +14,7 @@ use Rattle.operation.specs.Operations.{runOps}
 use Rattle.operation.specs.Stacks.{stackOf, topIn}
 use Rattle.effect.specs.Acts.{actedTo, actBy}
 use Rattle.effect.proofs.Acts.{act-not}
-use Rattle.statement.specs.Plain.{InView, Around, seen, envFrom, worldFrom}
+use Rattle.statement.specs.Plain.{InView, Around, viewOf, envFrom, worldFrom}
 use Rattle.statement.proofs.Running.{run-end}
 use Rattle.statement.proofs.Plainly.{Reaches, plain-refused, plain-reached, plain-on, plain-off}
 use borrow.Author.Needs.{needs}
@@ -23,7 +23,7 @@ use Rattle.statement.proofs.run_plain.Tie as tie
 
 abbrev Inv-loop : tie.InvT-loop
 Inv-loop ops page sense flags dos fors vars₀ memory values₀ i₀ vars values i =
-    (length vars ≡ length vars₀) × (length values ≡ length values₀) × Reaches (seen page sense flags dos fors memory) ops vars₀ i vars
+    (length vars ≡ length vars₀) × (length values ≡ length values₀) × Reaches (viewOf page sense flags dos fors memory) ops vars₀ i vars
 
 abbrev μ-loop : tie.MeasureT-loop
 μ-loop ops page sense flags dos fors vars₀ memory values₀ i₀ vars values i = length ops - i
@@ -37,7 +37,7 @@ module _ (l : tie.At-loop Inv-loop μ-loop) where
   ops = start .args .ops .now
 
   abbrev sees : InView
-  sees = seen (start .args .page .now) (start .args .sense) (start .args .flags) (start .args .dos) (start .args .fors) (start .args .memory .now)
+  sees = viewOf (start .args .page .now) (start .args .sense) (start .args .flags) (start .args .dos) (start .args .fors) (start .args .memory .now)
 
 loop-holds : tie.Need-loop-holds Inv-loop μ-loop
 loop-holds c = (refl, refl, record { at = λ a. refl })

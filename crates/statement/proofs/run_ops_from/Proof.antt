@@ -1,4 +1,4 @@
--- `run_from` meets its contract: what is left of the list, run on the world and the values so far, does what the whole list
+-- `run_ops_from` meets its contract: what is left of the list, run on the world and the values so far, does what the whole list
 -- does. Assumes nothing.
 use Prim.Native.Nat.{ℕ, _+_, _-_, _≤_}
 use mathlib.Core.Path.{_≡_, refl, sym, ap, _∙_}
@@ -14,8 +14,8 @@ use Rattle.operation.proofs.Stacks.{stack-none}
 use Rattle.effect.specs.Worlds.{worldWith, envWith}
 use Rattle.statement.proofs.Running.{value-on, value-off, last-run, effect-on, effect-off, run-end}
 use borrow.Author.Needs.{needs}
-use Rattle.statement.proofs.run_from.Statement.{statement}
-use Rattle.statement.proofs.run_from.Tie as tie
+use Rattle.statement.proofs.run_ops_from.Statement.{statement}
+use Rattle.statement.proofs.run_ops_from.Tie as tie
 
 abbrev Inv-loop : tie.InvT-loop
 Inv-loop ops from filled here page input sense vars₀ memory₀ output₀ reply₀ replies₀ values₀ p₀ height₀ i₀ vars memory output reply replies values p height i =
@@ -188,8 +188,8 @@ returns-4 c =
     let l = ended c in
     rw (c .ends2 .ensures) (sym (l .loop .inv .7 ∙ run-end (env l) (ops l) (world l) (values l) (l .loop .i) (c .before .loop-test .left)))
 
-pub run-from-spec : {M : Type 1} → statement M
-run-from-spec =
+pub run-ops-from-spec : {M : Type 1} → statement M
+run-ops-from-spec =
     tie.close
     (tie.spec
     Inv-loop
