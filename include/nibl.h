@@ -4,7 +4,7 @@
  * Everything is lent by the host and everything is kept by the host: the library has no state of its own, takes nothing
  * from the heap, and needs no other function than C's memcpy and memset. Only numbers, pointers and lengths cross. Any
  * bits may be lent: what is out of range, a bad page and a record that does not fit are refused by a stop number, and
- * change nothing. docs/EMBEDDING.md says more.
+ * change nothing. This header wants C11 or C++11, and a target of 64 bits. docs/EMBEDDING.md says more.
  */
 #ifndef NIBL_H
 #define NIBL_H
@@ -116,6 +116,8 @@ typedef struct {
     size_t inpos;   /* where to read next */
     size_t outpos;  /* the end of what was written */
 } nibl_answer;
+
+/* Give either call 72 KiB of stack: it takes less than 8 KiB, and up to 880 bytes for each open bracket, "@" or NOT. */
 
 /*
  * Takes one typed line from the input, from call->inpos up to its CR, and does what it says: stores or deletes a program

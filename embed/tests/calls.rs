@@ -1,4 +1,4 @@
-//! The calls through the crate: what a host sees, all that it can lend wrongly, and the limits that the header names.
+//! The calls through the crate: what a host sees, and all that it can lend wrongly. `header.rs` has the limits.
 
 use nibl::{Call, Controller, Record, Stop, MARK, START};
 
@@ -101,33 +101,6 @@ fn what_is_out_of_range_is_refused_and_changes_nothing() {
             assert_eq!((answer.inpos, answer.outpos), (call.inpos, call.outpos));
             assert_eq!((&gate, output), (&before, [9; 8]));
         }
-    }
-}
-
-#[test]
-fn lengths_at_and_past_their_limits() {
-    let stop = |page, memory, input: usize, output: usize| {
-        let mut input = vec![0; input]; // which are dropped
-        if let Some(last) = input.last_mut() {
-            *last = 13;
-        }
-        let mut gate = Controller::owned(page, memory);
-        gate.take_line(&input, &mut vec![0; output], Call::default())
-            .stop
-    };
-    assert_eq!(stop(4096, 4096, 65_535, 65_535), Stop::Done);
-    assert_eq!(stop(2, 0, 1, 0), Stop::Done);
-    assert_eq!(stop(2, 0, 0, 0), Stop::NoCr);
-    let past = [
-        (1, 0, 1, 0),
-        (0, 0, 1, 0),
-        (4097, 0, 1, 0),
-        (2, 4097, 1, 0),
-        (2, 0, 65_536, 0),
-        (2, 0, 1, 65_536),
-    ];
-    for (page, memory, input, output) in past {
-        assert_eq!(stop(page, memory, input, output), Stop::OutOfRange);
     }
 }
 

@@ -1,11 +1,11 @@
-//! The header's numbers are this crate's.
+//! The header's numbers are this crate's, and the library's.
 
 use std::collections::BTreeMap;
 
-use nibl::Stop;
+use nibl::{Call, Controller, Record, Stop};
 
 /// Every named number of the header.
-fn constants() -> BTreeMap<String, u32> {
+fn constants() -> BTreeMap<String, usize> {
     let header = include_str!("../../include/nibl.h");
     let mut constants = BTreeMap::new();
     for line in header.lines() {
@@ -21,6 +21,17 @@ fn constants() -> BTreeMap<String, u32> {
     constants
 }
 
+/// A number of the header.
+fn header(name: &str) -> usize {
+    let number = constants().get(name).copied();
+    number.unwrap_or_else(|| panic!("the header has no {name}"))
+}
+
+/// A number of the header that is a byte's.
+fn byte(name: &str) -> u8 {
+    header(name).try_into().expect("a byte")
+}
+
 /// `NoSuchLine` in C: `NIBL_NO_SUCH_LINE`.
 fn in_c(stop: Stop) -> String {
     let mut name = "NIBL".to_string();
@@ -33,21 +44,37 @@ fn in_c(stop: Stop) -> String {
     name
 }
 
+/// Types a line on an empty page that the header's numbers make, and RUN after it: both stops, and the record then.
+fn typed(line: &str) -> (Stop, Stop, Record) {
+    let mut gate = Controller::owned(header("NIBL_PAGE_MOST"), 0);
+    gate.page[..2].fill(byte("NIBL_END_MARK"));
+    let mut stop = |line: &str| {
+        let input = [line.as_bytes(), &[byte("NIBL_CR")]].concat();
+        gate.take_line(&input, &mut [], Call::at(0, 0, 100)).stop
+    };
+    let (taken, ran) = (stop(line), stop("RUN"));
+    (taken, ran, gate.record)
+}
+
 #[test]
 fn every_stop_has_its_number_and_a_comment() {
-    let constants = constants();
     for stop in Stop::ALL {
-        assert_eq!(
-            constants.get(&in_c(stop)),
-            Some(&stop.number().into()),
-            "{stop}"
-        );
+        assert_eq!(header(&in_c(stop)), usize::from(stop.number()), "{stop}");
+    }
+}
+
+/// A number that no test here names would be held to nothing.
+#[test]
+fn no_number_is_left_out() {
+    let stops = Stop::ALL.map(in_c);
+    for name in constants().keys() {
+        let named = include_str!("header.rs").contains(&format!("\"{name}\""));
+        assert!(named || stops.contains(name), "{name}");
     }
 }
 
 #[test]
 fn the_named_numbers_are_the_same() {
-    let constants = constants();
     let wanted = [
         ("NIBL_MARK", nibl::MARK),
         ("NIBL_NOWHERE", nibl::NOWHERE),
@@ -55,6 +82,63 @@ fn the_named_numbers_are_the_same() {
         ("NIBL_NO_LINE", nibl::NO_LINE),
     ];
     for (name, number) in wanted {
-        assert_eq!(constants.get(name), Some(&number.into()), "{name}");
+        assert_eq!(header(name), usize::from(number), "{name}");
     }
+}
+
+#[test]
+fn lengths_and_budgets_at_and_past_their_limits() {
+    let stop = |page, memory, input: usize, output: usize, budget: usize| {
+        let mut input = vec![0; input]; // which are dropped
+        if let Some(last) = input.last_mut() {
+            *last = byte("NIBL_CR");
+        }
+        let mut gate = Controller::owned(page, memory);
+        gate.take_line(&input, &mut vec![0; output], Call::at(0, 0, budget))
+            .stop
+    };
+    let (least, page) = (header("NIBL_PAGE_LEAST"), header("NIBL_PAGE_MOST"));
+    let (memory, input) = (header("NIBL_MEMORY_MOST"), header("NIBL_INPUT_MOST"));
+    let (output, budget) = (header("NIBL_OUTPUT_MOST"), header("NIBL_BUDGET_MOST"));
+    assert_eq!(stop(page, memory, input, output, budget), Stop::Done);
+    assert_eq!(stop(least, 0, 1, 0, 0), Stop::Done);
+    assert_eq!(stop(least, 0, 0, 0, 0), Stop::NoCr);
+    let past = [
+        (least - 1, 0, 1, 0, 0),
+        (0, 0, 1, 0, 0),
+        (page + 1, 0, 1, 0, 0),
+        (least, memory + 1, 1, 0, 0),
+        (least, 0, input + 1, 0, 0),
+        (least, 0, 1, output + 1, 0),
+        (least, 0, 1, 0, budget + 1),
+    ];
+    for (page, memory, input, output, budget) in past {
+        assert_eq!(stop(page, memory, input, output, budget), Stop::OutOfRange);
+    }
+}
+
+#[test]
+fn lines_at_and_past_their_limits() {
+    let stop = |line: String| typed(&line).0;
+    let most = header("NIBL_LINE_MOST");
+    assert_eq!(stop(format!("{:most$}", "NEW")), Stop::Done);
+    assert_eq!(stop(format!("{:1$}", "NEW", most + 1)), Stop::NoReading);
+    let highest = header("NIBL_LINE_NUMBER_MOST");
+    assert_eq!(stop(format!("{highest} END")), Stop::Done);
+    assert_eq!(stop(format!("{} END", highest + 1)), Stop::NoReading);
+}
+
+#[test]
+fn stacks_are_full_and_variables_end_where_the_header_says() {
+    let full = |line| {
+        let (_, ran, record) = typed(line);
+        assert_eq!(ran, Stop::TooDeep, "{line}");
+        record
+    };
+    assert_eq!(full("1 GOSUB 1").gosubs.depth, header("NIBL_GOSUBS"));
+    assert_eq!(full("1 DO:GOTO 1").dos.depth, header("NIBL_DOS"));
+    let record = full("1 FOR Z=1 TO 2:GOTO 1");
+    assert_eq!(record.fors.depth, header("NIBL_FORS"));
+    let last = usize::from(record.fors.entries[0].var);
+    assert_eq!(last + 1, header("NIBL_VARIABLES"));
 }

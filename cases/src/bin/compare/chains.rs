@@ -11,7 +11,7 @@ use model::random::texts::Setting;
 use model::random::{Random, Size};
 use model::{Answer, ForEntry, ForStack, Pause, Place, PlaceStack, Record};
 
-use crate::trial::Trial;
+use crate::trial::{self, Trial};
 
 /// Holds a trial, and hands back what it answered unless the two differ.
 pub type Hold<'a> = dyn FnMut(&mut Trial) -> Option<Answer> + 'a;
@@ -259,14 +259,15 @@ fn bits(random: &mut Random) -> Trial {
 
 /// A case with one number past 32 bits, whose low 32 bits would be in range.
 fn far(random: &mut Random) -> Trial {
-    let mut trial = Trial::new(case(random, Size::Full));
+    let case = case(random, Size::Full);
+    let mut numbers = trial::numbers(&case);
     let by = (1 << 32) * random.between(1, 9);
     match random.below(3) {
-        0 => trial.numbers.inpos += by,
-        1 => trial.numbers.outpos += by,
-        _ => trial.numbers.budget += by,
+        0 => numbers.inpos += by,
+        1 => numbers.outpos += by,
+        _ => numbers.budget += by,
     }
-    Trial::with_numbers(trial.case, trial.numbers)
+    Trial::with_numbers(case, numbers)
 }
 
 /// A reply of any bytes with slips: INPUT of a string shows all that was kept of it.

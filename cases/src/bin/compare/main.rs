@@ -3,7 +3,8 @@
 //!     compare N SEED [exact]      N random cases, most with calls that go on from what the case left
 //!     compare written [exact]     lists of values, words, lines, pages, records and programs, each entry through calls
 //!
-//! It prints how often each stop came up, and exits 0 only if nothing differs and nothing was skipped, and if, from 1,000
+//! It prints how often each stop came up, and how many calls were skipped or rewritten because the library's record cannot
+//! say the case's pause (`Trial`), and exits 0 only if nothing differs and nothing was skipped, and if, from 1,000
 //! cases on, every stop came up in each call that can give it. A call that differs is printed as a case, for the two case
 //! drivers to take apart. What is lent stands between guard bytes, or, with `exact`, in blocks of just its length, for a
 //! memory checker.
@@ -32,6 +33,7 @@ const SHOWN: usize = 10;
 fn hold(tally: &mut Tally, trial: &mut Trial, lending: Lending) -> Option<Answer> {
     let before = trial.case.clone();
     tally.calls += 1;
+    tally.rewritten += usize::from(trial.rewritten);
     match trial.hold(lending) {
         Outcome::Same(answer) => {
             tally.count(before.call, &answer);

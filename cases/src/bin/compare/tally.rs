@@ -17,6 +17,8 @@ pub struct Tally {
     pub cases: usize,
     pub calls: usize,
     pub skipped: usize,
+    /// Calls with another pause than the case's, which the library's record cannot say.
+    pub rewritten: usize,
     pub differ: usize,
     /// By stop number: typed lines, continued runs.
     stops: [[usize; 2]; 21],
@@ -37,6 +39,7 @@ impl Tally {
             cases: 0,
             calls: 0,
             skipped: 0,
+            rewritten: 0,
             differ: 0,
             stops: [[0; 2]; 21],
         }
@@ -72,8 +75,8 @@ impl Tally {
         }
         let (seconds, rate) = (self.began.elapsed().as_secs_f64(), self.a_second());
         println!(
-            "{} cases, {} calls in {seconds:.1} s, {rate:.0} cases a second: {} differ, {} skipped",
-            self.cases, self.calls, self.differ, self.skipped
+            "{} cases, {} calls in {seconds:.1} s, {rate:.0} cases a second: {} differ, {} skipped, {} rewritten",
+            self.cases, self.calls, self.differ, self.skipped, self.rewritten
         );
         let covered = missing == 0 || self.cases < ENOUGH;
         if !covered {

@@ -9,6 +9,8 @@ use model::Answer;
 pub struct Trial {
     pub case: Case,
     pub numbers: nibl::Call,
+    /// Was the case's record another one, which the library cannot be lent?
+    pub rewritten: bool,
 }
 
 /// What came of a trial.
@@ -20,7 +22,8 @@ pub enum Outcome {
     Differs(String),
 }
 
-fn numbers(case: &Case) -> nibl::Call {
+/// A case's own numbers.
+pub fn numbers(case: &Case) -> nibl::Call {
     nibl::Call {
         inpos: case.input_position as usize,
         outpos: case.output_position as usize,
@@ -35,11 +38,17 @@ fn narrow(number: usize) -> u32 {
 }
 
 impl Trial {
-    /// The case with a record that the library can be lent.
+    /// The case with a record that the library can be lent: a pause that it cannot say becomes none, or the start.
     pub fn new(mut case: Case) -> Trial {
-        case.record = convert::model_record(&convert::nearest(&case.record));
+        let record = convert::model_record(&convert::nearest(&case.record));
+        let rewritten = record != case.record;
+        case.record = record;
         let numbers = numbers(&case);
-        Trial { case, numbers }
+        Trial {
+            case,
+            numbers,
+            rewritten,
+        }
     }
 
     /// The case with numbers of any width.
@@ -112,7 +121,7 @@ fn is_position(model: u32, given: usize, library: usize) -> bool {
 mod tests {
     use super::*;
     use model::case::Call;
-    use model::{Record, Stop};
+    use model::{Pause, Place, Record, Stop};
 
     fn typed(line: &[u8]) -> Case {
         Case {
@@ -145,6 +154,15 @@ mod tests {
         let mut trial = Trial::new(typed(b"A=1\r"));
         trial.numbers.outpos = 1;
         assert!(matches!(trial.hold(Lending::Guarded), Outcome::Differs(_)));
+    }
+
+    #[test]
+    fn a_pause_that_the_record_cannot_say_is_rewritten() {
+        for (place, rewritten) in [(65_533, false), (65_534, true), (65_535, true)] {
+            let mut case = typed(b"NEW\r");
+            case.record.paused = Some(Pause::After(Place(place)));
+            assert_eq!(Trial::new(case).rewritten, rewritten, "{place}");
+        }
     }
 
     #[test]

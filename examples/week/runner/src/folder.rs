@@ -21,11 +21,18 @@ pub struct Folder {
 
 impl Folder {
     pub fn read(folder: &Path) -> Result<Folder, String> {
-        let paper = bytes(&folder.join("rules.md"))?;
+        let paper = folder.join("rules.md");
+        let rules = rule_names(&String::from_utf8_lossy(&bytes(&paper)?));
+        if rules.is_empty() {
+            let name = paper.display();
+            return Err(format!(
+                "{name}: there is no rule in it, as \"1. **Box.** ..\" is one"
+            ));
+        }
         let herd = read_herd(&folder.join("herd.csv"))?;
         let visits = read_visits(&folder.join("visits.csv"), &herd)?;
         Ok(Folder {
-            rules: rule_names(&String::from_utf8_lossy(&paper)),
+            rules,
             book: bytes(&folder.join("rules.nib"))?,
             retyped: bytes(&folder.join("retyped.nib"))?,
             leftover: bytes(&folder.join("leftover.nib"))?,
