@@ -128,7 +128,7 @@ fn stops(page: &[u8], stop: u8, at: Place, steps: u16, parts: Parts) -> Ran
 }
 
 // A run: steps until it stops, is past the last line, or has spent its budget. A step runs as far as it can without the parts,
-// so that most of them move nothing but the variables.
+// and a turn that ends it takes its stack alone, so that few of them move all of the parts.
 pub fn run_steps<'a>(
     from: Onward,
     budget: usize,
@@ -175,28 +175,25 @@ pub fn run_steps<'a>(
             memory,
             values,
         );
-        let led = match r {
-            Plain::Ends(way) => led_by(way, at, cr),
+        let way = match r {
+            Plain::Ends(way) => way,
             Plain::Calls(code, x) => {
                 let t = effect::call_turn(code, x, at, page, p.gosubs);
-                let way = t.way;
                 let stack = t.stack;
                 p.gosubs = stack;
-                led_by(way, at, cr)
+                t.way
             }
             Plain::Loops(code, x) => {
                 let t = effect::loop_turn(code, x, at, dos);
-                let way = t.way;
                 let stack = t.stack;
                 p.dos = stack;
-                led_by(way, at, cr)
+                t.way
             }
             Plain::Counts(code, arg, x, y, z) => {
                 let t = effect::count_turn(code, arg, x, y, z, at, vars, fors);
-                let way = t.way;
                 let stack = t.stack;
                 p.fors = stack;
-                led_by(way, at, cr)
+                t.way
             }
             Plain::Needs(i, height) => {
                 let d = statement::run_ops_from(
@@ -215,13 +212,12 @@ pub fn run_steps<'a>(
                     values,
                     p,
                 );
-                let way = d.way;
                 let next = d.parts;
                 p = next;
-                led_by(way, at, cr)
+                d.way
             }
         };
-        match led {
+        match led_by(way, at, cr) {
             Led::To(o) => {
                 q = o;
             }

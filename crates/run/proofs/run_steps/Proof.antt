@@ -21,7 +21,7 @@ use Rattle.world.specs.declared.jump.Way.{Way}
 use Rattle.operation.specs.Operations.{runOps}
 use Rattle.operation.specs.Stacks.{stackOf}
 use Rattle.effect.specs.declared.Did.{Did}
-use Rattle.world.specs.Turns.{wayOf, turned, turnedFor, gosubsIn, dosIn, forsIn}
+use Rattle.world.specs.Turns.{turned, turnedFor, gosubsIn, dosIn, forsIn}
 use Rattle.world.specs.declared.jump.Turn.{Turn}
 use Rattle.world.specs.declared.jump.ForTurn.{ForTurn}
 use Rattle.effect.specs.Acts.{callTurn, loopTurn, countTurn}
@@ -32,7 +32,7 @@ use Rattle.statement.specs.declared.Plain.the-variants as plain
 use Rattle.statement.proofs.Plainly.{plain-ends, plain-calls, plain-loops, plain-counts, plain-needs, plain-within}
 use Rattle.run.specs.declared.Led.{Led}
 use Rattle.run.specs.declared.Led.the-variants as by
-use Rattle.run.specs.StepEnds.{StepEnd, ledTo, nextAfter, doneEnd, stepOf, tally}
+use Rattle.run.specs.StepEnds.{StepEnd, ledTo, doneEnd, stepOf, tally}
 use Rattle.run.specs.Running.{MayRun, ranTo, ranIn, pauseOf}
 use Rattle.run.proofs.Starts.{ready-fair}
 use Rattle.run.proofs.Members.{NextMember, fetch-found, fetch-past, member-steps}
@@ -157,19 +157,13 @@ module _ (s : tie.After-run-plain Inv-loop μ-loop) where
   one-left : 0 < loop .loop .left
   one-left = let h = some-left in omega arith
 
--- What a step came to, by any of its ways: how its operations ended and what they left, where that leads, and that what is lent is as
--- long as before
+-- What a step came to, by any of its ways: its operations ended that way and left that, and what is lent is as long as before
 module _ (s : tie.After-run-plain Inv-loop μ-loop) where
   abbrev runs : Done
   runs = runOps (envWith (length (loop s .loop .reply)) (page (loop s)) (start (loop s) .args .input .now) (start (loop s) .args .sense) (at (taken s))) (ops (taken s)) (world (loop s)) []
 
-  abbrev Leads : Led → Way → Type 0
-  Leads led w = ledTo led ≡ nextAfter (wayOf w) (at (taken s) .0) (cr (taken s) .0)
-
-  record CameTo (vars memory output reply replies values : List ℕ) (p : Parts) (led : Led) : Type 0 where
-    way : Way
+  record CameTo (vars memory output reply replies values : List ℕ) (p : Parts) (way : Way) : Type 0 where
     comes : didIn (did way p) vars memory output ≡ runs
-    leads : Leads led way
     vars-kept : length vars ≡ length (start (loop s) .args .vars .now)
     memory-kept : length memory ≡ length (start (loop s) .args .memory .now)
     output-kept : length output ≡ length (start (loop s) .args .output .now)
@@ -177,24 +171,22 @@ module _ (s : tie.After-run-plain Inv-loop μ-loop) where
     replies-kept : length replies ≡ length (start (loop s) .args .replies .now)
     values-kept : length values ≡ length (start (loop s) .args .values .now)
 
-  at-meeting : {vars vars′ memory memory′ output output′ reply reply′ replies replies′ values values′ : List ℕ} {p p′ : Parts} {led led′ : Led}
-      → CameTo vars′ memory′ output′ reply′ replies′ values′ p′ led′
-      → vars ≡ vars′ → memory ≡ memory′ → output ≡ output′ → reply ≡ reply′ → replies ≡ replies′ → values ≡ values′ → p ≡ p′ → led ≡ led′
-      → CameTo vars memory output reply replies values p led
+  at-meeting : {vars vars′ memory memory′ output output′ reply reply′ replies replies′ values values′ : List ℕ} {p p′ : Parts} {way way′ : Way}
+      → CameTo vars′ memory′ output′ reply′ replies′ values′ p′ way′
+      → vars ≡ vars′ → memory ≡ memory′ → output ≡ output′ → reply ≡ reply′ → replies ≡ replies′ → values ≡ values′ → p ≡ p′ → way ≡ way′
+      → CameTo vars memory output reply replies values p way
   at-meeting k a b c d e f g h = rw (a, b, c, d, e, f, g, h) k
 
   -- without more than the variables
-  abbrev Plainly : List ℕ → Parts → Led → Type 0
-  Plainly vars p led = CameTo vars (loop s .loop .memory) (loop s .loop .output) (loop s .loop .reply) (loop s .loop .replies) (values-plain s) p led
+  abbrev Plainly : List ℕ → Parts → Way → Type 0
+  Plainly vars p way = CameTo vars (loop s .loop .memory) (loop s .loop .output) (loop s .loop .reply) (loop s .loop .replies) (values-plain s) p way
 
-  plainly : {vars : List ℕ} {p : Parts} {led : Led} (w : Way) → didIn (did w p) vars (loop s .loop .memory) (loop s .loop .output) ≡ runs
-      → length vars ≡ length (vars-plain s) → Leads led w → Plainly vars p led
-  plainly w e v g =
+  plainly : {vars : List ℕ} {p : Parts} {way : Way} → didIn (did way p) vars (loop s .loop .memory) (loop s .loop .output) ≡ runs
+      → length vars ≡ length (vars-plain s) → Plainly vars p way
+  plainly e v =
       let i = loop s .loop .inv in
       record {
-        way = w;
         comes = e;
-        leads = g;
         vars-kept = v ∙ s .run-plain .kept .1 .1 .1 .1 .1 .1 .0 ∙ i .3;
         memory-kept = i .4;
         output-kept = i .5;
@@ -203,44 +195,34 @@ module _ (s : tie.After-run-plain Inv-loop μ-loop) where
         values-kept = s .run-plain .kept .1 .1 .1 .1 .1 .1 .1 .1 .0 ∙ i .8;
       }
 
-  ended : {w : Way} {led : Led} → s .run-plain .result ≡ plain.Ends w → Leads led w → Plainly (vars-plain s) (loop s .loop .p) led
-  ended {w} e g = plainly w (plain-ends (s .run-plain .ensures) e (around s)) refl g
+  ended : {way : Way} → s .run-plain .result ≡ plain.Ends way → Plainly (vars-plain s) (loop s .loop .p) way
+  ended e = plainly (plain-ends (s .run-plain .ensures) e (around s)) refl
 
-  called : {code x : ℕ} (t : Turn) {led : Led} → s .run-plain .result ≡ plain.Calls code x
-      → turned t ≡ callTurn (page (loop s)) (at (taken s)) (loop s .loop .p .gosubs) code x → Leads led (t .way)
-      → Plainly (vars-plain s) (withGosubsIn (loop s .loop .p) (t .stack)) led
-  called t e h g =
-      let l = loop s .loop in
-      plainly (t .way) (ap (gosubsIn (worldWith (vars-plain s) (l .p) (l .memory) (l .output))) h ∙ plain-calls (s .run-plain .ensures) e (around s)) refl g
+  called : {code x : ℕ} (t : Turn) → s .run-plain .result ≡ plain.Calls code x
+      → turned t ≡ callTurn (page (loop s)) (at (taken s)) (loop s .loop .p .gosubs) code x
+      → Plainly (vars-plain s) (withGosubsIn (loop s .loop .p) (t .stack)) (t .way)
+  called t e h = plainly (ap (gosubsIn (worldWith (vars-plain s) (loop s .loop .p) (loop s .loop .memory) (loop s .loop .output))) h ∙ plain-calls (s .run-plain .ensures) e (around s)) refl
 
-  looped : {code x : ℕ} (t : Turn) {led : Led} → s .run-plain .result ≡ plain.Loops code x
-      → turned t ≡ loopTurn (at (taken s)) (loop s .loop .p .dos) code x → Leads led (t .way)
-      → Plainly (vars-plain s) (withDosIn (loop s .loop .p) (t .stack)) led
-  looped t e h g =
-      let l = loop s .loop in
-      plainly (t .way) (ap (dosIn (worldWith (vars-plain s) (l .p) (l .memory) (l .output))) h ∙ plain-loops (s .run-plain .ensures) e (around s)) refl g
+  looped : {code x : ℕ} (t : Turn) → s .run-plain .result ≡ plain.Loops code x
+      → turned t ≡ loopTurn (at (taken s)) (loop s .loop .p .dos) code x
+      → Plainly (vars-plain s) (withDosIn (loop s .loop .p) (t .stack)) (t .way)
+  looped t e h = plainly (ap (dosIn (worldWith (vars-plain s) (loop s .loop .p) (loop s .loop .memory) (loop s .loop .output))) h ∙ plain-loops (s .run-plain .ensures) e (around s)) refl
 
-  counted : {code arg x y z : ℕ} (t : ForTurn) {vars : List ℕ} {led : Led} → s .run-plain .result ≡ plain.Counts code arg x y z
-      → turnedFor t vars ≡ countTurn (at (taken s)) (loop s .loop .p .fors) (vars-plain s) code arg x y z → length vars ≡ length (vars-plain s) → Leads led (t .way)
-      → Plainly vars (withForsIn (loop s .loop .p) (t .stack)) led
-  counted t e h v g =
-      let l = loop s .loop in
-      plainly (t .way) (ap (forsIn (worldWith (vars-plain s) (l .p) (l .memory) (l .output))) h ∙ plain-counts (s .run-plain .ensures) e (around s)) v g
+  counted : {code arg x y z : ℕ} (t : ForTurn) {vars : List ℕ} → s .run-plain .result ≡ plain.Counts code arg x y z
+      → turnedFor t vars ≡ countTurn (at (taken s)) (loop s .loop .p .fors) (vars-plain s) code arg x y z → length vars ≡ length (vars-plain s)
+      → Plainly vars (withForsIn (loop s .loop .p) (t .stack)) (t .way)
+  counted t e h v = plainly (ap (forsIn (worldWith (vars-plain s) (loop s .loop .p) (loop s .loop .memory) (loop s .loop .output))) h ∙ plain-counts (s .run-plain .ensures) e (around s)) v
 
   -- with the parts
-  needed : {i n : ℕ} (d : Did) {vars memory output reply replies values : List ℕ} {led : Led} → s .run-plain .result ≡ plain.Needs i n
+  needed : {i n : ℕ} (d : Did) {vars memory output reply replies values : List ℕ} → s .run-plain .result ≡ plain.Needs i n
       → didIn d vars memory output
       ≡ runOps (envWith (length (loop s .loop .reply)) (page (loop s)) (start (loop s) .args .input .now) (start (loop s) .args .sense) (at (taken s))) (drop i (ops (taken s))) (worldWith (vars-plain s) (loop s .loop .p) (loop s .loop .memory) (loop s .loop .output)) (stackOf (values-plain s) n)
-      → (let l = loop s .loop in
-      (length vars ≡ length (vars-plain s)) × (length memory ≡ length (l .memory)) × (length output ≡ length (l .output)) × (length reply ≡ length (l .reply)) × (length replies ≡ length (l .replies)) × (length values ≡ length (values-plain s)))
-      → Leads led (d .way)
-      → CameTo vars memory output reply replies values (d .parts) led
-  needed d e h l g =
+      → (length vars ≡ length (vars-plain s)) × (length memory ≡ length (loop s .loop .memory)) × (length output ≡ length (loop s .loop .output)) × (length reply ≡ length (loop s .loop .reply)) × (length replies ≡ length (loop s .loop .replies)) × (length values ≡ length (values-plain s))
+      → CameTo vars memory output reply replies values (d .parts) (d .way)
+  needed d e h l =
       let i = loop s .loop .inv in
       record {
-        way = d .way;
         comes = h ∙ plain-needs (s .run-plain .ensures) e (around s);
-        leads = g;
         vars-kept = l .0 ∙ s .run-plain .kept .1 .1 .1 .1 .1 .1 .0 ∙ i .3;
         memory-kept = l .1 ∙ i .4;
         output-kept = l .2 ∙ i .5;
@@ -250,9 +232,9 @@ module _ (s : tie.After-run-plain Inv-loop μ-loop) where
       }
 
 -- and where the run is then
-module _ (s : tie.After-run-plain Inv-loop μ-loop) {vars memory output reply replies values : List ℕ} {p : Parts} {led : Led} (k : CameTo s vars memory output reply replies values p led) where
+module _ (s : tie.After-run-plain Inv-loop μ-loop) {vars memory output reply replies values : List ℕ} {p : Parts} {way : Way} (k : CameTo s vars memory output reply replies values p way) where
   abbrev t : StepEnd
-  t = doneEnd (didIn (did (k .way) p) vars memory output) (at (taken s) .0) (cr (taken s) .0)
+  t = doneEnd (didIn (did way p) vars memory output) (at (taken s) .0) (cr (taken s) .0)
 
   abbrev l : tie.At-loop Inv-loop μ-loop
   l = loop s
@@ -261,7 +243,7 @@ module _ (s : tie.After-run-plain Inv-loop μ-loop) {vars memory output reply re
   a = fetches (taken s) .from
 
   is-step : t ≡ stepOf (env l) a (world l) (member (lineFrom (page l) a))
-  is-step = step (taken s) (did (k .way) p) vars memory output (k .comes)
+  is-step = step (taken s) (did way p) vars memory output (k .comes)
 
   place-small : at (taken s) .0 < 65535
   place-small =
@@ -272,12 +254,13 @@ module _ (s : tie.After-run-plain Inv-loop μ-loop) {vars memory output reply re
   still-fits : Fit (placesOf (page l)) (t .world .session)
   still-fits = step-fits (lim l) (env l) (begun l .short) (begun l .good) (from l) a (l .loop .inv .1) (fetches (taken s) .text) (world l) (l .loop .inv .2) t is-step
 
-  module _ {o : Onward} (e : led ≡ by.To o) where
+  -- where its way leads: on
+  module _ {led : Led} (leads : ledTo led ≡ t .next) {o : Onward} (e : led ≡ by.To o) where
     abbrev x : ℕ
     x = positionOf o
 
     g : t .next ≡ go x
-    g = sym (k .leads) ∙ ap ledTo e
+    g = sym leads ∙ ap ledTo e
 
     stands : Stands (page l) x
     stands = step-stands (lim l) (env l) (begun l .short) (begun l .good) (from l) a (l .loop .inv .1) (fetches (taken s) .text) (world l) (l .loop .inv .2) t is-step x g
@@ -285,16 +268,16 @@ module _ (s : tie.After-run-plain Inv-loop μ-loop) {vars memory output reply re
     goes-on : tally (l .loop .steps) (runFrom (l .loop .left) (env l) (from l) (world l)) (page l) ≡ tally (l .loop .steps + 1) (runFrom (l .loop .left - 1) (env l) x (t .world)) (page l)
     goes-on = step-goes (lim l) (env l) (begun l .short) (begun l .good) (from l) a (l .loop .inv .1) (fetches (taken s) .text) (world l) (l .loop .inv .2) t is-step (l .loop .left) (l .loop .steps) (some-left s) x g
 
-  -- what the answer says of a stop is what the whole run comes to
-  stops-so : {i : ℕ} → led ≡ by.Stops i
+  -- or to a stop, of which the answer says what the whole run comes to
+  stops-so : {led : Led} → ledTo led ≡ t .next → {i : ℕ} → led ≡ by.Stops i
       → (let b = start l .args in
       ranIn (ranTo i (stopAt i (lineOf (page l) (at (taken s) .0) ∷ [])) (l .loop .steps + 1) (pauseOf i (at (taken s) .0)) p) vars (page l) memory output
       ≡ runOutcome (runFrom (b .budget) (env l) (positionOf (b .from)) (worldWith (b .vars .now) (b .parts) (b .memory .now) (b .output .now))) (page l))
-  stops-so {i} e =
+  stops-so leads {i} e =
       stop-told i (stopAt i (lineOf (page l) (at (taken s) .0) ∷ [])) (l .loop .steps + 1) (at (taken s) .0) p vars (page l) memory output
       ∙ sym
       (l .loop .inv .10
-      ∙ step-stops (lim l) (env l) (begun l .short) (begun l .good) (from l) a (l .loop .inv .1) (fetches (taken s) .text) (world l) (l .loop .inv .2) t is-step (l .loop .left) (l .loop .steps) (some-left s) i (sym (k .leads) ∙ ap ledTo e))
+      ∙ step-stops (lim l) (env l) (begun l .short) (begun l .good) (from l) a (l .loop .inv .1) (fetches (taken s) .text) (world l) (l .loop .inv .2) t is-step (l .loop .left) (l .loop .steps) (some-left s) i (sym leads ∙ ap ledTo e))
 
 loop-holds : tie.Need-loop-holds Inv-loop μ-loop
 loop-holds c =
@@ -380,35 +363,34 @@ module _ (c : tie.At-match2-came Inv-loop μ-loop) where
   abbrev before : tie.After-run-plain Inv-loop μ-loop
   before = c .before .before .before .before .before
 
-  came : (let m = c .match2 in CameTo before (m .vars) (m .memory) (m .output) (m .reply) (m .replies) (m .values) (m .p) (m .led))
+  came : (let m = c .match2 in CameTo before (m .vars) (m .memory) (m .output) (m .reply) (m .replies) (m .values) (m .p) (m .way))
   came =
       ⊎-elim
-      (λ w. at-meeting before (ended before (w .1 .given .1) (w .3 .ensures)) (w .4) (w .5) (w .6) (w .7) (w .8) (w .9) (w .10) (w .11))
+      (λ w. at-meeting before (ended before (w .1 .given .1)) (w .3) (w .4) (w .5) (w .6) (w .7) (w .8) (w .9) (w .10))
       (⊎-elim
-      (λ w. at-meeting before (called before (w .3 .result) (w .1 .given .1) (w .3 .ensures) (w .5 .ensures)) (w .6) (w .7) (w .8) (w .9) (w .10) (w .11) (w .12) (w .13))
+      (λ w. at-meeting before (called before (w .3 .result) (w .1 .given .1) (w .3 .ensures)) (w .5) (w .6) (w .7) (w .8) (w .9) (w .10) (w .11) (w .12))
       (⊎-elim
-      (λ w. at-meeting before (looped before (w .3 .result) (w .1 .given .1) (w .3 .ensures) (w .5 .ensures)) (w .6) (w .7) (w .8) (w .9) (w .10) (w .11) (w .12) (w .13))
+      (λ w. at-meeting before (looped before (w .3 .result) (w .1 .given .1) (w .3 .ensures)) (w .5) (w .6) (w .7) (w .8) (w .9) (w .10) (w .11) (w .12))
       (⊎-elim
-      (λ w. at-meeting before (counted before (w .4 .result) (w .1 .given .1) (w .4 .ensures) (w .4 .kept .1 .1 .1 .1 .1 .1 .0) (w .8 .ensures)) (w .9) (w .10) (w .11) (w .12) (w .13) (w .14) (w .15) (w .16))
-      (λ w. let f = w .10 .kept in
-      at-meeting before (needed before (w .10 .result) (w .1 .given .1) (w .10 .ensures)
-      (f .1 .1 .1 .1 .1 .1 .1 .0, f .1 .1 .1 .1 .1 .1 .1 .1 .0, f .1 .1 .1 .1 .1 .1 .1 .1 .1 .0, f .1 .1 .1 .1 .1 .1 .1 .1 .1 .1 .0, f .1 .1 .1 .1 .1 .1 .1 .1 .1 .1 .1 .0, f .1 .1 .1 .1 .1 .1 .1 .1 .1 .1 .1 .1 .0)
-      (w .24 .ensures)) (w .25) (w .26) (w .27) (w .28) (w .29) (w .30) (w .31) (w .32)))))
+      (λ w. at-meeting before (counted before (w .4 .result) (w .1 .given .1) (w .4 .ensures) (w .4 .kept .1 .1 .1 .1 .1 .1 .0)) (w .8) (w .9) (w .10) (w .11) (w .12) (w .13) (w .14) (w .15))
+      (λ w. let f = w .10 .kept .1 .1 .1 .1 .1 .1 .1 in
+      at-meeting before (needed before (w .10 .result) (w .1 .given .1) (w .10 .ensures) (f .0, f .1 .0, f .1 .1 .0, f .1 .1 .1 .0, f .1 .1 .1 .1 .0, f .1 .1 .1 .1 .1 .0)) (w .24) (w .25) (w .26) (w .27) (w .28) (w .29) (w .30) (w .31)))))
       (c .match2 .came)
 
 loop-less : tie.Need-loop-less Inv-loop μ-loop
-loop-less c = omega (arith, one-left (before (c .before .before .before)))
+loop-less c = omega (arith, one-left (before (c .before .before .before .before)))
 
 loop-again : tie.Need-loop-again Inv-loop μ-loop
 loop-again c =
-    let j = c .before .before .before in
+    let j = c .before .before .before .before in
     let s = before j in
     let k = came j in
     let i = loop s .loop .inv in
-    let e = c .before .led .given .1 in
+    let g = c .before .before .before .led-by .ensures in
+    let e = c .before .o .given .1 in
     let b = i .0 in (
       omega (arith, one-left s),
-      stands s k e,
+      stands s k g e,
       still-fits s k,
       k .vars-kept,
       k .memory-kept,
@@ -417,14 +399,14 @@ loop-again c =
       k .replies-kept,
       k .values-kept,
       s .before .before .before .before .before .before .before .before .before .before .before .before .before .fetch .kept .1 .1 .1 .0 ∙ i .9,
-      i .10 ∙ goes-on s k e,
+      i .10 ∙ goes-on s k g e,
     )
 
 stops-requires : tie.Need-stops-requires Inv-loop μ-loop
-stops-requires c κs = let j = c .before .before .before in omega (arith, place-small (before j) (came j))
+stops-requires c κs = let j = c .before .before .before .before in omega (arith, place-small (before j) (came j))
 
 returns-3 : tie.Need-returns-3 Inv-loop μ-loop
-returns-3 c = let j = c .before .before .before .before in rw (c .stops .ensures) (stops-so (before j) (came j) (c .before .before .led2 .given .1))
+returns-3 c = let j = c .before .before .before .before .before in rw (c .stops .ensures) (stops-so (before j) (came j) (c .before .before .before .before .led-by .ensures) (c .before .before .n .given .1))
 
 pub run-steps-spec : {M : Type 1} → statement M
 run-steps-spec =
@@ -461,15 +443,11 @@ run-steps-spec =
     (λ c. sym (few (c .before .before .before .before)))
     run-plain-requires
     (λ c. search needs)
+    (λ c. search needs)
     (λ c κs. search needs)
     (λ c. search needs)
     (λ c κs. search needs)
-    (λ c κs. search needs)
     (λ c. search needs)
-    (λ c κs. search needs)
-    (λ c κs. search needs)
-    (λ c. search needs)
-    (λ c κs. search needs)
     (λ c κs. search needs)
     (λ c. search needs)
     (λ c. omega (arith, fits (c .before .before .before .before .before .before .before .before .before .before .before .before .before .before .before)))
@@ -481,11 +459,11 @@ run-steps-spec =
     loop-again
     (λ c. search needs)
     stops-requires
-    (λ c. came (c .before .before .before .before) .vars-kept)
-    (λ c. came (c .before .before .before .before) .memory-kept)
-    (λ c. came (c .before .before .before .before) .output-kept)
-    (λ c. came (c .before .before .before .before) .reply-kept)
-    (λ c. came (c .before .before .before .before) .replies-kept)
-    (λ c. came (c .before .before .before .before) .values-kept)
-    (λ c. let s = before (c .before .before .before .before) in s .before .before .before .before .before .before .before .before .before .before .before .before .before .fetch .kept .1 .1 .1 .0 ∙ loop s .loop .inv .9)
+    (λ c. came (c .before .before .before .before .before) .vars-kept)
+    (λ c. came (c .before .before .before .before .before) .memory-kept)
+    (λ c. came (c .before .before .before .before .before) .output-kept)
+    (λ c. came (c .before .before .before .before .before) .reply-kept)
+    (λ c. came (c .before .before .before .before .before) .replies-kept)
+    (λ c. came (c .before .before .before .before .before) .values-kept)
+    (λ c. let s = before (c .before .before .before .before .before) in s .before .before .before .before .before .before .before .before .before .before .before .before .before .fetch .kept .1 .1 .1 .0 ∙ loop s .loop .inv .9)
     returns-3)
