@@ -10,6 +10,7 @@ use Rattle.nibl.specs.Record.{place, mark, positionOf, partsOf, sessionOf}
 use Rattle.nibl.specs.Meaning.{World, Env, Done, done, exec}
 use Rattle.nibl.specs.Calls.{Outcome, runFrom, runOutcome, afterImmediate, obeyRead}
 use Rattle.nibl.specs.declared.Session.{Session}
+use Rattle.nibl.specs.declared.Call.{Call}
 use Rattle.nibl.specs.declared.Place.{Place}
 use Rattle.nibl.specs.declared.Parts.{Parts}
 use Rattle.nibl.specs.Page.{isGood, placesOf}
@@ -110,10 +111,10 @@ run-ops-requires c κs =
 
 run-from-requires : tie.Need-run-from-requires
 run-from-requires c κs =
-    let r = c .before .before .before .before .before .before .before .before .before .before .before .before .before .before .before .before .before .before .before .before .before .before in
+    let r = c .before .before .before .before .before .before .before .before .before .before .before .before .before .before .before .before .before .before .before .before .before .before .before in
     let s = start r in
-    let t = stands r (c .before .before .before .before .before .before .before .way2 .given .1) in
-    let e = c .before .before .before .before .before .before .before .before .before .session .ensures in
+    let t = stands r (c .before .before .before .before .before .before .before .before .way2 .given .1) in
+    let e = c .before .before .before .before .before .before .before .before .before .before .session .ensures in
     let k = r .run-ops .kept .1 .1 .1 .1 .1 .1 .1 .1 .0 in (
       lists r,
       record {
@@ -121,7 +122,7 @@ run-from-requires c κs =
         good = ap (λ (n : ℕ). isGood n (page r)) k ∙ s .pre .1 .good;
         fits = subst (Fit (placesOf (page r))) (sym e) (t .1);
         idle = ap (λ (x : Session). x .paused) e;
-        steps = s .pre .1 .steps;
+        steps = rw (c .before .before .before .before .at .ensures) (s .pre .1 .steps);
       },
       t .0,
     )
@@ -147,14 +148,15 @@ returns-3 c =
 
 returns-4 : tie.Need-returns-4
 returns-4 c =
-    let r = c .before .before .before .before .before .before .before .before .before .before .before .before .before .before .before .before .before .before .before .before .before .before .before .before .before .before .before .before .before .before .before .before .before .before .before in
+    let r = c .before .before .before .before .before .before .before .before .before .before .before .before .before .before .before .before .before .before .before .before .before .before .before .before .before .before .before .before .before .before .before .before .before .before .before .before in
     let a = start r .args in
-    let q = positionOf (c .before .before .before .before .before .before .before .before .before .before .before .before .before .before .before .before .before .before .before .before .way2 .given .0 .0) in
+    let q = positionOf (c .before .before .before .before .before .before .before .before .before .before .before .before .before .before .before .before .before .before .before .before .before .way2 .given .0 .0) in
     let p = r .run-ops .result .parts in
-    ends r (c .before .before .before .before .before .before .before .before .before .before .before .before .before .before .before .before .before .before .before .before .way2 .given .1)
+    ends r (c .before .before .before .before .before .before .before .before .before .before .before .before .before .before .before .before .before .before .before .before .before .way2 .given .1)
     (c .before .before .before .before .before .before .before .before .before .before .before .before .run-from .ensures
-    ∙ ap (λ (n : ℕ). runOutcome (runFrom (a .call .budget) (envWith n (page r) (a .input .now) (a .call .sense) (place mark)) q (worldAt (c .before .before .before .before .before .before .before .before .before .before .before .before .before .before .before .before .before .before .before .before .before .before .session .result) (memory r) (output r) (p .inpos) (p .outpos))) (page r)) (r .run-ops .kept .1 .1 .1 .1 .1 .1 .1 .1 .0)
-    ∙ ap (λ (x : Session). runOutcome (runFrom (a .call .budget) (env r) q (worldAt x (memory r) (output r) (p .inpos) (p .outpos))) (page r)) (c .before .before .before .before .before .before .before .before .before .before .before .before .before .before .before .before .before .before .before .before .before .before .session .ensures))
+    ∙ ap (λ (k : Call). runOutcome (runFrom (k .budget) (envWith (length (r .run-ops .last .1 .1 .1 .1 .1 .1 .1 .1 .0)) (page r) (a .input .now) (k .sense) (place mark)) q (worldAt (c .before .before .before .before .before .before .before .before .before .before .before .before .before .before .before .before .before .before .before .before .before .before .before .session .result) (memory r) (output r) (k .inpos) (k .outpos))) (page r)) (c .before .before .before .before .before .before .before .before .before .before .before .before .before .before .before .before .before .at .ensures)
+    ∙ ap (λ (n : ℕ). runOutcome (runFrom (a .call .budget) (envWith n (page r) (a .input .now) (a .call .sense) (place mark)) q (worldAt (c .before .before .before .before .before .before .before .before .before .before .before .before .before .before .before .before .before .before .before .before .before .before .before .session .result) (memory r) (output r) (p .inpos) (p .outpos))) (page r)) (r .run-ops .kept .1 .1 .1 .1 .1 .1 .1 .1 .0)
+    ∙ ap (λ (x : Session). runOutcome (runFrom (a .call .budget) (env r) q (worldAt x (memory r) (output r) (p .inpos) (p .outpos))) (page r)) (c .before .before .before .before .before .before .before .before .before .before .before .before .before .before .before .before .before .before .before .before .before .before .before .session .ensures))
 
 same-length : tie.Need-same-length
 same-length c = c .before .before .before .before .before .before .before .before .before .before .before .before .before .before .before .before .run-ops .kept .1 .1 .1 .1 .1 .1 .0
@@ -202,19 +204,19 @@ same-length-17 : tie.Need-same-length-17
 same-length-17 c = c .before .before .before .before .before .before .before .before .before .before .before .before .before .before .before .before .before .run-ops .kept .1 .1 .1 .1 .1 .1 .1 .1 .1 .1 .0
 
 same-length-19 : tie.Need-same-length-19
-same-length-19 c = c .before .before .before .before .before .before .before .before .before .before .before .before .run-from .kept .1 .1 .1 .0 ∙ c .before .before .before .before .before .before .before .before .before .before .before .before .before .before .before .before .before .before .before .before .before .before .before .before .before .before .before .before .before .before .before .before .before .before .before .run-ops .kept .1 .1 .1 .1 .1 .1 .0
+same-length-19 c = c .before .before .before .before .before .before .before .before .before .before .before .before .run-from .kept .1 .1 .1 .0 ∙ c .before .before .before .before .before .before .before .before .before .before .before .before .before .before .before .before .before .before .before .before .before .before .before .before .before .before .before .before .before .before .before .before .before .before .before .before .run-ops .kept .1 .1 .1 .1 .1 .1 .0
 
 same-length-20 : tie.Need-same-length-20
-same-length-20 c = c .before .before .before .before .before .before .before .before .before .before .before .before .run-from .kept .1 .1 .1 .1 .1 .0 ∙ c .before .before .before .before .before .before .before .before .before .before .before .before .before .before .before .before .before .before .before .before .before .before .before .before .before .before .before .before .before .before .before .before .before .before .before .run-ops .kept .1 .1 .1 .1 .1 .1 .1 .0
+same-length-20 c = c .before .before .before .before .before .before .before .before .before .before .before .before .run-from .kept .1 .1 .1 .1 .1 .0 ∙ c .before .before .before .before .before .before .before .before .before .before .before .before .before .before .before .before .before .before .before .before .before .before .before .before .before .before .before .before .before .before .before .before .before .before .before .before .run-ops .kept .1 .1 .1 .1 .1 .1 .1 .0
 
 same-length-21 : tie.Need-same-length-21
-same-length-21 c = c .before .before .before .before .before .before .before .before .before .before .before .before .run-from .kept .1 .1 .1 .1 .1 .1 .1 .1 .0 ∙ c .before .before .before .before .before .before .before .before .before .before .before .before .before .before .before .before .before .before .before .before .before .before .before .before .before .before .before .before .before .before .before .before .before .before .before .run-ops .kept .1 .1 .1 .1 .1 .1 .1 .1 .0
+same-length-21 c = c .before .before .before .before .before .before .before .before .before .before .before .before .run-from .kept .1 .1 .1 .1 .1 .1 .1 .1 .0 ∙ c .before .before .before .before .before .before .before .before .before .before .before .before .before .before .before .before .before .before .before .before .before .before .before .before .before .before .before .before .before .before .before .before .before .before .before .before .run-ops .kept .1 .1 .1 .1 .1 .1 .1 .1 .0
 
 same-length-22 : tie.Need-same-length-22
-same-length-22 c = c .before .before .before .before .before .before .before .before .before .before .before .before .run-from .kept .1 .1 .1 .1 .1 .1 .1 .1 .1 .0 ∙ c .before .before .before .before .before .before .before .before .before .before .before .before .before .before .before .before .before .before .before .before .before .before .before .before .before .before .before .before .before .before .before .before .before .before .before .run-ops .kept .1 .1 .1 .1 .1 .1 .1 .1 .1 .0
+same-length-22 c = c .before .before .before .before .before .before .before .before .before .before .before .before .run-from .kept .1 .1 .1 .1 .1 .1 .1 .1 .1 .0 ∙ c .before .before .before .before .before .before .before .before .before .before .before .before .before .before .before .before .before .before .before .before .before .before .before .before .before .before .before .before .before .before .before .before .before .before .before .before .run-ops .kept .1 .1 .1 .1 .1 .1 .1 .1 .1 .0
 
 same-length-23 : tie.Need-same-length-23
-same-length-23 c = c .before .before .before .before .before .before .before .before .before .before .before .before .run-from .kept .1 .1 .1 .1 .1 .1 .1 .1 .1 .1 .0 ∙ c .before .before .before .before .before .before .before .before .before .before .before .before .before .before .before .before .before .before .before .before .before .before .before .before .before .before .before .before .before .before .before .before .before .before .before .run-ops .kept .1 .1 .1 .1 .1 .1 .1 .1 .1 .1 .0
+same-length-23 c = c .before .before .before .before .before .before .before .before .before .before .before .before .run-from .kept .1 .1 .1 .1 .1 .1 .1 .1 .1 .1 .0 ∙ c .before .before .before .before .before .before .before .before .before .before .before .before .before .before .before .before .before .before .before .before .before .before .before .before .before .before .before .before .before .before .before .before .before .before .before .before .run-ops .kept .1 .1 .1 .1 .1 .1 .1 .1 .1 .1 .0
 
 same-length-24 : tie.Need-same-length-24
 same-length-24 c = c .before .before .before .before .before .before .before .before .before .before .before .before .run-from .kept .1 .1 .1 .1 .1 .1 .1 .1 .1 .1 .1 .0
@@ -237,6 +239,7 @@ immediate-spec =
     (λ c. search needs)
     (λ c κs. search needs)
     (λ c. search needs)
+    (λ c κs. search needs)
     run-from-requires
     same-length
     same-length-2

@@ -4,7 +4,7 @@ use Rattle.ending.proofs.ran.Statement.{statement}
 use Rattle.ending.proofs.ran.Tie as tie
 
 returns : tie.Need-returns
-returns c = rw (c .session .ensures)
+returns c = rw (c .session .ensures, c .before .of .ensures)
 
 pub ran-spec : {M : Type 1} → statement M
-ran-spec = tie.close (tie.spec (λ c κs. search needs) returns)
+ran-spec = tie.close (tie.spec (λ c κs. search needs) (λ c κs. search needs) returns)

@@ -110,7 +110,7 @@ obey-requires c κs =
     let t = c .before .before .before .before .before .before .before .before .before .before .before .before .read-typed in
     let m = t .kept .1 .1 .0 in
     let u = c .before .before .before .before .before .before .before .before .before .unpaused2 .ensures in
-    let d = ap (λ (k : Call). k .budget) (c .before .before .before .before .before .past .ensures) in
+    let d = ap (λ (k : Call). k .budget) (c .before .before .before .before .before .at .ensures) in
     let h = kept r (c .before .before .before .before .before .before .before .before .before .before .before .before .before .before .before .before .before .g2 .given .1) .few in
     let e = length-take-le _ (slots r) h in
     let n = as-long r in
@@ -150,7 +150,7 @@ returns-3 c =
     let x = c .before .before .before .before .before .before .before .before .before .before .before .before .before .before .before .before .before .before .before .before .before .before .before .before .unpaused2 in
     let t : List ℕ = take (c .before .before .before .before .before .before .before .before .before .before .before .before .before .before .before .before .before .before .before .before .before .before .before .before .before .before .before .before .before .before .before .before .g2 .given .0 .1 .0) (slots r) in
     c .before .before .before .before .before .before .before .before .before .before .before .before .before .before .obey .ensures
-    ∙ ap (λ (k : Call). obeyRead (k .budget) (envWith (lim r) (a .page .now) (a .input .now) (k .sense) (place mark)) (worldAt (x .result) (a .memory .now) (a .output .now) (k .inpos) (k .outpos)) (typed t)) (c .before .before .before .before .before .before .before .before .before .before .before .before .before .before .before .before .before .before .before .before .past .ensures)
+    ∙ ap (λ (k : Call). obeyRead (k .budget) (envWith (lim r) (a .page .now) (a .input .now) (k .sense) (place mark)) (worldAt (x .result) (a .memory .now) (a .output .now) (k .inpos) (k .outpos)) (typed t)) (c .before .before .before .before .before .before .before .before .before .before .before .before .before .before .before .before .before .before .before .before .at .ensures)
     ∙ ap (λ (s : Session). obeyRead (a .call .budget) (lentEnv (lim r) (all r)) (worldAt s (a .memory .now) (a .output .now) (c .before .before .before .before .before .before .before .before .before .before .before .before .before .before .before .before .before .before .before .before .before .before .before .before .before .before .before .before .before .before .before .before .g2 .given .0 .0) (a .call .outpos)) (typed t)) (x .ensures)
     ∙ ends-line (all r) (lim r) (kept r (c .before .before .before .before .before .before .before .before .before .before .before .before .before .before .before .before .before .before .before .before .before .before .before .before .before .before .before .before .before .before .before .before .g2 .given .1))
 
