@@ -226,9 +226,12 @@ fn steps(page: &[u8], session: Session) -> u16 {
     std::num::wrapping_add_u16(ran.steps, vars[0])
 }
 
-// A record whose stacks are full and that is paused: 21 places, all of them the CR of the line before the middle one.
+// The CR of the line before the middle one.
+const BEFORE: usize = 1968;
+
+// A record whose stacks are full and that is paused: 21 places, all of them that CR.
 fn full() -> Session {
-    let there = Place::at(1968);
+    let there = Place::at(BEFORE);
     let entry = ForEntry {
         var: 8,
         limit: 8,
@@ -248,7 +251,7 @@ fn full() -> Session {
             depth: 4,
             entries: [entry; 4],
         },
-        paused: 1970,
+        paused: nibl::paused_at(BEFORE + 1),
     }
 }
 
