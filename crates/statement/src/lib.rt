@@ -229,8 +229,8 @@ pub fn run_ops_from(
     while i < ops.len() {
         let op = ops[i];
         let code = op % codes::CODES;
+        let x = operation::nth(values, height, 0);
         if code < codes::EFFECTS {
-            let top = operation::nth(values, height, 0);
             let t = operation::value_step(
                 op,
                 vars,
@@ -240,7 +240,7 @@ pub fn run_ops_from(
                 memory,
                 values,
                 height,
-                top,
+                x,
             );
             match t {
                 Height::Top(n, _) => {
@@ -252,7 +252,6 @@ pub fn run_ops_from(
                 }
             }
         } else {
-            let x = operation::nth(values, height, 0);
             if is_last(code) {
                 return last(
                     op,

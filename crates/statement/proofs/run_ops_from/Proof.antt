@@ -78,7 +78,7 @@ value-step-requires c κs =
     let v = c .before .before .before .before .before .before .before .before .loop .inv .0 in
     let s = c .before .before .before .before .before .before .before .before .loop .inv .6 in
     let t = c .before .before .before .before .before .before .before .loop-test .taken in
-    (omega arith, c .before .before .before .before .before .before .before .before .before .before .before .before .before .before .before .before .before .before .pre .0 .top, c .before .before .before .nth .ensures)
+    (omega arith, c .before .before .before .before .before .before .before .before .before .before .before .before .before .before .before .before .before .before .pre .0 .top, c .before .before .before .before .nth .ensures)
 
 add-i : tie.Need-add-i Inv-loop μ-loop
 add-i c = let g = c .before .before .before .before .before .before .before .before .before .before .before .before .before .before .before .before .before .before .before .before .before .before .before .before .good in let t = c .before .before .before .before .before .before .before .before .before .before .before .before .before .loop-test .taken in omega arith
@@ -100,7 +100,7 @@ loop-again c =
       l .loop .inv .4,
       l .loop .inv .5,
       q .kept .1 .1 .1 .1 .1 .1 .0 ∙ l .loop .inv .6,
-      l .loop .inv .7 ∙ value-on (env l) (ops l) (world l) (values l) (l .loop .i) t (c .before .before .before .before .before .before .before .before .before .before .before .if1 .taken) (rw (c .before .t .given .1) at (q .ensures .0)),
+      l .loop .inv .7 ∙ value-on (env l) (ops l) (world l) (values l) (l .loop .i) t (c .before .before .before .before .before .before .before .before .before .if1 .taken) (rw (c .before .t .given .1) at (q .ensures .0)),
     )
 
 returns : tie.Need-returns Inv-loop μ-loop
@@ -109,7 +109,7 @@ returns c =
     rw (c .ends .ensures)
     (sym
     (l .loop .inv .7
-    ∙ value-off (env l) (ops l) (world l) (values l) (l .loop .i) (c .before .before .before .before .before .before .before .before .before .before .before .before .before .before .loop-test .taken) (c .before .before .before .before .before .before .before .before .before .before .before .before .if1 .taken) (rw (c .before .before .t2 .given .1) at (c .before .before .before .before .before .before .value-step .ensures .0))))
+    ∙ value-off (env l) (ops l) (world l) (values l) (l .loop .i) (c .before .before .before .before .before .before .before .before .before .before .before .before .before .before .loop-test .taken) (c .before .before .before .before .before .before .before .before .before .before .if1 .taken) (rw (c .before .before .t2 .given .1) at (c .before .before .before .before .before .before .value-step .ensures .0))))
 
 add-last : tie.Need-add-last Inv-loop μ-loop
 add-last c = let g = c .before .before .before .before .before .before .before .before .before .before .before .before .before .before .before .before .before .good in let t = c .before .before .before .before .before .before .loop-test .taken in omega arith
@@ -141,7 +141,7 @@ returns-2 c =
     let a = start l .args in
     sym
     (l .loop .inv .7
-    ∙ last-run (slots l) (a .page .now) (a .input .now) (a .sense) (a .here) (ops l) (world l) (values l) (l .loop .i) (s .last .result) (s .before .before .before .before .before .before .before .before .before .before .before .before .before .before .loop-test .taken) (s .before .before .before .before .before .before .before .before .before .before .before .before .if1 .left) (l .loop .inv .4) (s .before .before .before .before .before .before .before .before .before .before .nth2 .ensures)
+    ∙ last-run (slots l) (a .page .now) (a .input .now) (a .sense) (a .here) (ops l) (world l) (values l) (l .loop .i) (s .last .result) (s .before .before .before .before .before .before .before .before .before .before .before .before .before .before .loop-test .taken) (s .before .before .before .before .before .before .before .before .before .before .if1 .left) (l .loop .inv .4) (s .before .before .before .before .before .before .before .before .before .before .before .nth .ensures)
     (sym (s .before .before .before .before .before .before .before .before .before .is-last .ensures) ∙ s .before .before .before .before .before .before .before .before .if2 .taken) (part-rest (ops l) (l .loop .i + 1)) (s .last .ensures))
 
 effect-requires : tie.Need-effect-requires Inv-loop μ-loop
@@ -154,8 +154,8 @@ returns-3 c =
     let a = start l .args in
     sym
     (l .loop .inv .7
-    ∙ effect-off (slots l) (a .page .now) (a .input .now) (a .sense) (a .here) (ops l) (world l) (values l) (l .loop .i) (s .effect .result) (s .before .before .before .before .before .before .before .before .before .before .before .before .before .before .before .loop-test .taken) (s .before .before .before .before .before .before .before .before .before .before .before .before .before .if1 .left) (l .loop .inv .4) (s .before .before .before .before .before .before .before .before .before .before .before .nth2 .ensures)
-    (sym (s .before .before .before .before .before .before .before .before .before .before .is-last .ensures) ∙ s .before .before .before .before .before .before .before .before .before .if2 .left) (s .before .before .before .before .before .before .before .nth3 .ensures) (s .before .before .before .before .before .nth4 .ensures) (s .effect .ensures) (sym (c .before .is-on .ensures) ∙ not-true _ (c .if3 .taken)))
+    ∙ effect-off (slots l) (a .page .now) (a .input .now) (a .sense) (a .here) (ops l) (world l) (values l) (l .loop .i) (s .effect .result) (s .before .before .before .before .before .before .before .before .before .before .before .before .before .before .before .loop-test .taken) (s .before .before .before .before .before .before .before .before .before .before .before .if1 .left) (l .loop .inv .4) (s .before .before .before .before .before .before .before .before .before .before .before .before .nth .ensures)
+    (sym (s .before .before .before .before .before .before .before .before .before .before .is-last .ensures) ∙ s .before .before .before .before .before .before .before .before .before .if2 .left) (s .before .before .before .before .before .before .before .nth2 .ensures) (s .before .before .before .before .before .nth3 .ensures) (s .effect .ensures) (sym (c .before .is-on .ensures) ∙ not-true _ (c .if3 .taken)))
 
 add-i-2 : tie.Need-add-i-2 Inv-loop μ-loop
 add-i-2 c = let g = c .before .before .before .before .before .before .before .before .before .before .before .before .before .before .before .before .before .before .before .before .before .before .before .before .before .before .before .before .before .before .before .before .before .before .before .before .before .good in let t = c .before .before .before .before .before .before .before .before .before .before .before .before .before .before .before .before .before .before .before .before .before .before .before .before .before .before .loop-test .taken in omega arith
@@ -178,8 +178,8 @@ loop-again-2 c =
       l .loop .inv .5,
       l .loop .inv .6,
       l .loop .inv .7
-          ∙ effect-on (slots l) (a .page .now) (a .input .now) (a .sense) (a .here) (ops l) (world l) (values l) (l .loop .i) (q .result) t (s .before .before .before .before .before .before .before .before .before .before .before .before .before .if1 .left) (l .loop .inv .4) (s .before .before .before .before .before .before .before .before .before .before .before .nth2 .ensures)
-          (sym (s .before .before .before .before .before .before .before .before .before .before .is-last .ensures) ∙ s .before .before .before .before .before .before .before .before .before .if2 .left) (s .before .before .before .before .before .before .before .nth3 .ensures) (s .before .before .before .before .before .nth4 .ensures) (q .ensures) (sym (c .before .before .is-on .ensures) ∙ not-false _ (c .before .if3 .left))
+          ∙ effect-on (slots l) (a .page .now) (a .input .now) (a .sense) (a .here) (ops l) (world l) (values l) (l .loop .i) (q .result) t (s .before .before .before .before .before .before .before .before .before .before .before .if1 .left) (l .loop .inv .4) (s .before .before .before .before .before .before .before .before .before .before .before .before .nth .ensures)
+          (sym (s .before .before .before .before .before .before .before .before .before .before .is-last .ensures) ∙ s .before .before .before .before .before .before .before .before .before .if2 .left) (s .before .before .before .before .before .before .before .nth2 .ensures) (s .before .before .before .before .before .nth3 .ensures) (q .ensures) (sym (c .before .before .is-on .ensures) ∙ not-false _ (c .before .if3 .left))
           ∙ ap (runOps (env l) (drop (l .loop .i + 1) (ops l)) (worldWith (q .last .1 .1 .1 .1 .1 .1 .1 .1 .0) (q .result .parts) (q .last .1 .1 .1 .1 .1 .1 .1 .1 .1 .0) (q .last .1 .1 .1 .1 .1 .1 .1 .1 .1 .1 .0))) (sym (stack-none (l .loop .values))),
     )
 
@@ -212,7 +212,6 @@ run-ops-from-spec =
     (λ c. refused c .loop .inv .5)
     (λ c. c .before .before .before .before .before .before .value-step .kept .1 .1 .1 .1 .1 .1 .0 ∙ refused c .loop .inv .6)
     returns
-    (λ c κs. search needs)
     (λ c κs. search needs)
     add-last
     (λ c. search needs)
