@@ -18,8 +18,6 @@ const OUTPUT: usize = 8192;
 
 const BUDGET: usize = 10000;
 
-const QUOTE: u8 = 34;
-
 // How many rows there were so far, and how many of them came as expected; and the record, for a row that goes on with it.
 struct Desk {
     session: Session,
@@ -215,8 +213,8 @@ fn longest(desk: Desk) -> Desk {
     let mut typed = [b'X'; 73];
     typed[0] = b'P';
     typed[1] = b'R';
-    typed[2] = QUOTE;
-    typed[71] = QUOTE;
+    typed[2] = nibl::QUOTE;
+    typed[71] = nibl::QUOTE;
     typed[72] = CR;
     let mut written = [b'X'; 70];
     written[68] = CR;
@@ -240,8 +238,8 @@ fn too_long(desk: Desk) -> Desk {
     let mut typed = [b'X'; 74];
     typed[0] = b'P';
     typed[1] = b'R';
-    typed[2] = QUOTE;
-    typed[72] = QUOTE;
+    typed[2] = nibl::QUOTE;
+    typed[72] = nibl::QUOTE;
     typed[73] = CR;
     row(
         anew(desk),

@@ -286,9 +286,7 @@ const CLASS: [u8; 256] = [
     class::OTHER,
 ];
 
-// Where the digits and the capitals begin and end, the last capital that is a hex digit, and the range of the text bytes.
-pub const ZERO: u8 = 48;
-
+// Where the digits end, the capitals begin and end, the last capital that is a hex digit, and the range of the text bytes.
 const NINE: u8 = 57;
 
 pub const A: u8 = 65;
@@ -301,14 +299,10 @@ const FIRST_TEXT: u8 = 32;
 
 const LAST_TEXT: u8 = 126;
 
-// The bytes that have a class of their own.
+// More bytes that have a class of their own.
 const NUL: u8 = 0;
 
 const DISCARD: u8 = 21;
-
-const SPACE: u8 = 32;
-
-const QUOTE: u8 = 34;
 
 const ERASE: u8 = 95;
 
@@ -324,10 +318,10 @@ fn low_class(b: u8) -> u8
     requires { ⌜ b < 48 ⌝ }
     ensures { λ r. ⌜ (r ≡ classOf b) × (r ≤ classOther) ⌝ }
 {
-    if b == SPACE {
+    if b == nibl::SPACE {
         return class::SPACE;
     }
-    if b == QUOTE {
+    if b == nibl::QUOTE {
         return class::QUOTE;
     }
     if b == nibl::CR {
@@ -350,7 +344,7 @@ fn low_class(b: u8) -> u8
 pub fn class_by_range(b: u8) -> u8
     ensures { λ r. ⌜ (r ≡ classOf b) × (r ≤ classOther) ⌝ }
 {
-    if b < ZERO {
+    if b < nibl::ZERO {
         return low_class(b);
     }
     if b <= NINE {

@@ -8,12 +8,20 @@ ghost use Rattle.nibl.specs.Record.{place, mark, positionOf, nowhere, pa
 ghost use Rattle.nibl.specs.Calls.{answerOf, withPositions};
 
 // Bytes that the rules name: what ends a typed line, a record's text and a string; what follows it in the output; what stands
-// between two statements; and the end mark, which is two of these.
+// between two statements; what a number is written with; what stands around a string; and the end mark, which is two of these.
 pub const CR: u8 = 13;
 
 pub const LF: u8 = 10;
 
 pub const COLON: u8 = 58;
+
+pub const ZERO: u8 = 48;
+
+pub const MINUS: u8 = 45;
+
+pub const SPACE: u8 = 32;
+
+pub const QUOTE: u8 = 34;
 
 pub const END_MARK: u8 = 255;
 

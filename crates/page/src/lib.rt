@@ -29,12 +29,12 @@ use value::write_digits;
 use value::write_item;
 
 // A record's bytes before its text: the number and the length; and all but the text: those and the CR.
-const HEAD: usize = 3;
+pub const HEAD: usize = 3;
 
-const FRAME: usize = 4;
+pub const FRAME: usize = 4;
 
 // The shortest record and the longest: a text has a byte at least, and the length is one byte.
-const LEAST: usize = 5;
+pub const LEAST: usize = 5;
 
 const MOST: usize = 255;
 
@@ -115,7 +115,7 @@ fn has_record(page: &[u8], at: usize) -> bool
     if n <= at {
         return false;
     }
-    if n - at < 3 {
+    if n - at < HEAD {
         return false;
     }
     if is_end_mark(page, at) {

@@ -67,11 +67,11 @@ fn whole_size(page: &[u8], at: usize) -> usize
     ensures { λ r. ⌜ r ≡ wholeSize (drop at (now (page .entry))) ⌝ }
 {
     let left = page.len() - at;
-    if left < 5 {
+    if left < page::LEAST {
         return 0;
     }
     let size = page[at + 2] as usize;
-    if size < 5 {
+    if size < page::LEAST {
         return 0;
     }
     if left < size {
@@ -89,7 +89,7 @@ fn record_size(page: &[u8], at: usize, low: u32, lim: usize, ops: &mut [u32]) ->
     ensures { λ r. ⌜ r ≡ recordSize lim low (drop at (now (page .entry))) ⌝ }
 {
     let size = whole_size(page, at);
-    if size < 5 {
+    if size < page::LEAST {
         return 0;
     }
     let line = page::line_at(page, at);
@@ -99,8 +99,13 @@ fn record_size(page: &[u8], at: usize, low: u32, lim: usize, ops: &mut [u32]) ->
     if LAST_LINE < line {
         return 0;
     }
-    let n = size - 4;
-    if is_storable(&page[at + 3..at + 3 + n], line, lim, &mut ops[..n]) {
+    let n = size - page::FRAME;
+    if is_storable(
+        &page[at + page::HEAD..at + page::HEAD + n],
+        line,
+        lim,
+        &mut ops[..n],
+    ) {
         return size;
     }
     0
@@ -129,11 +134,15 @@ fn ends_in(page: &[u8], at: usize, size: usize, i: usize) -> bool
     requires { ⌜ (0 < size) × (size ≡ sizeAt (drop at (now page))) ⌝ }
     ensures { λ r. ⌜ r ≡ isAmong (endsOf 3 (length (textAt (drop at (now (page .entry))))) (reading (textAt (drop at (now (page .entry)))))) i ⌝ }
 {
-    if i < 3 {
+    if i < page::HEAD {
         return false;
     }
     let mut ops = [0u32; ROOM];
-    ends_at(&page[at + 3..at + size - 1], i - 3, &mut ops)
+    ends_at(
+        &page[at + page::HEAD..at + size - 1],
+        i - page::HEAD,
+        &mut ops,
+    )
 }
 
 // Whether a position is a place of the page: it can be so only by the record that it lies in.

@@ -59,7 +59,7 @@ const STRING_END: u32 = nibl::CR as u32 * codes::CODES + codes::STRING_BYTE;
 const STEP_OF_ONE: u32 = codes::CODES + codes::CONSTANT;
 
 // The longest text: its counts fit into an operation.
-const LONGEST: usize = 65535;
+const LONGEST_TEXT: usize = 65535;
 
 fn wide(b: u8) -> u32
     ensures { λ r. ⌜ r ≡ b ⌝ }
@@ -555,7 +555,7 @@ pub fn clear(ops: &mut [u32])
 pub fn has_room(text: &[u8], ops: &[u32]) -> bool
     ensures { λ r. ⌜ r ≡ hasRoom (now (text .entry)) (now (ops .entry)) ⌝ }
 {
-    text.len() <= ops.len() && text.len() <= LONGEST
+    text.len() <= ops.len() && text.len() <= LONGEST_TEXT
 }
 
 // The first member of a text, with its operations from 0 on. Where it has no reading they are zeros.

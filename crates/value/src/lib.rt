@@ -15,12 +15,8 @@ const BY_ZERO: u8 = 13;
 // The first pattern that is negative.
 const NEGATIVE: u16 = 32768;
 
-// The bytes of a number: "0", "-" and a space.
-const ZERO: u16 = 48;
-
-const MINUS: u8 = 45;
-
-const SPACE: u8 = 32;
+// What a digit's byte is counted from.
+const ZERO: u16 = nibl::ZERO as u16;
 
 // A value, or the stop number of the refusal.
 pub enum Value {
@@ -184,7 +180,7 @@ fn put_digits(bytes: &mut [u8; 8], n: u16) -> usize
 pub fn write_digits(output: &mut [u8], at: usize, n: u16) -> Wrote
     ensures { λ r. ⌜ Writes (now (output .entry)) at (digits n) r (now (output .exit)) ⌝ }
 {
-    let mut bytes = [SPACE; 8];
+    let mut bytes = [nibl::SPACE; 8];
     let first = put_digits(&mut bytes, n);
     write_item(output, at, &bytes[first..7])
 }
@@ -194,16 +190,16 @@ fn sign_byte(v: u16) -> u8
     ensures { λ r. ⌜ r ≡ signByte v ⌝ }
 {
     if is_negative(v) {
-        return MINUS;
+        return nibl::MINUS;
     }
-    SPACE
+    nibl::SPACE
 }
 
 // A value as PRINT writes it: its sign, its digits and a space.
 pub fn write_number(output: &mut [u8], at: usize, v: u16) -> Wrote
     ensures { λ r. ⌜ Writes (now (output .entry)) at (printed v) r (now (output .exit)) ⌝ }
 {
-    let mut bytes = [SPACE; 8];
+    let mut bytes = [nibl::SPACE; 8];
     let sign = put_digits(&mut bytes, magnitude(v)) - 1;
     bytes[sign] = sign_byte(v);
     write_item(output, at, &bytes[sign..])

@@ -38,7 +38,7 @@ pub enum Word {
 const LARGEST: u32 = 32767;
 
 // The most letters that a keyword has.
-const LONGEST: usize = 6;
+const LONGEST_KEYWORD: usize = 6;
 
 // What a hex constant begins with.
 const HASH: u8 = 35;
@@ -183,7 +183,7 @@ fn letters(text: &[u8], from: usize, commands: bool) -> Word
     if n == 1 {
         return Word::Variable(text[from] - letter::A, Cursor { at: to });
     }
-    if LONGEST < n {
+    if LONGEST_KEYWORD < n {
         return Word::Wrong;
     }
     let k = number_of(key(text, from, to), commands);
@@ -197,7 +197,7 @@ fn digit(b: u8) -> u32
     requires { ⌜ isDigit b ≡ true ⌝ }
     ensures { λ r. ⌜ (r ≡ b - 48) × (r ≤ 9) ⌝ }
 {
-    (b - letter::ZERO) as u32
+    (b - nibl::ZERO) as u32
 }
 
 // The constant whose first digit stands at `from`. Once it is too large, more digits keep it so.
@@ -226,7 +226,7 @@ fn hex_digit(b: u8) -> u16
     ensures { λ r. ⌜ (r ≡ hexDigit b) × (r ≤ 15) ⌝ }
 {
     if letter::is_digit(b) {
-        return (b - letter::ZERO) as u16;
+        return (b - nibl::ZERO) as u16;
     }
     (b - letter::A + 10) as u16
 }

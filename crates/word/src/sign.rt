@@ -81,11 +81,11 @@ pub const PLUS: u8 = 43;
 
 pub const COMMA: u8 = 44;
 
-pub const MINUS: u8 = 45;
+pub const MINUS: u8 = nibl::MINUS;
 
 pub const DIVIDE: u8 = 47;
 
-pub const COLON: u8 = 58;
+pub const COLON: u8 = nibl::COLON;
 
 pub const SEMICOLON: u8 = 59;
 
