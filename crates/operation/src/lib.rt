@@ -209,7 +209,7 @@ pub fn values_first(
     values: &mut [u16],
 ) -> Reached
     requires { ⌜ (length (now ops) ≤ length (now values)) × (used (now page) < 65536) ⌝ }
-    ensures { λ r. ⌜ (reachedIn r (now (ops .entry)) (now (values .exit)) ≡ valuesFirst (sources (now (vars .entry)) flags sense (now (page .entry)) (now (memory .entry))) (drop from (now (ops .entry))) []) × (reachedHeight r ≤ reachedAt from r) × (from ≤ reachedAt from r) × (reachedTop r ≡ topIn (now (values .exit)) (reachedHeight r)) ⌝ }
+    ensures { λ r. ⌜ (reachedIn r (now (ops .entry)) (now (values .exit)) ≡ valuesFirst (sources (now (vars .entry)) flags sense (now (page .entry)) (now (memory .entry))) (drop from (now (ops .entry))) []) × (reachedHeight r ≤ reachedAt from r) × (from ≤ reachedAt from r) × (reachedTop r ≡ topIn (now (values .exit)) (reachedHeight r)) × (reachedAt from r ≤ from + (length (now (ops .entry)) - from)) ⌝ }
 {
     let mut height: usize = 0;
     let mut top: u16 = 0;

@@ -24,7 +24,7 @@ pub from-determined : (e : Env) (rest vs : List ℕ) (w : World) (d f : Did) (va
     → (d ≡ f) × (vars ≡ vars′) × (memory ≡ memory′) × (output ≡ output′)
 from-determined e rest vs w = effect-determined (runOps e rest w vs)
 
-pub plain-determined : (ops page : List ℕ) (sense flags : ℕ) (dos : PlaceStack) (fors : ForStack) (vars memory : List ℕ) (r s : Plain) (vars₁ vars₂ values₁ values₂ : List ℕ)
+pub plain-same : (ops page : List ℕ) (sense flags : ℕ) (dos : PlaceStack) (fors : ForStack) (vars memory : List ℕ) (r s : Plain) (vars₁ vars₂ values₁ values₂ : List ℕ)
     → RunsPlainly ops page sense flags dos fors vars memory r vars₁ values₁ → RunsPlainly ops page sense flags dos fors vars memory s vars₂ values₂
     → (a : Around) → plainIn (viewOf page sense flags dos fors memory) a r ops vars₁ values₁ ≡ plainIn (viewOf page sense flags dos fors memory) a s ops vars₂ values₂
-plain-determined ops page sense flags dos fors vars memory r s vars₁ vars₂ values₁ values₂ p q a = p .runs a ∙ sym (q .runs a)
+plain-same ops page sense flags dos fors vars memory r s vars₁ vars₂ values₁ values₂ p q a = p .runs a ∙ sym (q .runs a)
