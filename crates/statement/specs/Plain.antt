@@ -70,11 +70,12 @@ plainAt (plain.Loops c x) = 0
 plainAt (plain.Counts c v x y z) = 0
 plainAt (plain.Needs i n) = i
 
+-- What was done and what is left to do come to what the statement does, whatever is around. How much of it is done is not said.
 pub record RunsPlainly (ops page : List ℕ) (sense flags : ℕ) (dos : PlaceStack) (fors : ForStack) (vars memory : List ℕ) (r : Plain) (vars′ values′ : List ℕ) : Type 0 where
   pub runs : (a : Around) → (let s = viewOf page sense flags dos fors memory in plainIn s a r ops vars′ values′ ≡ runOps (envFrom s a) ops (worldFrom s a vars) [])
   pub within : plainHeight r ≤ plainAt r
 
--- what is left at an operation is what the list does from there on, in any world with a page as long as a call's
+-- what is left at an operation is what the list does from there on, in any world with a page of at most 65,535 bytes
 pub record LeftAt (ops values : List ℕ) (at height : ℕ) (r : Plain) : Type 0 where
   pub runs : (s : InView) (a : Around) (vars : List ℕ) → length (s .page) ≤ 65535
       → plainIn s a r ops vars values ≡ runOps (envFrom s a) (drop at ops) (worldFrom s a vars) (stackOf values height)
