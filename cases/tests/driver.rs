@@ -61,6 +61,47 @@ fn depths_of_all_64_bits_are_taken() {
 }
 
 #[test]
+fn cases_of_the_landed_item_alone_are_answered() {
+    let line = case(&mut Random::new(2), Size::Small).write();
+    let of = |upto: &str| line.replacen('{', &format!("{{\"upto\":{upto},"), 1);
+    let answered = by_library(&line);
+    assert!(answered.starts_with("{\"stop\":"), "{answered}");
+    assert_eq!(by_library(&of("1")), answered);
+    for item in (0..=13).filter(|&item| item != 1) {
+        assert_eq!(by_library(&of(&item.to_string())), SKIP, "{item}");
+    }
+    for upto in ["14", "-1", "null", "\"1\""] {
+        let outcome = by_library(&of(upto));
+        assert!(outcome.starts_with("{\"error\":"), "{upto}: {outcome}");
+    }
+}
+
+#[test]
+fn what_later_items_add_is_absent_or_null() {
+    let line = case(&mut Random::new(2), Size::Small).write();
+    for field in [
+        "table", "tables", "saved", "ranges", "form", "lists", "room",
+    ] {
+        let with = |value: &str| line.replacen('{', &format!("{{\"{field}\":{value},"), 1);
+        assert_eq!(by_library(&with("null")), by_library(&line), "{field}");
+        let outcome = by_library(&with("[]"));
+        assert!(outcome.starts_with("{\"error\":"), "{field}: {outcome}");
+    }
+    for call in ["save", "load", "to_keywords", "to_text", "prepare"] {
+        let outcome = by_library(&format!("{{\"call\":\"{call}\",\"page\":[255,255]}}"));
+        assert!(outcome.starts_with("{\"error\":"), "{call}: {outcome}");
+    }
+}
+
+#[test]
+fn what_a_case_need_not_say() {
+    let line = r#"{"call":"line","page":[255,255],"inp":"PRINTNOT0;\r","out":"...."}"#;
+    let outcome = by_library(line);
+    assert!(outcome.contains("\"out\":[45,49,32,46]"), "{outcome}");
+    assert_eq!(outcome, drive(line.as_bytes()));
+}
+
+#[test]
 fn what_is_no_case_is_answered_as_the_model_does() {
     for line in ["", "{}", "nothing", "{\"call\":\"line\"}"] {
         let outcome = by_library(line);

@@ -1,4 +1,8 @@
 //! One call of the controller as a line of JSON, and what it left.
+//!
+//! A case may say up to which of document 02's items the rules hold (`upto`).
+//! Only cases of the item that has landed are answered; what later items add
+//! to a case may be there as null.
 
 use std::fmt::Write as _;
 use std::io::{self, BufRead, Write};
@@ -6,6 +10,19 @@ use std::io::{self, BufRead, Write};
 use crate::calls::{continue_run, take_line, Answer, Lent};
 use crate::json::{parse, push_bytes, push_list, Json};
 use crate::record::{ForEntry, ForStack, Pause, Place, PlaceStack, Record};
+
+/// The last of document 02's items that is in force.
+const LANDED: u8 = 1;
+
+const ITEMS: u8 = 13;
+
+/// What later items add to a case, to a record and to an entry of its FOR
+/// stack.
+const LATER: [&str; 7] = [
+    "table", "tables", "saved", "ranges", "form", "lists", "room",
+];
+const LATER_IN_RECORD: [&str; 4] = ["page", "gosub_pages", "do_pages", "trace"];
+const LATER_IN_FOR: [&str; 1] = ["page"];
 
 #[derive(Clone, Copy, Debug, PartialEq, Eq)]
 pub enum Call {
@@ -31,7 +48,8 @@ pub struct Case {
 /// Why a line does not give a call.
 #[derive(Clone, Debug, PartialEq, Eq)]
 pub enum Unread {
-    /// It is a case, but it cannot be put into the record.
+    /// It is a case, but one of another item, or it cannot be put into the
+    /// record.
     Skip,
     Error(String),
 }
@@ -58,22 +76,25 @@ impl Case {
     }
 
     pub fn read(line: &[u8]) -> Reading<Case> {
-        const KEYS: [&str; 10] = [
-            "call", "page", "mem", "inp", "out", "inpos", "outpos", "budget", "sense", "rec",
+        const KEYS: [&str; 11] = [
+            "upto", "call", "page", "mem", "inp", "out", "inpos", "outpos", "budget", "sense",
+            "rec",
         ];
         let whole = parse(line).map_err(Unread::Error)?;
-        let [call, page, mem, inp, out, inpos, outpos, budget, sense, rec] = entries(&whole, KEYS)?;
+        check_item(&whole)?;
+        let [_, call, page, mem, inp, out, inpos, outpos, budget, sense, rec] =
+            entries(&whole, KEYS, &LATER)?;
         Ok(Case {
-            call: read_call(call)?,
-            page: read_bytes(page)?,
-            memory: read_bytes(mem)?,
-            input: read_bytes(inp)?,
-            output: read_bytes(out)?,
-            input_position: lent_number(inpos)?,
-            output_position: lent_number(outpos)?,
-            budget: lent_number(budget)?,
-            sense: lent_number(sense)?,
-            record: read_record(rec)?,
+            call: read_call(required(call, "call")?)?,
+            page: read_bytes(required(page, "page")?)?,
+            memory: or_default(mem, read_bytes)?,
+            input: or_default(inp, read_bytes)?,
+            output: or_default(out, read_bytes)?,
+            input_position: or_default(inpos, lent_number)?,
+            output_position: or_default(outpos, lent_number)?,
+            budget: or_default(budget, lent_number)?,
+            sense: or_default(sense, lent_number)?,
+            record: or_default(rec, read_record)?,
         })
     }
 
@@ -155,22 +176,65 @@ fn error<T>(what: impl Into<String>) -> Reading<T> {
     Err(Unread::Error(what.into()))
 }
 
-/// The values of exactly these keys, in this order of keys.
-fn entries<'a, const N: usize>(json: &'a Json, keys: [&str; N]) -> Reading<[&'a Json; N]> {
+/// Is the case one of the item that has landed? Of another one nothing else is
+/// looked at.
+fn check_item(case: &Json) -> Reading<()> {
+    let Json::Map(map) = case else {
+        return error("no map");
+    };
+    match map.iter().find(|(name, _)| name == "upto") {
+        None => Ok(()),
+        Some((_, upto)) => match lent_number::<u8>(upto)? {
+            LANDED => Ok(()),
+            0..=ITEMS => Err(Unread::Skip),
+            other => error(format!("no item {other}")),
+        },
+    }
+}
+
+/// The values of these keys, in this order of keys, where they are there. Of
+/// other keys, only those of later items may be there, as null.
+fn entries<'a, const N: usize>(
+    json: &'a Json,
+    keys: [&str; N],
+    later: &[&str],
+) -> Reading<[Option<&'a Json>; N]> {
     let Json::Map(map) = json else {
         return error(format!("no map with {keys:?}"));
     };
-    if map.len() != N {
-        return error(format!("not the {N} keys {keys:?}"));
-    }
-    let mut found = [json; N];
-    for (slot, key) in found.iter_mut().zip(keys) {
-        match map.iter().find(|(name, _)| name == key) {
-            Some((_, value)) => *slot = value,
-            None => return error(format!("no {key}")),
+    let mut found = [None; N];
+    for (name, value) in map {
+        match keys.iter().position(|key| key == name) {
+            Some(at) if found[at].is_none() => found[at] = Some(value),
+            Some(_) => return error(format!("{name:?} twice")),
+            None if !later.contains(&name.as_str()) => return error(format!("unknown {name:?}")),
+            None if *value != Json::Null => return error(format!("{name:?} is of a later item")),
+            None => {}
         }
     }
     Ok(found)
+}
+
+fn required<'a>(found: Option<&'a Json>, key: &str) -> Reading<&'a Json> {
+    found.ok_or_else(|| Unread::Error(format!("no {key}")))
+}
+
+/// The values of these keys, all of which are there.
+fn all_entries<'a, const N: usize>(
+    json: &'a Json,
+    keys: [&str; N],
+    later: &[&str],
+) -> Reading<[&'a Json; N]> {
+    let found = entries(json, keys, later)?;
+    let mut all = [json; N];
+    for ((slot, value), key) in all.iter_mut().zip(found).zip(keys) {
+        *slot = required(value, key)?;
+    }
+    Ok(all)
+}
+
+fn or_default<T: Default>(found: Option<&Json>, read: impl Fn(&Json) -> Reading<T>) -> Reading<T> {
+    found.map_or(Ok(T::default()), read)
 }
 
 /// The entries of a list of exactly this length.
@@ -212,16 +276,19 @@ fn read_call(json: &Json) -> Reading<Call> {
     }
 }
 
+/// A list of numbers, or a string of characters below 256.
 fn read_bytes(json: &Json) -> Reading<Vec<u8>> {
+    let byte = |character: char| u8::try_from(character).or_else(|_| error("no byte"));
     match json {
         Json::List(list) => list.iter().map(lent_number).collect(),
-        _ => error("no list of bytes"),
+        Json::Text(text) => text.chars().map(byte).collect(),
+        _ => error("no bytes"),
     }
 }
 
 fn read_record(json: &Json) -> Reading<Record> {
     let keys = ["vars", "flags", "gosub", "do", "for", "paused"];
-    let [variables, flags, gosubs, dos, fors, paused] = entries(json, keys)?;
+    let [variables, flags, gosubs, dos, fors, paused] = all_entries(json, keys, &LATER_IN_RECORD)?;
     Ok(Record {
         variables: fields(list(variables)?, field)?,
         flags: field(flags)?,
@@ -258,7 +325,8 @@ fn read_places(json: &Json) -> Reading<PlaceStack> {
 fn read_fors(json: &Json) -> Reading<ForStack> {
     let [depth, slots] = list(json)?;
     let read_entry = |json: &Json| {
-        let [variable, limit, step, place] = entries(json, ["var", "limit", "step", "place"])?;
+        let keys = ["var", "limit", "step", "place"];
+        let [variable, limit, step, place] = all_entries(json, keys, &LATER_IN_FOR)?;
         Ok(ForEntry {
             variable: field(variable)?,
             limit: field(limit)?,

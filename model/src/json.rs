@@ -103,24 +103,54 @@ impl Parser<'_> {
         Ok(Json::Number(if negative { -value } else { value }))
     }
 
-    /// Keys and calls are plain: an escape is no part of any case.
     fn string(&mut self) -> Result<String, String> {
         self.expect(b'"')?;
-        let start = self.position;
-        while let Some(byte) = self.peek() {
+        let mut bytes = Vec::new();
+        loop {
+            let byte = self.peek();
+            self.position += 1;
             match byte {
-                b'"' => break,
-                b'\\' | 0..=31 | 127.. => return Err(self.complaint("no plain string")),
-                _ => self.position += 1,
+                Some(b'"') => break,
+                Some(b'\\') => self.escape(&mut bytes)?,
+                Some(byte @ 32..) => bytes.push(byte),
+                _ => return Err(self.complaint("no end of the string")),
             }
         }
-        let text = self.text[start..self.position]
-            .iter()
-            .copied()
-            .map(char::from);
-        let text = text.collect();
-        self.expect(b'"')?;
-        Ok(text)
+        String::from_utf8(bytes).map_err(|_| self.complaint("no UTF-8"))
+    }
+
+    /// What stands behind a backslash.
+    fn escape(&mut self, bytes: &mut Vec<u8>) -> Result<(), String> {
+        let kind = self.peek();
+        self.position += 1;
+        let plain = match kind {
+            Some(byte @ (b'"' | b'\\' | b'/')) => byte,
+            Some(b'b') => 8,
+            Some(b'f') => 12,
+            Some(b'n') => b'\n',
+            Some(b'r') => b'\r',
+            Some(b't') => b'\t',
+            Some(b'u') => return self.character(bytes),
+            _ => return Err(self.complaint("no escape")),
+        };
+        bytes.push(plain);
+        Ok(())
+    }
+
+    /// Four hex digits: a character that is no half of a pair, as all below 256.
+    fn character(&mut self, bytes: &mut Vec<u8>) -> Result<(), String> {
+        let digits = self.text.get(self.position..self.position + 4);
+        let digits = digits.filter(|digits| digits.iter().all(u8::is_ascii_hexdigit));
+        let number = digits.and_then(|digits| std::str::from_utf8(digits).ok());
+        let number = number.and_then(|digits| u32::from_str_radix(digits, 16).ok());
+        match number.and_then(char::from_u32) {
+            None => Err(self.complaint("no character")),
+            Some(character) => {
+                self.position += 4;
+                bytes.extend(character.encode_utf8(&mut [0; 4]).bytes());
+                Ok(())
+            }
+        }
     }
 
     fn list(&mut self, depth: usize) -> Result<Json, String> {

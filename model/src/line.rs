@@ -79,14 +79,13 @@ enum Front {
     Other,
 }
 
+/// No command begins another, so one that begins the text is the longest.
 fn command(text: &[u8]) -> Front {
-    let end = run_end(text, 0, |byte| byte.is_ascii_uppercase());
-    let rest = &text[end..];
-    let command = match &text[..end] {
-        b"NEW" => alone(Command::New, rest),
-        b"CLEAR" => alone(Command::Clear, rest),
-        b"RUN" => alone(Command::Run, rest),
-        b"LIST" => list(rest),
+    let command = match text {
+        [b'N', b'E', b'W', rest @ ..] => alone(Command::New, rest),
+        [b'C', b'L', b'E', b'A', b'R', rest @ ..] => alone(Command::Clear, rest),
+        [b'R', b'U', b'N', rest @ ..] => alone(Command::Run, rest),
+        [b'L', b'I', b'S', b'T', rest @ ..] => list(rest),
         _ => return Front::Other,
     };
     command.map_or(Front::Spoilt, Front::Command)

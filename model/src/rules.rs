@@ -13,6 +13,16 @@ pub const RULES: [&str; 6] = [
     " $600=\"WAIT: FULL\": IF A<>#1F STAT=STAT OR 4",
 ];
 
+/// The same with their words written together.
+pub const TOGETHER: [&str; 6] = [
+    "A=A+1",
+    "IF@(C+2)>M-5THENGOSUB900:GOTO40",
+    "FORI=1TO8:T=T+@(I*2):NEXTI",
+    "PRINT\"COW\",C,\" GATE \",STATAND3;:REMOPEN: SHUT",
+    "DO:N=N+2:UNTIL(MOD(I,N)=0)OR(N>J)",
+    "$600=\"WAIT: FULL\":IFA<>#1FSTAT=STATOR4",
+];
+
 pub fn empty_page(length: usize) -> Vec<u8> {
     let mut page = vec![0; length];
     page[..2].copy_from_slice(&END_MARK);

@@ -96,13 +96,19 @@ impl<'a> Words<'a> {
         (start, word)
     }
 
+    /// The longest keyword that begins here, or else a variable, if no letter
+    /// follows. A letter that one follows is no variable, also where a keyword
+    /// begins behind it.
     fn capitals(&self, start: usize) -> (usize, Word) {
-        let end = run_end(self.text, start, |byte| byte.is_ascii_uppercase());
-        let word = match &self.text[start..end] {
-            [letter] => Word::Variable(letter - b'A'),
-            run => keyword(run).map_or(Word::Nothing, Word::Keyword),
-        };
-        (end, word)
+        let rest = &self.text[start..];
+        match rest.get(1) {
+            Some(next) if next.is_ascii_uppercase() => match keyword(rest) {
+                Some((spelling, keyword)) => (start + spelling.len(), Word::Keyword(keyword)),
+                None => (start + 1, Word::Nothing),
+            },
+            // No keyword is a single letter.
+            _ => (start + 1, Word::Variable(rest[0] - b'A')),
+        }
     }
 
     fn decimal(&self, start: usize) -> (usize, Word) {
@@ -175,33 +181,45 @@ fn hex_digit(byte: u8) -> Option<u16> {
     }
 }
 
-fn keyword(run: &[u8]) -> Option<Keyword> {
-    Some(match run {
-        b"LET" => Keyword::Let,
-        b"GO" => Keyword::Go,
-        b"TO" => Keyword::To,
-        b"SUB" => Keyword::Sub,
-        b"GOTO" => Keyword::Goto,
-        b"GOSUB" => Keyword::Gosub,
-        b"RETURN" => Keyword::Return,
-        b"PR" => Keyword::Pr,
-        b"PRINT" => Keyword::Print,
-        b"IF" => Keyword::If,
-        b"THEN" => Keyword::Then,
-        b"DO" => Keyword::Do,
-        b"UNTIL" => Keyword::Until,
-        b"FOR" => Keyword::For,
-        b"STEP" => Keyword::Step,
-        b"NEXT" => Keyword::Next,
-        b"INPUT" => Keyword::Input,
-        b"REM" => Keyword::Rem,
-        b"END" => Keyword::End,
-        b"STAT" => Keyword::Stat,
-        b"TOP" => Keyword::Top,
-        b"MOD" => Keyword::Mod,
-        b"AND" => Keyword::And,
-        b"OR" => Keyword::Or,
-        b"NOT" => Keyword::Not,
-        _ => return None,
-    })
+type Spelt = (&'static [u8], Keyword);
+
+/// The longest keyword that a text begins with. The text is not empty.
+fn keyword(text: &[u8]) -> Option<Spelt> {
+    let mut spelt = keywords_from(text[0]).iter();
+    spelt.find(|(word, _)| text.starts_with(word)).copied()
+}
+
+/// The keywords that begin with a letter. Where one of them begins another,
+/// the longer stands first.
+fn keywords_from(letter: u8) -> &'static [Spelt] {
+    match letter {
+        b'A' => &[(b"AND", Keyword::And)],
+        b'D' => &[(b"DO", Keyword::Do)],
+        b'E' => &[(b"END", Keyword::End)],
+        b'F' => &[(b"FOR", Keyword::For)],
+        b'G' => &[
+            (b"GOSUB", Keyword::Gosub),
+            (b"GOTO", Keyword::Goto),
+            (b"GO", Keyword::Go),
+        ],
+        b'I' => &[(b"IF", Keyword::If), (b"INPUT", Keyword::Input)],
+        b'L' => &[(b"LET", Keyword::Let)],
+        b'M' => &[(b"MOD", Keyword::Mod)],
+        b'N' => &[(b"NEXT", Keyword::Next), (b"NOT", Keyword::Not)],
+        b'O' => &[(b"OR", Keyword::Or)],
+        b'P' => &[(b"PRINT", Keyword::Print), (b"PR", Keyword::Pr)],
+        b'R' => &[(b"RETURN", Keyword::Return), (b"REM", Keyword::Rem)],
+        b'S' => &[
+            (b"STAT", Keyword::Stat),
+            (b"STEP", Keyword::Step),
+            (b"SUB", Keyword::Sub),
+        ],
+        b'T' => &[
+            (b"THEN", Keyword::Then),
+            (b"TOP", Keyword::Top),
+            (b"TO", Keyword::To),
+        ],
+        b'U' => &[(b"UNTIL", Keyword::Until)],
+        _ => &[],
+    }
 }

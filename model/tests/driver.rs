@@ -3,7 +3,7 @@
 use std::io::Write;
 use std::process::{Command, Stdio};
 
-use model::case::{drive, Call, Case};
+use model::case::{drive, Call, Case, Unread};
 use model::{Pause, Place, Record};
 
 const CASE: &str = concat!(
@@ -23,6 +23,8 @@ const OUTCOME: &str = concat!(
     r#"{"var":0,"limit":0,"step":0,"place":0},{"var":0,"limit":0,"step":0,"place":0}]],"#,
     r#""paused":null}}"#
 );
+
+const SKIP: &str = "{\"skip\":true}";
 
 #[test]
 fn a_case_and_its_outcome() {
@@ -81,7 +83,7 @@ fn numbers_too_wide_for_the_record_are_skipped() {
     ];
     for (fits, too_wide) in wide {
         let case = CASE.replace(fits, too_wide);
-        assert_eq!(drive(case.as_bytes()), "{\"skip\":true}", "{too_wide}");
+        assert_eq!(drive(case.as_bytes()), SKIP, "{too_wide}");
     }
 }
 
@@ -137,6 +139,122 @@ fn what_is_no_case() {
     }
     assert!(drive(b"{\"\xff\":1}").starts_with("{\"error\":"));
     assert_eq!(drive(b"{"), r#"{"error":"no '\"' at byte 1"}"#);
+}
+
+/// The case with a field more, before its own.
+fn with(field: &str) -> String {
+    CASE.replacen('{', &format!("{{{field},"), 1)
+}
+
+#[test]
+fn the_item_of_a_case() {
+    assert_eq!(drive(with("\"upto\":1").as_bytes()), OUTCOME);
+    for item in (0..=13).filter(|&item| item != 1) {
+        let case = with(&format!("\"upto\":{item}"));
+        assert_eq!(drive(case.as_bytes()), SKIP, "{item}");
+        let other = format!("{{\"call\":\"save\",\"saved\":[1],\"upto\":{item}}}");
+        assert_eq!(drive(other.as_bytes()), SKIP, "{item}");
+    }
+    for upto in [
+        "14", "-1", "256", "257", "1.0", "null", "true", "[1]", "{}", "\"1\"",
+    ] {
+        let answer = drive(with(&format!("\"upto\":{upto}")).as_bytes());
+        assert!(answer.starts_with("{\"error\":"), "{upto}: {answer}");
+    }
+    let twice = drive(with("\"upto\":1,\"upto\":1").as_bytes());
+    assert_eq!(twice, r#"{"error":"\"upto\" twice"}"#);
+}
+
+#[test]
+fn what_later_items_add_is_absent_or_null() {
+    for (field, value) in [
+        ("table", "[0]"),
+        ("tables", "[]"),
+        ("saved", "[]"),
+        ("ranges", "{}"),
+        ("form", "\"text\""),
+        ("lists", "[]"),
+        ("room", "0"),
+    ] {
+        for front in ["", "\"upto\":1,"] {
+            let case = with(&format!("{front}\"{field}\":null"));
+            assert_eq!(drive(case.as_bytes()), OUTCOME, "{field}");
+            let answer = drive(with(&format!("{front}\"{field}\":{value}")).as_bytes());
+            assert!(answer.starts_with("{\"error\":"), "{field}: {answer}");
+        }
+    }
+    let inner = [
+        ("\"flags\":3", "page", "1"),
+        ("\"flags\":3", "gosub_pages", "[0,0,0,0,0,0,0,0]"),
+        ("\"flags\":3", "do_pages", "[]"),
+        ("\"flags\":3", "trace", "[0,[]]"),
+        ("\"var\":1", "page", "0"),
+    ];
+    for (part, field, value) in inner {
+        let case = CASE.replace(part, &format!("{part},\"{field}\":null"));
+        assert_eq!(drive(case.as_bytes()), OUTCOME, "{field}");
+        let case = CASE.replace(part, &format!("{part},\"{field}\":{value}"));
+        assert!(drive(case.as_bytes()).starts_with("{\"error\":"), "{field}");
+    }
+    for call in ["save", "load", "to_keywords", "to_text", "prepare"] {
+        let case = CASE.replace("\"call\":\"line\"", &format!("\"call\":\"{call}\""));
+        assert!(drive(case.as_bytes()).starts_with("{\"error\":"), "{call}");
+    }
+    for field in [
+        "\"other\":null",
+        "\"saved\":null,\"trace\":null",
+        "\"\\n\\\"\":null",
+    ] {
+        let answer = drive(with(field).as_bytes());
+        assert!(answer.starts_with("{\"error\":\"unknown "), "{answer}");
+    }
+}
+
+#[test]
+fn what_a_case_need_not_say() {
+    let case = Case::read(br#"{"call":"continue","page":[255,255]}"#).expect("a case");
+    assert_eq!(case.call, Call::Continue);
+    assert_eq!(case.page, [255, 255]);
+    assert!(case.memory.is_empty() && case.input.is_empty() && case.output.is_empty());
+    assert_eq!((case.input_position, case.output_position), (0, 0));
+    assert_eq!((case.budget, case.sense), (0, 0));
+    assert_eq!(case.record, Record::default());
+    for line in [r#"{"call":"line"}"#, r#"{"page":[255,255]}"#] {
+        assert!(drive(line.as_bytes()).starts_with("{\"error\":\"no "));
+    }
+}
+
+#[test]
+fn bytes_may_be_a_string() {
+    let bytes = |text: &str| {
+        let line = format!("{{\"call\":\"line\",\"page\":\"\",\"inp\":{text}}}");
+        Case::read(line.as_bytes()).map(|case| case.input)
+    };
+    assert_eq!(bytes(r#""""#), Ok(vec![]));
+    assert_eq!(bytes(r#""PR 1\r\u000d""#), Ok(b"PR 1\r\r".to_vec()));
+    assert_eq!(
+        bytes(r#""\"\\\/\b\f\n\t""#),
+        Ok(b"\"\\/\x08\x0c\n\t".to_vec())
+    );
+    assert_eq!(
+        bytes("\"\u{ff}\\u00ff\\u00FE~\u{7f}\""),
+        Ok(vec![255, 255, 254, 126, 127])
+    );
+    for text in [
+        r#""\u0100""#,
+        "\"\u{100}\"",
+        r#""\ud800""#,
+        r#""\u00f""#,
+        r#""\u+0ff""#,
+        r#""\x41""#,
+        r#""\"#,
+        "\"\t\"",
+        "\"A",
+    ] {
+        assert!(matches!(bytes(text), Err(Unread::Error(_))), "{text}");
+    }
+    let typed = CASE.replace("[80,82,32,49,59,13]", "\"PR 1;\\r\"");
+    assert_eq!(drive(typed.as_bytes()), OUTCOME);
 }
 
 #[test]

@@ -258,9 +258,9 @@ fn nothing_is_split_again() {
             "PRINT #5AND 3",
             "PRINT #",
             "PRINT # 5",
-            "PRINTA",
-            "REMARK",
-            "GOTOX",
+            "FOR I=1TOP",
+            "GO TOP",
+            "PRIN",
         ],
     );
     assert_eq!(fresh_out("PRINT #1FOR 2"), " 31 ");

@@ -352,6 +352,7 @@ list-gathered rest =
     letters.typed limit (bytes "LIST") rest (plain.each refl (plain.each refl (plain.each refl (plain.each refl plain.none)))) (omega arith)
 
 pub list-read : LineReading (bytes "LIST") (list 0)
+unfolding words.noneOver
 list-read =
-    aList (words.letters {cs = 83 ∷ 84 ∷ []} {s = []}
-    (record { some = refl; each = plain.each refl (plain.each refl (plain.each refl (plain.each refl plain.none))); longest = refl }) refl) plain.none
+    aList (words.keyword {cs = 83 ∷ 84 ∷ []} {s = []}
+    (record { each = plain.each refl (plain.each refl (plain.each refl (plain.each refl plain.none))); spelled = refl; longest = refl })) plain.none

@@ -37,50 +37,71 @@ pub data Boundary (page : List ℕ) : ℕ → Type 0 where
   start : Boundary page 0
   behind : {at n : ℕ} {t : List ℕ} → Boundary page at → RecordAt page at n t → Boundary page (at + (length t + 4))
 
--- "Text bytes are 32 to 126 without 95; the text has a reading as a statement list; its first byte is no digit; its length plus the number's decimal digits is at
--- most" lim
-pub record GoodText (lim n : ℕ) (t : List ℕ) : Type 0 where
-  pub members : List Member
-  pub reads : ListReading t members
-  pub text : All isText t
-  pub undigit : starts isDigit t ≡ false
-  pub short : length t + length (digits n) ≤ lim
-
--- "Records in strictly rising line number, then two bytes 255", from a position on, of numbers from low on. "The first 255,255 met at a record boundary ends the
--- program, and bytes after it are not looked at"
-pub data GoodFrom (lim : ℕ) (page : List ℕ) : ℕ → ℕ → Type 0 where
-  ends : {low at : ℕ} → EndMark page at → GoodFrom lim page low at
-  goesOn : {low at n : ℕ} {t : List ℕ} → low ≤ n → RecordAt page at n t → GoodText lim n t → GoodFrom lim page (suc n) (at + (length t + 4)) → GoodFrom lim page low at
-
-abbrev pub GoodPage : ℕ → List ℕ → Type 0
-GoodPage lim page = GoodFrom lim page 0 0
-
 -- the position of the ":" that ends a member of the text of a record, or of the record's CR, where the record stands at `at`
 abbrev pub placeOf : ℕ → List ℕ → Member → ℕ
 placeOf at t m = at + 3 + (length t - m .left)
 
--- "A place is the position in the page of the ':' that ends a statement or of a record's CR"
-pub data IsPlace (page : List ℕ) : ℕ → Type 0 where
-  endsMember : {at n : ℕ} {t : List ℕ} {ms : List Member} {m : Member} → Boundary page at → RecordAt page at n t → ListReading t ms → In m ms
-      → IsPlace page (placeOf at t m)
+-- over any reading of a text as a statement list
+module _ (R : List ℕ → List Member → Type 0) where
+  -- "Text bytes are 32 to 126 without 95; the text has a reading as a statement list; its first byte is no digit; its length plus the number's decimal digits is at
+  -- most" lim
+  pub record GoodTextBy (lim n : ℕ) (t : List ℕ) : Type 0 where
+    pub members : List Member
+    pub reads : R t members
+    pub text : All isText t
+    pub undigit : starts isDigit t ≡ false
+    pub short : length t + length (digits n) ≤ lim
 
--- "the paused place, if any, is such a position or the program's start": the run goes on there
-pub data PauseFits (page : List ℕ) : ℕ → Type 0 where
-  nothingPaused : PauseFits page nowhere
-  atStart : PauseFits page (pausedAt 0)
-  afterPlace : {p : ℕ} → IsPlace page p → PauseFits page (pausedAt (suc p))
+  -- "Records in strictly rising line number, then two bytes 255", from a position on, of numbers from low on. "The first 255,255 met at a record boundary ends the
+  -- program, and bytes after it are not looked at"
+  pub data GoodFromBy (lim : ℕ) (page : List ℕ) : ℕ → ℕ → Type 0 where
+    ends : {low at : ℕ} → EndMark page at → GoodFromBy lim page low at
+    goesOn : {low at n : ℕ} {t : List ℕ} → low ≤ n → RecordAt page at n t → GoodTextBy lim n t → GoodFromBy lim page (suc n) (at + (length t + 4)) → GoodFromBy lim page low at
 
--- "A session record fits a page when each stack is within its depth and every saved place is such a position or the immediate mark (GOSUB stack only), each FOR
--- entry names one of the 26 variables, the flags use bits 0 to 2 only", and the pause
-pub record Fits (page : List ℕ) (s : Session) : Type 0 where
-  pub gosubsDeep : s .gosubs .depth ≤ 8
-  pub dosDeep : s .dos .depth ≤ 8
-  pub forsDeep : s .fors .depth ≤ 4
-  pub gosubs : (p : Place) → In p (take (s .gosubs .depth) (s .gosubs .places)) → IsPlace page (p .0) ⊎ (p .0 ≡ mark)
-  pub dos : (p : Place) → In p (take (s .dos .depth) (s .dos .places)) → IsPlace page (p .0)
-  pub fors : (f : ForEntry) → In f (take (s .fors .depth) (s .fors .entries)) → (f .var < 26) × IsPlace page (f .place .0)
-  pub flags : s .flags < 8
-  pub paused : PauseFits page (s .paused)
+  abbrev pub GoodPageBy : ℕ → List ℕ → Type 0
+  GoodPageBy lim page = GoodFromBy lim page 0 0
+
+  -- "A place is the position in the page of the ':' that ends a statement or of a record's CR"
+  pub data IsPlaceBy (page : List ℕ) : ℕ → Type 0 where
+    endsMember : {at n : ℕ} {t : List ℕ} {ms : List Member} {m : Member} → Boundary page at → RecordAt page at n t → R t ms → In m ms
+        → IsPlaceBy page (placeOf at t m)
+
+  -- "the paused place, if any, is such a position or the program's start": the run goes on there
+  pub data PauseFitsBy (page : List ℕ) : ℕ → Type 0 where
+    nothingPaused : PauseFitsBy page nowhere
+    atStart : PauseFitsBy page (pausedAt 0)
+    afterPlace : {p : ℕ} → IsPlaceBy page p → PauseFitsBy page (pausedAt (suc p))
+
+  -- "A session record fits a page when each stack is within its depth and every saved place is such a position or the immediate mark (GOSUB stack only), each FOR
+  -- entry names one of the 26 variables, the flags use bits 0 to 2 only", and the pause
+  pub record FitsBy (page : List ℕ) (s : Session) : Type 0 where
+    pub gosubsDeep : s .gosubs .depth ≤ 8
+    pub dosDeep : s .dos .depth ≤ 8
+    pub forsDeep : s .fors .depth ≤ 4
+    pub gosubs : (p : Place) → In p (take (s .gosubs .depth) (s .gosubs .places)) → IsPlaceBy page (p .0) ⊎ (p .0 ≡ mark)
+    pub dos : (p : Place) → In p (take (s .dos .depth) (s .dos .places)) → IsPlaceBy page (p .0)
+    pub fors : (f : ForEntry) → In f (take (s .fors .depth) (s .fors .entries)) → (f .var < 26) × IsPlaceBy page (f .place .0)
+    pub flags : s .flags < 8
+    pub paused : PauseFitsBy page (s .paused)
+
+-- by the grammar
+abbrev pub GoodText : ℕ → ℕ → List ℕ → Type 0
+GoodText = GoodTextBy ListReading
+
+abbrev pub GoodFrom : ℕ → List ℕ → ℕ → ℕ → Type 0
+GoodFrom = GoodFromBy ListReading
+
+abbrev pub GoodPage : ℕ → List ℕ → Type 0
+GoodPage = GoodPageBy ListReading
+
+abbrev pub IsPlace : List ℕ → ℕ → Type 0
+IsPlace = IsPlaceBy ListReading
+
+abbrev pub PauseFits : List ℕ → ℕ → Type 0
+PauseFits = PauseFitsBy ListReading
+
+abbrev pub Fits : List ℕ → Session → Type 0
+Fits = FitsBy ListReading
 
 -- what a call is lent that is past its first refusals, 1, 18 and 19
 pub record Unrefused (lim : ℕ) (x : Lent) : Type 0 where

@@ -7,7 +7,7 @@ use native.Mathlib.Omega.{arith}
 use borrow.Author.Tests.{leb-true}
 use lib.ListN.{length, length-append, length-map}
 use lib.Dec.{leb}
-use Rattle.nibl.specs.Words.{Token, string, sign, Word, spaced, letter, letters, decimalDigits, hexDigits, quoted, pair, symbol, firstKeyword}
+use Rattle.nibl.specs.Words.{Token, string, sign, Word, spaced, keyword, letter, decimalDigits, hexDigits, quoted, pair, symbol, firstKeyword}
 use Rattle.nibl.specs.Grammar.{Joints, Joint, joint, Factor, aVariable, aConstant, aHex, aStat, aTop, inBrackets, aByte, aNot, aMod, Term, aFactor, factors, Sum, aTerm, lessTerm, terms, Relation, aSum, related}
 use Rattle.nibl.specs.Grammar.{Either, whole, parted, PrintWord, shortPrint, longPrint, AnItem, aString, aStored, aValue, Items, oneItem, moreItems, LastSemicolon, noSemicolon, aSemicolon, AStep, noStep, someStep, Variables, oneVariable, moreVariables}
 use Rattle.nibl.specs.Grammar.{Statement, aLetVar, aLetStat, aLetByte, aLetText, aLetCopy, aGoto, aGosub, aReturn, aPrint, anIf, aDo, anUntil, aFor, aNext, anInput, anInputText, aRemark, anEnd}
@@ -27,7 +27,7 @@ use Rattle.reader.specs.Code.{texts, itemCode, itemsCode, endCode, compile}
 keyword-short : {table : List (List ℕ)} {s t : List ℕ} {w : Token} {k : ℕ} → Word table s w t → w ≡ sign k → firstKeyword ≤ k → 2 + length t ≤ length s
 keyword-short (spaced w) e h = let i = keyword-short w e h in omega arith
 keyword-short (letter r) e h = let z : _≡_ {A = ℕ} 0 1 = cc in absurd (omega arith)
-keyword-short (letters {cs} {s} r i) e h = omega (arith, length-append cs s)
+keyword-short (keyword {cs} {s} r) e h = omega (arith, length-append cs s)
 keyword-short (decimalDigits r l) e h = let z : _≡_ {A = ℕ} 0 1 = cc in absurd (omega arith)
 keyword-short (hexDigits r) e h = let z : _≡_ {A = ℕ} 0 1 = cc in absurd (omega arith)
 keyword-short (quoted a) e h = let z : _≡_ {A = ℕ} 0 1 = cc in absurd (omega arith)
@@ -37,7 +37,7 @@ keyword-short {k} (symbol {b} i n) e h = let d : b ≡ k = cc in absurd (omega (
 string-short : {table : List (List ℕ)} {s t bs : List ℕ} {w : Token} → Word table s w t → w ≡ string bs → 2 + (length bs + length t) ≤ length s
 string-short (spaced w) e = let i = string-short w e in omega arith
 string-short (letter r) e = let z : _≡_ {A = ℕ} 0 1 = cc in absurd (omega arith)
-string-short (letters r i) e = let z : _≡_ {A = ℕ} 0 1 = cc in absurd (omega arith)
+string-short (keyword r) e = let z : _≡_ {A = ℕ} 0 1 = cc in absurd (omega arith)
 string-short (decimalDigits r l) e = let z : _≡_ {A = ℕ} 0 1 = cc in absurd (omega arith)
 string-short (hexDigits r) e = let z : _≡_ {A = ℕ} 0 1 = cc in absurd (omega arith)
 string-short {bs} (quoted {bs = cs} {s} a) e = let d : cs ≡ bs = cc in rw (← d) (omega (arith, length-append cs (34 ∷ s)))

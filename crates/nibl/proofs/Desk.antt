@@ -1,7 +1,7 @@
 -- The desk's starred table, by computation. Assumes nothing.
 use mathlib.Core.Path.{_≡_, refl}
 use mathlib.Core.List.{List, map}
-use Rattle.nibl.specs.Read.{stepIn, wordStep, _>>=_, aVariable, aDecimal, aString, aSign, ifKey, aJoint, part, readN, read, anItem, joinedN, joined, aStatement, statementN, statement, member, membersN, reading, replied, typed}
+use Rattle.nibl.specs.Read.{lettersStep, wordStep, stepIn, _>>=_, aVariable, aDecimal, aString, aSign, ifKey, aJoint, part, readN, read, anItem, joinedN, joined, aStatement, statementN, statement, member, membersN, reading, replied, typed}
 use Rattle.nibl.specs.Values.{mod16, apply, digits, printed}
 use Rattle.nibl.specs.Typing.{keep, gatherFrom, gather}
 use Rattle.nibl.specs.Page.{isStorable, isRecord, goodN, isGood, recordsN, recordsOf, used, find, lineOf, placesOf, fits}
@@ -10,5 +10,5 @@ use Rattle.nibl.specs.Calls.{textFrom, runFrom, firstRefusal, edited, li
 use Rattle.nibl.specs.Desk.{Row, Seen, desk, typeAll}
 
 pub desk-holds : map (λ (r : Row). typeAll (r .memory) (r .lines)) desk ≡ map (λ (r : Row). r .seen) desk
-unfolding stepIn wordStep _>>=_ aVariable aDecimal aString aSign ifKey aJoint part readN read anItem joinedN joined aStatement statementN statement member membersN reading replied typed mod16 apply digits printed keep gatherFrom gather isStorable isRecord goodN isGood recordsN recordsOf used find lineOf placesOf fits byteOf stringAt storeAt eval put putItem putItems keepIn gosubTo returnBy doHere untilBy forHere nextBy gathered asked assign exec textFrom runFrom firstRefusal edited listFrom obey takeLineIn takeLine
+unfolding lettersStep wordStep stepIn _>>=_ aVariable aDecimal aString aSign ifKey aJoint part readN read anItem joinedN joined aStatement statementN statement member membersN reading replied typed mod16 apply digits printed keep gatherFrom gather isStorable isRecord goodN isGood recordsN recordsOf used find lineOf placesOf fits byteOf stringAt storeAt eval put putItem putItems keepIn gosubTo returnBy doHere untilBy forHere nextBy gathered asked assign exec textFrom runFrom firstRefusal edited listFrom obey takeLineIn takeLine
 desk-holds = refl

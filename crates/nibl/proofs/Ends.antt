@@ -11,11 +11,12 @@ use lib.ListN.{length, take, drop, getD, length-append, length-drop}
 use lib.Seq.{take-at, getD-drop}
 use lib.Dec.{leb, eqb}
 use Rattle.nibl.specs.Bytes.{if_then_else_, isSpace, isDigit, isText, isQuotable, notCR, All, none as done, each, starts, past}
-use Rattle.nibl.specs.Words.{Token, string, sign, Word, spaced, letter, letters, decimalDigits, hexDigits, quoted, pair, symbol}
+use Rattle.nibl.specs.Words.{Token, string, sign, Word, spaced, keyword, letter, decimalDigits, hexDigits, quoted, pair, symbol}
 use Rattle.nibl.specs.Grammar.{Key, Statement, anIf, aRemark, Members, lastMember, moreMembers, Line, aBlank, aDelete, aStore, aNew, aClear, aRun, aList, aListFrom, anImmediate}
 use Rattle.nibl.specs.Tree.{Expr, Stmt, remark, ifThen, Member, Typed, store}
 use Rattle.nibl.specs.Read.{found, member, reading}
-use Rattle.nibl.proofs.Words.{and-left, and-right, of-pairs, no-symbol, capital-other, place-least, word-unique, decimal-small}
+use Rattle.nibl.proofs.Keywords.{first-of, place-least}
+use Rattle.nibl.proofs.Words.{and-left, and-right, of-pairs, no-symbol, capital-other, word-unique, decimal-small}
 use Rattle.nibl.proofs.Over.{Outside, here, byte, inQuotes, outside-trans, outside-passed, outside-length, Passed, passed-trans, passed-text, passed-drop, passed-rest, text-passed, word-over, word-rest}
 use Rattle.nibl.proofs.Rules.{W, it, ok-found}
 use Rattle.nibl.proofs.Statements.{Left, outside, taken, statement-left, left-passed}
@@ -69,7 +70,7 @@ past-first b s e h = rw e h
 undigit : {table : List (List ℕ)} {s t : List ℕ} {w : Token} → Word table s w t → isDecimal w ≡ false → starts isDigit (past isSpace s) ≡ false
 undigit (spaced w) h = undigit w h
 undigit (letter {c} {s} r) h = let o = capital-other c (r .some) in past-first c s (o .0) (o .1)
-undigit (letters {c} {d} {cs} {s} r e) h = let o = capital-other c (r .some) in past-first c (d ∷ cs ++ s) (o .0) (o .1)
+undigit (keyword {c} {d} {cs} {s} r) h = let o = capital-other c (first-of (r .each)) in past-first c (d ∷ cs ++ s) (o .0) (o .1)
 undigit (decimalDigits r l) h = absurd (false≢true (sym h))
 undigit (hexDigits r) h = refl
 undigit (quoted a) h = refl
@@ -100,7 +101,7 @@ members-first {s} ms = first-undigit s (members-undigit ms)
 colon : {table : List (List ℕ)} {t u : List ℕ} {w : Token} → Word table t w u → w ≡ sign 58 → Outside t (58 ∷ u)
 colon (spaced w) e = byte refl (colon w e)
 colon (letter r) e = let z : _≡_ {A = ℕ} 0 1 = cc in absurd (omega arith)
-colon {table} (letters {c} {d} {k} {cs} r h) e = let i : k ≡ 58 = cc in absurd (omega (arith, place-least 128 table (c ∷ d ∷ cs) k h))
+colon {table} (keyword {c} {d} {k} {cs} r) e = let i : k ≡ 58 = cc in absurd (omega (arith, place-least 128 table (c ∷ d ∷ cs) k (r .spelled)))
 colon (decimalDigits r l) e = let z : _≡_ {A = ℕ} 0 1 = cc in absurd (omega arith)
 colon (hexDigits r) e = let z : _≡_ {A = ℕ} 0 1 = cc in absurd (omega arith)
 colon (quoted a) e = let z : _≡_ {A = ℕ} 0 1 = cc in absurd (omega arith)

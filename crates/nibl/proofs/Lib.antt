@@ -1,6 +1,8 @@
 pub mod Determined
 pub mod Sizes
 pub mod Stacks
+pub mod Tests
+pub mod Keywords
 pub mod Words
 pub mod Over
 pub mod Rules

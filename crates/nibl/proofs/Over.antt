@@ -10,7 +10,7 @@ use borrow.Author.Tests.{le-leb, eqb-true, ne-eqb}
 use lib.ListN.{length, drop, length-append}
 use lib.Dec.{leb, eqb}
 use Rattle.nibl.specs.Bytes.{isSpace, isDigit, isCapital, isHexDigit, isText, isQuotable, All, none as done, each}
-use Rattle.nibl.specs.Words.{Token, Run, Word, spaced, letter, letters, decimalDigits, hexDigits, quoted, pair, symbol}
+use Rattle.nibl.specs.Words.{Token, Run, Word, spaced, keyword, letter, decimalDigits, hexDigits, quoted, pair, symbol}
 use Rattle.nibl.proofs.Words.{and-left, or-cases, of-symbols, of-pairs, between}
 
 -- `Outside s s'`: s' is the end of s from a place on that stands outside every string, and what stands before is text
@@ -105,8 +105,8 @@ run-over {ds = d ∷ ds} {s} f r = record { out = outside-all f (r .each) s; sho
 
 pub word-over : {table : List (List ℕ)} {s s' : List ℕ} {w : Token} → Word table s w s' → Over s s'
 word-over (spaced w) = let h = word-over w in record { out = byte refl (h .out); short = omega arith }
+word-over (keyword {cs} {s} r) = record { out = outside-all capital-bare (r .each) s; short = omega (arith, length-append cs s) }
 word-over (letter r) = run-over capital-bare r
-word-over (letters r e) = run-over capital-bare r
 word-over (decimalDigits r l) = run-over digit-bare r
 word-over (hexDigits r) = let h = run-over hex-bare r in record { out = byte refl (h .out); short = omega arith }
 word-over (quoted {bs} {s} a) = record { out = inQuotes a here; short = omega (arith, length-append bs (34 ∷ s)) }

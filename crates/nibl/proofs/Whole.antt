@@ -2,20 +2,22 @@
 use Prim.Native.Nat.{ℕ, suc}
 use Prim.Native.String.{String}
 use mathlib.Core.Path.{_≡_, refl, sym, ap, _∙_}
-use mathlib.Core.Bool.{Bool, true, false, not, false≢true}
-use mathlib.Core.List.{List, [], _∷_}
-use mathlib.Core.Option.{Option, none, some}
+use mathlib.Core.Bool.{Bool, true, false, not, _||_, false≢true}
+use mathlib.Core.List.{List, [], _∷_, _++_}
+use mathlib.Core.Option.{Option, some}
 use native.Mathlib.Omega.{arith}
 use lib.ListN.{length}
-use lib.Dec.{eqb}
-use Rattle.nibl.specs.Bytes.{isSpace, All, all}
-use Rattle.nibl.specs.Words.{Token, decimal, sign, keywords, commands, number, indexIn, there, spaced, letters, pair, symbol}
+use lib.Dec.{leb, eqb}
+use borrow.Author.Tests.{eqb-true, eq-eqb, not-true}
+use Rattle.nibl.specs.Bytes.{isSpace, isCapital, All, front, all}
+use Rattle.nibl.specs.Words.{Token, decimal, sign, keywords, commands, number, begins, noneOver, Keyword, spaced, keyword, pair, symbol}
 use Rattle.nibl.specs.Grammar.{Key, May, noWord, aWord, Relation, Either, whole, parted, PrintWord, shortPrint, longPrint, AnItem, aString, aStored, aValue, Items, oneItem, moreItems, noSemicolon, aSemicolon, noStep, someStep, Variables, oneVariable, moreVariables}
 use Rattle.nibl.specs.Grammar.{Statement, aLetVar, aLetStat, aLetByte, aLetText, aLetCopy, aGoto, aGosub, aReturn, aPrint, anIf, aDo, anUntil, aFor, aNext, anInput, anInputText, aRemark, anEnd, Members, lastMember, moreMembers, Reply, lastReply, enough, moreReply, Line, aBlank, aDelete, aStore, aNew, aClear, aRun, aList, aListFrom, anImmediate}
 use Rattle.nibl.specs.Tree.{Expr, Item, Stmt, letVar, letStat, letByte, goto, gosub, until, for, Member, Typed, immediate}
-use Rattle.nibl.specs.Read.{Found, nothing, found, give, _>>=_, relation, factor, read, aRelation, assigned, letOf, anItem, joined, printing, statementOf, aStatement, statement, endsMember, member, reading, replied, typed, key, consSome, orElse, choose, stepIn, got, signOr, aDecimal, commandCases, aloneStatement, numbered, unnumbered}
+use Rattle.nibl.specs.Read.{Found, nothing, found, give, _>>=_, relation, factor, read, aRelation, assigned, letOf, anItem, joined, printing, statementOf, aStatement, statement, endsMember, member, reading, replied, typed, key, consSome, orElse, choose, stepIn, wrong, got, aDecimal, commandCases, aloneStatement, numbered, unnumbered}
 use Rattle.nibl.specs.Read.{aVariable as variableRead}
-use Rattle.nibl.proofs.Words.{all-true, word-unspaced, word-complete, word-unique, retabled, of-table, of-pairs, no-symbol, letters-at}
+use Rattle.nibl.proofs.Keywords.{first-of, rest-of, run-begins, entries, of-table}
+use Rattle.nibl.proofs.Words.{and-left, and-right, or-true, all-true, word-unspaced, word-complete, word-unique, retabled, of-pairs, no-symbol, no-word}
 use Rattle.nibl.proofs.Rules.{W, it, Ok, nil, one, none-found, decimal-same}
 use Rattle.nibl.proofs.Statements.{joined-eq, items-join, variables-join, statement-eq}
 use Rattle.nibl.proofs.Lines.{C, command-same, reading-eq, replied-one, replied-more, typed-blank, typed-other}
@@ -205,20 +207,39 @@ command-undecimal {s} c =
 command-step : {s t : List ℕ} {k : ℕ} → C s (sign k) t → typed s ≡ choose commandCases (λ u. aloneStatement s) k t
 command-step {s} c = typed-other s (word-unspaced commands c) ∙ rw (command-undecimal c, word-complete commands c)
 
--- nor the beginning of a statement
-abbrev unspelled : List ℕ → Bool
-unspelled w = not (there (indexIn keywords w))
+-- nor the beginning of a statement: where a command stands, no keyword begins
+abbrev meets : List ℕ → List ℕ → Bool
+meets v w = begins v w || begins w v
 
-signless : (o : Option ℕ) (s t : List ℕ) (w : Token) → not (there o) ≡ true → signOr o s ≡ got w t → _≡_ {A = ℕ} 0 1
-signless none s t w h e = cc
-signless (some k) s t w h e = absurd (false≢true h)
+both-begin : (v w s : List ℕ) → begins v s ≡ true → begins w s ≡ true → meets v w ≡ true
+both-begin [] w s p q = refl
+both-begin (c ∷ v) [] s p q = refl
+both-begin (c ∷ v) (d ∷ w) [] p q = absurd (false≢true p)
+both-begin (c ∷ v) (d ∷ w) (b ∷ s) p q =
+    let e = eqb-true c b (and-left (eqb c b) (begins v s) p) in
+    let f = eqb-true d b (and-left (eqb d b) (begins w s) q) in
+    rw (e, f, eq-eqb b b refl) (both-begin v w s (and-right (eqb c b) (begins v s) p) (and-right (eqb d b) (begins w s) q))
+
+apart : (w s : List ℕ) → begins w s ≡ true → (vs : List (List ℕ)) → entries (λ v. not (meets v w)) vs ≡ true → noneOver 1 vs s ≡ true
+unfolding noneOver
+apart w s h [] a = refl
+apart w s h (v ∷ vs) a = rw (go (begins v s) refl) (apart w s h vs (and-right (not (meets v w)) _ a))
+  where
+    go : (t : Bool) → begins v s ≡ t → (leb (length v) 1 || not (begins v s)) ≡ true
+    go true e = absurd (false≢true (sym (not-true (meets v w) (and-left (not (meets v w)) _ a)) ∙ both-begin v w s e h))
+    go false e = rw (e, or-true (leb (length v) 1))
+
+no-keyword : (c b k : ℕ) (cs s : List ℕ) → Keyword commands (c ∷ b ∷ cs) k s → stepIn keywords (c ∷ b ∷ cs ++ s) ≡ wrong
+no-keyword c b k cs s r =
+    let w : List ℕ = c ∷ b ∷ cs in
+    no-word keywords c (b ∷ cs ++ s) (first-of (r .each)) (first-of (rest-of (r .each)))
+    (apart w (front isCapital (w ++ s)) (run-begins (r .each) s) keywords
+    (of-table (λ x. entries (λ v. not (meets v x)) keywords) 128 commands w k refl (r .spelled)))
 
 no-command : {s t u : List ℕ} {k : ℕ} {w : Token} (d : List ℕ → Option Typed) → C s (sign k) t → stepIn keywords s ≡ got w u → choose commandCases d k ≡ d
 unfolding stepIn
 no-command d (spaced c) e = no-command d c e
-no-command {u} {w} d (letters {c} {d = b} {k} {cs} {s} r h) e =
-    let z = signless (indexIn keywords (c ∷ b ∷ cs)) s u w (of-table unspelled 128 commands (c ∷ b ∷ cs) k refl h) (sym (letters-at keywords c (b ∷ cs) s r) ∙ e) in
-    absurd (omega arith)
+no-command d (keyword {c} {d = b} {k} {cs} {s} r) e = let f = no-keyword c b k cs s r in let z : _≡_ {A = ℕ} 0 1 = cc in absurd (omega arith)
 no-command d (pair {a} {b} {k} h) e = of-pairs (λ x y n. choose commandCases d n ≡ d) a b k refl refl refl h
 no-command d (symbol {b} h n) e =
     rw (no-symbol (λ x. eqb x 128) b refl h, no-symbol (λ x. eqb x 129) b refl h, no-symbol (λ x. eqb x 130) b refl h, no-symbol (λ x. eqb x 131) b refl h)

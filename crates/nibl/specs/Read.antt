@@ -1,12 +1,12 @@
 -- A function that finds the reading. That it finds exactly what the grammar gives is proved beside it (proofs/Exact.antt).
 use Prim.Native.Nat.{ℕ, zero, suc, _+_, _-_, _*_, _%_}
 use Prim.Native.String.{String}
-use mathlib.Core.Bool.{Bool, true, false, not, _&&_, _||_}
-use mathlib.Core.List.{List, [], _∷_, _++_}
+use mathlib.Core.Bool.{Bool, true, false, not, _||_}
+use mathlib.Core.List.{List, [], _∷_}
 use mathlib.Core.Option.{Option, none, some}
-use lib.ListN.{length}
+use lib.ListN.{length, take, drop}
 use lib.Dec.{leb, eqb}
-use Rattle.nibl.specs.Bytes.{if_then_else_, isSpace, isText, isDigit, isCapital, isHexDigit, isQuotable, front, past, all, decimalValue, hexValue, byte, byteQuote}
+use Rattle.nibl.specs.Bytes.{if_then_else_, isSpace, isText, isDigit, isCapital, isHexDigit, isQuotable, starts, front, past, all, decimalValue, hexValue, byte, byteQuote}
 use Rattle.nibl.specs.Words.{Token, variable, decimal, hex, string, sign, keywords, commands, indexIn, pairs, isSymbol, number, command}
 use Rattle.nibl.specs.Grammar.{Joints, factorJoints, termJoints, sumJoints, jointOf}
 use Rattle.nibl.specs.Tree.{Op, Expr, var, const, stat, top, byteAt, invert, negate, modulo, two}
@@ -19,14 +19,20 @@ pub data Step : Type 0 where
   atEnd wrong : Step
   got : Token → List ℕ → Step
 
-abbrev pub signOr : Option ℕ → List ℕ → Step
-signOr none s = wrong
-signOr (some k) s = got (sign k) s
+abbrev pub signOr : Option ℕ → List ℕ → Step → Step
+signOr none s r = r
+signOr (some k) s r = got (sign k) s
 
-abbrev pub lettersStep : List (List ℕ) → List ℕ → List ℕ → Step
-lettersStep table [] s = wrong
-lettersStep table (c ∷ []) s = got (variable (c - byte "A")) s
-lettersStep table (c ∷ d ∷ cs) s = signOr (indexIn table (c ∷ d ∷ cs)) s
+-- "a letter not followed by a letter is a variable"
+abbrev pub letterStep : List ℕ → Step
+letterStep [] = wrong
+letterStep (c ∷ s) = if starts isCapital s then wrong else got (variable (c - byte "A")) s
+
+-- a keyword of n letters, or of fewer, but two at least; or else a letter
+unfoldable pub lettersStep : List (List ℕ) → ℕ → List ℕ → Step
+lettersStep table zero s = letterStep s
+lettersStep table (suc zero) s = letterStep s
+lettersStep table (suc (suc n)) s = signOr (indexIn table (take (suc (suc n)) s)) (drop (suc (suc n)) s) (lettersStep table (suc n) s)
 
 abbrev pub digitsStep : ℕ → List ℕ → Step
 digitsStep n s = if leb n 32767 then got (decimal n) s else wrong
@@ -50,7 +56,7 @@ symbolStep a (b ∷ s) = pairOr (pairs a b) a b s
 
 unfoldable pub wordStep : List (List ℕ) → ℕ → List ℕ → Step
 wordStep table b s =
-    if isCapital b then lettersStep table (front isCapital (b ∷ s)) (past isCapital (b ∷ s))
+    if isCapital b then lettersStep table (length (front isCapital (b ∷ s))) (b ∷ s)
     else if isDigit b then digitsStep (decimalValue 0 (front isDigit (b ∷ s))) (past isDigit (b ∷ s))
     else if eqb b (byte "#") then hexStep (front isHexDigit s) (past isHexDigit s)
     else if eqb b byteQuote then quotedStep (front isQuotable s) (past isQuotable s)

@@ -1,4 +1,4 @@
--- Document 01's grammar: over its keywords, and at the front of an immediate line its commands.
+-- Document 01's grammar with document 02's rule of words: over the keywords, and at the front of an immediate line the commands.
 use Prim.Native.Nat.{ℕ}
 use mathlib.Core.List.{List}
 use Rattle.nibl.specs.Words.{Word, keywords, commands}

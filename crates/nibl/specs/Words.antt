@@ -2,11 +2,12 @@
 use Prim.Native.Nat.{ℕ, suc, _-_, _%_, _≤_}
 use Prim.Native.String.{String}
 use mathlib.Core.Path.{_≡_}
-use mathlib.Core.Bool.{Bool, true, false, _&&_, _||_}
+use mathlib.Core.Bool.{Bool, true, false, not, _&&_, _||_}
 use mathlib.Core.List.{List, [], _∷_, _++_}
 use mathlib.Core.Option.{Option, none, some}
-use lib.Dec.{eqb}
-use Rattle.nibl.specs.Bytes.{if_then_else_, byte, bytes, same, isDigit, isCapital, isHexDigit, isQuotable, All, starts, decimalValue, hexValue, byteQuote}
+use lib.ListN.{length}
+use lib.Dec.{eqb, leb}
+use Rattle.nibl.specs.Bytes.{if_then_else_, byte, bytes, same, isDigit, isCapital, isHexDigit, isQuotable, All, starts, front, all, decimalValue, hexValue, byteQuote}
 
 pub data Token : Type 0 where
   variable : ℕ → Token  -- 0 for A to 25 for Z
@@ -64,12 +65,28 @@ pub record Run (p : ℕ → Bool) (ds s : List ℕ) : Type 0 where
   pub each : All p ds
   pub longest : starts p s ≡ false
 
+-- the spelling w stands at the front of the text s
+abbrev pub begins : List ℕ → List ℕ → Bool
+begins [] s = true
+begins (c ∷ w) [] = false
+begins (c ∷ w) (b ∷ s) = eqb c b && begins w s
+
+-- of the table's spellings none with more than n letters stands at the front of s
+unfoldable pub noneOver : ℕ → List (List ℕ) → List ℕ → Bool
+noneOver n table s = all (λ (w : List ℕ). leb (length w) n || not (begins w s)) table
+
+-- the letters w, a keyword whose number is k, stand before s: "where a letter stands, the longest keyword that begins there is taken"
+pub record Keyword (table : List (List ℕ)) (w : List ℕ) (k : ℕ) (s : List ℕ) : Type 0 where
+  pub each : All isCapital w
+  pub spelled : indexIn table w ≡ some k
+  pub longest : noneOver (length w) table (front isCapital (w ++ s)) ≡ true
+
 -- `Word table s w s'`: past any spaces the text s begins with the word w, and s' follows it
 pub data Word (table : List (List ℕ)) : List ℕ → Token → List ℕ → Type 0 where
   spaced : {w : Token} {s s' : List ℕ} → Word table s w s' → Word table (byte " " ∷ s) w s'
+  keyword : {c d k : ℕ} {cs s : List ℕ} → Keyword table (c ∷ d ∷ cs) k s → Word table (c ∷ d ∷ cs ++ s) (sign k) s
+  -- "if none does, a letter not followed by a letter is a variable": a keyword has two letters or more, so none does there
   letter : {c : ℕ} {s : List ℕ} → Run isCapital (c ∷ []) s → Word table (c ∷ s) (variable (c - byte "A")) s
-  letters : {c d k : ℕ} {cs s : List ℕ} → Run isCapital (c ∷ d ∷ cs) s → indexIn table (c ∷ d ∷ cs) ≡ some k
-      → Word table (c ∷ d ∷ cs ++ s) (sign k) s
   decimalDigits : {ds s : List ℕ} → Run isDigit ds s → decimalValue 0 ds ≤ 32767 → Word table (ds ++ s) (decimal (decimalValue 0 ds)) s
   hexDigits : {ds s : List ℕ} → Run isHexDigit ds s → Word table (byte "#" ∷ ds ++ s) (hex (hexValue 0 ds % 65536)) s
   quoted : {bs s : List ℕ} → All isQuotable bs → Word table (byteQuote ∷ bs ++ byteQuote ∷ s) (string bs) s

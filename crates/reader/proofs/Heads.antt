@@ -8,7 +8,7 @@ use denote.Enum.Declared.{tagOf}
 use types.Run.{OneOf, miss}
 use lib.ListN.{length, drop, length-append, length-drop}
 use lib.Dec.{leb}
-use Rattle.nibl.specs.Words.{Token, variable, decimal, hex, string, sign, keywords, Word, spaced, letter, letters, decimalDigits, hexDigits, quoted, pair, symbol, firstKeyword}
+use Rattle.nibl.specs.Words.{Token, variable, decimal, hex, string, sign, keywords, Word, spaced, keyword, letter, decimalDigits, hexDigits, quoted, pair, symbol, firstKeyword}
 use Rattle.nibl.specs.Read.{Step, stepIn, nothing, Reader, onStep, byWord, variableOf, stringOf, signOf, aVariable, aString, aSign, fail}
 use Rattle.nibl.proofs.Words.{word-sound, of-pairs, no-symbol}
 use Rattle.word.specs.declared.Cursor.{Cursor}
@@ -139,7 +139,7 @@ module _ {text : List ℕ} where
 keyword-size : {s t : List ℕ} {w : Token} (k : ℕ) → Word keywords s w t → w ≡ sign k → firstKeyword ≤ k → length t + 2 ≤ length s
 keyword-size k (spaced w) e h = omega (arith, keyword-size k w e h)
 keyword-size k (letter r) e h = let z : _≡_ {A = ℕ} 0 1 = cc in absurd (omega arith)
-keyword-size k (letters {cs} {s} r p) e h = omega (arith, length-append cs s)
+keyword-size k (keyword {cs} {s} r) e h = omega (arith, length-append cs s)
 keyword-size k (decimalDigits r l) e h = let z : _≡_ {A = ℕ} 0 1 = cc in absurd (omega arith)
 keyword-size k (hexDigits r) e h = let z : _≡_ {A = ℕ} 0 1 = cc in absurd (omega arith)
 keyword-size k (quoted a) e h = let z : _≡_ {A = ℕ} 0 1 = cc in absurd (omega arith)
@@ -151,7 +151,7 @@ keyword-size k (symbol {b} p n) e h =
 string-size : {s t : List ℕ} {w : Token} (bs : List ℕ) → Word keywords s w t → w ≡ string bs → length t + length bs + 2 ≤ length s
 string-size bs (spaced w) e = omega (arith, string-size bs w e)
 string-size bs (letter r) e = let z : _≡_ {A = ℕ} 0 1 = cc in absurd (omega arith)
-string-size bs (letters r p) e = let z : _≡_ {A = ℕ} 0 1 = cc in absurd (omega arith)
+string-size bs (keyword r) e = let z : _≡_ {A = ℕ} 0 1 = cc in absurd (omega arith)
 string-size bs (decimalDigits r l) e = let z : _≡_ {A = ℕ} 0 1 = cc in absurd (omega arith)
 string-size bs (hexDigits r) e = let z : _≡_ {A = ℕ} 0 1 = cc in absurd (omega arith)
 string-size bs (quoted {bs = cs} {s} a) e = let i : cs ≡ bs = cc in rw (← i) (omega (arith, length-append cs (34 ∷ s)))

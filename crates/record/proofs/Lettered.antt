@@ -6,7 +6,7 @@ use mathlib.Core.List.{List, []}
 use native.Mathlib.Omega.{arith}
 use lib.Dec.{leb, eqb}
 use borrow.Author.Tests.{eqb-true, leb-true}
-use Rattle.nibl.specs.Words.{Token, variable, Word, spaced, letter, letters, decimalDigits, hexDigits, quoted, pair, symbol}
+use Rattle.nibl.specs.Words.{Token, variable, Word, spaced, keyword, letter, decimalDigits, hexDigits, quoted, pair, symbol}
 use Rattle.nibl.specs.Grammar.{Statement, aLetVar, aLetStat, aLetByte, aLetText, aLetCopy, aGoto, aGosub, aReturn, aPrint, anIf, aDo, anUntil, aFor, aNext, anInput, anInputText, aRemark, anEnd}
 use Rattle.nibl.specs.Tree.{Stmt, Member}
 use Rattle.nibl.specs.Read.{found, member}
@@ -24,7 +24,7 @@ word-variable v (letter {c = c} r) e =
     let b = both (leb 65 c) (leb c 90) (r .some) in
     let l = leb-true c 90 (b .1) in
     omega arith
-word-variable v (letters r p) e = let z : _≡_ {A = ℕ} 0 1 = cc in absurd (omega arith)
+word-variable v (keyword r) e = let z : _≡_ {A = ℕ} 0 1 = cc in absurd (omega arith)
 word-variable v (decimalDigits r l) e = let z : _≡_ {A = ℕ} 0 1 = cc in absurd (omega arith)
 word-variable v (hexDigits r) e = let z : _≡_ {A = ℕ} 0 1 = cc in absurd (omega arith)
 word-variable v (quoted a) e = let z : _≡_ {A = ℕ} 0 1 = cc in absurd (omega arith)

@@ -8,61 +8,14 @@ use native.Mathlib.Omega.{arith}
 use borrow.Author.Tests.{eq-eqb, ne-eqb, eqb-true, eqb-false}
 use lib.Dec.{eqb}
 use lib.ListN.{length, drop, getD, drop-of-length-le}
-use lib.Seq.{slice}
-use Rattle.nibl.specs.Bytes.{if_then_else_, classOf, classDigit, classCapital, classQuote, isSpace, isCapital, isDigit, isQuotable, starts, front, past}
-use Rattle.nibl.specs.Words.{variable, sign, indexIn, pairs, numberOr, isSymbol}
-use Rattle.nibl.specs.Read.{Step, atEnd, got, signOr, lettersStep, pairOr, wordStep, stepIn}
+use Rattle.nibl.specs.Bytes.{if_then_else_, classOf, classDigit, classCapital, classQuote, isSpace, isCapital, isDigit, isQuotable, starts, past}
+use Rattle.nibl.specs.Words.{sign, pairs, numberOr, isSymbol}
+use Rattle.nibl.specs.Read.{Step, atEnd, got, pairOr, wordStep, stepIn}
 use Rattle.letter.proofs.Classes.{capital, digit, quote}
 use Rattle.word.specs.declared.Word.{Word}
 use Rattle.word.specs.declared.Word.the-variants.{Variable, Decimal, Hex, Text, Sign, End, Wrong}
-use Rattle.word.specs.Found.{Behind, WordIs, tableOf, keysOf, keyOf, keyIndex, lettersAt, decimalAt, hexAt, quotedAt, symbolAt}
-use Rattle.word.proofs.Runs.{at-byte, between, past-go, past-stop, parted, runEnd, run-at, run-cons, rest-at, end-within, end-past}
-use Rattle.word.proofs.Keys.{table-short, signBy, index-key, index-long}
-
--- A run of capitals
-one-letter : (table : List (List ℕ)) (b : ℕ) (w s : List ℕ) → length (b ∷ w) ≡ 1 → lettersStep table (b ∷ w) s ≡ got (variable (b - 65)) s
-one-letter table b [] s h = refl
-one-letter table b (d ∷ w) s h = absurd (omega arith)
-
-more-letters : (table : List (List ℕ)) (w s : List ℕ) → 1 < length w → lettersStep table w s ≡ signOr (indexIn table w) s
-more-letters table [] s h = absurd (omega arith)
-more-letters table (b ∷ []) s h = absurd (omega arith)
-more-letters table (b ∷ d ∷ w) s h = refl
-
-module _ (b : Bool) (text : List ℕ) (from to : ℕ) (h : from < length text) (c : isCapital (getD text from 0) ≡ true) (e : to ≡ runEnd isCapital text from) where
-  pub letters-one : to - from ≡ 1 → WordIs (lettersAt (tableOf b)) text from (Variable (getD text from 0 - 65) (record { at = to }))
-  letters-one k =
-      let run = run-cons isCapital text from h c in
-      let range = between 65 90 (getD text from 0) c in
-      let high = end-within isCapital text from (omega arith) in
-      record {
-        same = rw (run, rest-at isCapital text from to e) (sym (one-letter (tableOf b) (getD text from 0) (front isCapital (drop (from + 1) text)) (drop to text) (omega (arith, ap length run))));
-        inside = (omega arith, omega arith, omega arith);
-      }
-
-  pub letters-long : 6 < to - from → WordIs (lettersAt (tableOf b)) text from Wrong
-  letters-long k =
-      let w = front isCapital (drop from text) in
-      record { same = sym (more-letters (tableOf b) w _ (omega arith) ∙ index-long 128 (tableOf b) w _ (table-short b) (omega arith)); inside = tt }
-
-  -- more than one, by the number of their key
-  module _ (m : to - from ≡ 1 → ⊥) {q k : ℕ} (f : q ≡ keyOf (slice from to text)) (g : k ≡ keyIndex 128 (keysOf b) q) where
-    named : lettersAt (tableOf b) (drop from text) ≡ signBy k (drop to text)
-    named =
-        let w = front isCapital (drop from text) in
-        let many = end-past isCapital text from h c in
-        let number : keyIndex 128 (keysOf b) (keyOf w) ≡ k = rw (run-at isCapital text from to e, ← f) (sym g) in
-        more-letters (tableOf b) w _ (omega arith) ∙ index-key w _ (parted isCapital (drop from text) .each) 128 (tableOf b) (omega arith) (table-short b)
-        ∙ rw (number, rest-at isCapital text from to e) refl
-
-    pub letters-none : k ≡ 0 → WordIs (lettersAt (tableOf b)) text from Wrong
-    letters-none z = record { same = sym (named ∙ rw (eq-eqb k 0 z) refl); inside = tt }
-
-    pub letters-sign : (k ≡ 0 → ⊥) → WordIs (lettersAt (tableOf b)) text from (Sign k (record { at = to }))
-    letters-sign z =
-        let many = end-past isCapital text from h c in
-        let high = end-within isCapital text from (omega arith) in
-        record { same = sym (named ∙ rw (ne-eqb k 0 z) refl); inside = (omega arith, omega arith) }
+use Rattle.word.specs.Found.{Behind, WordIs, lettersAt, decimalAt, hexAt, quotedAt, symbolAt}
+use Rattle.word.proofs.Runs.{at-byte, past-go, past-stop, parted, runEnd, run-at, rest-at}
 
 -- A string
 module _ (text : List ℕ) (from to : ℕ) (e : to ≡ runEnd isQuotable text from) where

@@ -1,18 +1,18 @@
 -- The first byte of a sign: what a look at one byte tells of the word that stands there. Assumes nothing.
-use Prim.Native.Nat.{ℕ, zero, suc, _+_, _-_, _≤_, _<_}
-use mathlib.Core.Path.{_≡_, _∙_, refl, ap, sym, subst}
+use Prim.Native.Nat.{ℕ, zero, suc, _-_, _≤_, _<_}
+use mathlib.Core.Path.{_≡_, _∙_, refl, ap, sym}
 use mathlib.Core.Bool.{Bool, true, false, _&&_, _||_, false≢true}
 use mathlib.Core.List.{List, [], _∷_}
 use mathlib.Core.Option.{Option, none, some}
 use native.Mathlib.Omega.{arith}
 use borrow.Author.Tests.{eqb-true, eq-eqb, le-leb}
 use lib.Dec.{eqb, leb}
-use lib.ListN.{length, drop, getD, drop-of-length-le}
+use lib.ListN.{length, take, drop, getD, drop-of-length-le}
 use Rattle.nibl.specs.Bytes.{if_then_else_, same, isSpace, isCapital, isDigit, isHexDigit, isQuotable, starts, front, past, decimalValue}
 use Rattle.nibl.specs.Words.{variable, decimal, hex, string, sign, keywords, indexFrom, isSymbol, pairs, firstKeyword}
 use Rattle.nibl.specs.Read.{Step, atEnd, wrong, got, signOr, lettersStep, digitsStep, hexStep, quotedStep, pairOr, symbolStep, wordStep, stepIn}
 use Rattle.word.specs.Found.{firstOf, spelling, beginning}
-use Rattle.word.proofs.Runs.{and-left, and-right, at-byte, front-go, parted, runEnd, rest-at}
+use Rattle.word.proofs.Runs.{and-left, at-byte, parted, runEnd, rest-at}
 use Rattle.word.proofs.Answers.{step-past, step-word, step-end}
 
 -- The byte that `first_at` finds
@@ -59,16 +59,22 @@ index-first : (n : ℕ) (ks : List (List ℕ)) (w : List ℕ) (k : ℕ) → inde
 index-first n [] w k e = let i : _≡_ {A = ℕ} 0 1 = cc in absurd (omega arith)
 index-first n (x ∷ ks) w k e = index-step n x ks w k (index-first (suc n) ks w k) (same x w) refl e
 
-signed-first : (w t : List ℕ) (o : Option ℕ) → indexFrom firstKeyword keywords w ≡ o → begun (firstOf w) (signOr o t) ≡ true
-signed-first w t none e = refl
-signed-first w t (some k) e =
+signed-first : (w t : List ℕ) (r : Step) (o : Option ℕ) → indexFrom firstKeyword keywords w ≡ o → begun (firstOf w) r ≡ true → begun (firstOf w) (signOr o t r) ≡ true
+signed-first w t r none e i = i
+signed-first w t r (some k) e i =
     let h = index-first firstKeyword keywords w k e in
     rw (le-leb firstKeyword k (h .high)) (eq-eqb (firstOf (spelling keywords (k - firstKeyword))) (firstOf w) (h .letter))
 
-letters-first : (w t : List ℕ) → begun (firstOf w) (lettersStep keywords w t) ≡ true
-letters-first [] t = refl
-letters-first (c ∷ []) t = refl
-letters-first (c ∷ d ∷ cs) t = signed-first (c ∷ d ∷ cs) t (indexFrom firstKeyword keywords (c ∷ d ∷ cs)) refl
+letter-first : (b : ℕ) (t : Bool) (v : ℕ) (s : List ℕ) → begun b (if t then wrong else got (variable v) s) ≡ true
+letter-first b true v s = refl
+letter-first b false v s = refl
+
+letters-first : (n b : ℕ) (s : List ℕ) → begun b (lettersStep keywords n (b ∷ s)) ≡ true
+unfolding lettersStep
+letters-first zero b s = letter-first b (starts isCapital s) (b - 65) s
+letters-first (suc zero) b s = letter-first b (starts isCapital s) (b - 65) s
+letters-first (suc (suc n)) b s =
+    signed-first (b ∷ take (suc n) s) (drop (suc n) s) _ (indexFrom firstKeyword keywords (b ∷ take (suc n) s)) refl (letters-first (suc n) b s)
 
 -- Words that are no signs
 module _ (b : ℕ) where
@@ -140,13 +146,13 @@ module _ (b : ℕ) (s : List ℕ) where
   by-symbol false e = refl
 
   by-kind : (c : Bool) → isCapital b ≡ c → (d h q : Bool)
-      → begun b (if c then lettersStep keywords (front isCapital (b ∷ s)) (past isCapital (b ∷ s))
+      → begun b (if c then lettersStep keywords (length (front isCapital (b ∷ s))) (b ∷ s)
       else if d then digitsStep (decimalValue 0 (front isDigit (b ∷ s))) (past isDigit (b ∷ s))
       else if h then hexStep (front isHexDigit s) (past isHexDigit s)
       else if q then quotedStep (front isQuotable s) (past isQuotable s)
       else if isSymbol b then symbolStep b s
       else wrong) ≡ true
-  by-kind true e d h q = subst (λ w. begun b (lettersStep keywords w (past isCapital (b ∷ s))) ≡ true) (sym (front-go isCapital b s e)) (letters-first (b ∷ front isCapital s) _)
+  by-kind true e d h q = letters-first _ b s
   by-kind false e true h q = digits-first b (leb (decimalValue 0 (front isDigit (b ∷ s))) 32767) _ _
   by-kind false e false true q = hex-first b (front isHexDigit s) _
   by-kind false e false false true = quoted-first b (front isQuotable s) (past isQuotable s)

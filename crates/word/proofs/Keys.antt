@@ -1,17 +1,19 @@
 -- A spelling as one number: how it is made, that it tells spellings apart, and where it stands in a list. Assumes nothing.
 use Prim.Native.Nat.{ℕ, suc, _+_, _-_, _*_, _^_, _≤_, _<_}
 use mathlib.Core.Path.{_≡_, refl, ap}
-use mathlib.Core.Bool.{Bool, true, false, _&&_}
+use mathlib.Core.Bool.{Bool, true, false, not, _&&_, _||_}
 use mathlib.Core.List.{List, [], _∷_, map}
 use native.Mathlib.Nat.{pow-le-pow-right}
 use native.Mathlib.Omega.{arith}
-use borrow.Author.Tests.{eqb-true, eqb-false, eq-eqb, ne-eqb, leb-true}
+use borrow.Author.Tests.{eqb-true, eqb-false, eq-eqb, ne-eqb, leb-true, le-leb}
 use lib.Dec.{eqb, leb}
 use lib.ListN.{length, drop, getD, drop-of-length-le}
 use lib.Seq.{slice, slice-empty, slice-cons}
 use Rattle.nibl.specs.Bytes.{if_then_else_, same, isCapital, all}
-use Rattle.nibl.specs.Read.{Step, wrong, got, signOr}
-use Rattle.nibl.specs.Words.{sign, indexFrom}
+use Rattle.nibl.specs.Read.{Step, got, signOr}
+use Rattle.nibl.specs.Words.{sign, indexFrom, begins, noneOver}
+use Rattle.nibl.proofs.Keywords.{begins-short}
+use Rattle.nibl.proofs.Words.{or-true}
 use Rattle.word.specs.Found.{keyOf, keyIndex, tableOf}
 use Rattle.word.proofs.Runs.{and-left, and-right, between, at-byte}
 
@@ -46,10 +48,6 @@ seat-miss keys n i k h e =
 pub seat-none : (keys : List ℕ) (n i k : ℕ) → length keys ≤ i → keyIndex n (drop i keys) k ≡ 0
 seat-none keys n i k h = rw (drop-of-length-le keys h) refl
 
-and-false : (b : Bool) → b && false ≡ false
-and-false true = refl
-and-false false = refl
-
 -- Two keys are equal where the spellings are
 digit-eq : (x y a b : ℕ) → x < 256 → y < 256 → (t u : Bool) → eqb x y ≡ t → eqb a b ≡ u → eqb (x + 256 * a) (y + 256 * b) ≡ t && u
 digit-eq x y a b hx hy true true e f = eq-eqb (x + 256 * a) (y + 256 * b) (omega (arith, eqb-true x y e, eqb-true a b f))
@@ -77,34 +75,35 @@ pub table-short : (b : Bool) → short (tableOf b) ≡ true
 table-short true = refl
 table-short false = refl
 
--- the sign of a number, where it is none of 0
-abbrev pub signBy : ℕ → List ℕ → Step
-signBy k s = if eqb k 0 then wrong else got (sign k) s
+-- the sign of a number, or r where it is 0
+abbrev pub signBy : ℕ → List ℕ → Step → Step
+signBy k s r = if eqb k 0 then r else got (sign k) s
 
 -- the index of a spelling is that of its key
-module _ (w s : List ℕ) (h : all isCapital w ≡ true) where
+module _ (w s : List ℕ) (r : Step) (h : all isCapital w ≡ true) where
   index-step : (n : ℕ) (v : List ℕ) (vs : List (List ℕ)) → 0 < n → eqb (keyOf v) (keyOf w) ≡ same v w
-      → signOr (indexFrom (suc n) vs w) s ≡ signBy (keyIndex (suc n) (map keyOf vs) (keyOf w)) s → (t : Bool) → same v w ≡ t
-      → signOr (indexFrom n (v ∷ vs) w) s ≡ signBy (keyIndex n (map keyOf (v ∷ vs)) (keyOf w)) s
+      → signOr (indexFrom (suc n) vs w) s r ≡ signBy (keyIndex (suc n) (map keyOf vs) (keyOf w)) s r → (t : Bool) → same v w ≡ t
+      → signOr (indexFrom n (v ∷ vs) w) s r ≡ signBy (keyIndex n (map keyOf (v ∷ vs)) (keyOf w)) s r
   index-step n v vs z e ih true f = rw (e, f) (rw (ne-eqb n 0 (λ q. omega arith)) refl)
   index-step n v vs z e ih false f = rw (e, f) ih
 
-  pub index-key : (n : ℕ) (ws : List (List ℕ)) → 0 < n → short ws ≡ true → signOr (indexFrom n ws w) s ≡ signBy (keyIndex n (map keyOf ws) (keyOf w)) s
+  pub index-key : (n : ℕ) (ws : List (List ℕ)) → 0 < n → short ws ≡ true → signOr (indexFrom n ws w) s r ≡ signBy (keyIndex n (map keyOf ws) (keyOf w)) s r
   index-key n [] z k = refl
   index-key n (v ∷ vs) z k =
       let here = and-left (all isCapital v && leb (length v) 6) (short vs) k in
       index-step n v vs z (key-eq v w (and-left (all isCapital v) (leb (length v) 6) here) h)
       (index-key (suc n) vs (omega arith) (and-right (all isCapital v && leb (length v) 6) (short vs) k)) (same v w) refl
 
-same-long : (v w : List ℕ) → length v < length w → same v w ≡ false
-same-long v [] h = absurd (omega arith)
-same-long [] (y ∷ w) h = refl
-same-long (x ∷ v) (y ∷ w) h = rw (same-long v w (omega arith)) (and-false (eqb x y))
+-- no keyword is longer than its letters, nor than 6
+module _ (n : ℕ) (s : List ℕ) (h : (m : ℕ) → m ≤ 6 → m ≤ length s → m ≤ n) where
+  over-one : (w : List ℕ) → length w ≤ 6 → (t : Bool) → begins w s ≡ t → (leb (length w) n || not (begins w s)) ≡ true
+  over-one w l true e = rw (le-leb (length w) n (h (length w) l (begins-short w s e))) refl
+  over-one w l false e = rw (e, or-true (leb (length w) n)) refl
 
--- a longer spelling has none
-pub index-long : (n : ℕ) (ws : List (List ℕ)) (w s : List ℕ) → short ws ≡ true → 6 < length w → signOr (indexFrom n ws w) s ≡ wrong
-index-long n [] w s k h = refl
-index-long n (v ∷ vs) w s k h =
-    let here = and-left (all isCapital v && leb (length v) 6) (short vs) k in
-    let l = leb-true (length v) 6 (and-right (all isCapital v) (leb (length v) 6) here) in
-    rw (same-long v w (omega arith)) (index-long (suc n) vs w s (and-right (all isCapital v && leb (length v) 6) (short vs) k) h)
+  pub none-over : (ws : List (List ℕ)) → short ws ≡ true → noneOver n ws s ≡ true
+  unfolding noneOver
+  none-over [] k = refl
+  none-over (w ∷ ws) k =
+      let here = and-left (all isCapital w && leb (length w) 6) (short ws) k in
+      let l = leb-true (length w) 6 (and-right (all isCapital w) (leb (length w) 6) here) in
+      rw (over-one w l (begins w s) refl) (none-over ws (and-right (all isCapital w && leb (length w) 6) (short ws) k))

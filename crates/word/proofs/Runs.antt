@@ -83,7 +83,7 @@ pub parted : (p : ℕ → Bool) (s : List ℕ) → Parted p s
 parted p [] = record { run = refl; rest = refl; short = omega arith; stops = refl; each = refl }
 parted p (b ∷ s) = parted-step p b s (parted p s) (p b) refl
 
-slice-front : (f n : ℕ) (l : List ℕ) → slice f (f + n) l ≡ take n (drop f l)
+pub slice-front : (f n : ℕ) (l : List ℕ) → slice f (f + n) l ≡ take n (drop f l)
 slice-front zero n l = ap (λ (k : ℕ). take k l) (zero-add n)
 slice-front (suc f) n [] = rw (take-nil (suc f + n)) (sym (take-nil n))
 slice-front (suc f) n (b ∷ l) = rw suc-add (slice-front f n l)
@@ -102,8 +102,11 @@ module _ (p : ℕ → Bool) (text : List ℕ) where
   pub end-within : (from : ℕ) → from ≤ length text → runEnd p text from ≤ length text
   end-within from h = omega (arith, parted p (drop from text) .short, length-drop from text)
 
+  pub starts-at : (i : ℕ) → i < length text → starts p (drop i text) ≡ p (getD text i 0)
+  starts-at i h = rw (at-byte text i h) refl
+
   pub stops-at : (i : ℕ) → i < length text → p (getD text i 0) ≡ false → starts p (drop i text) ≡ false
-  stops-at i h e = rw (at-byte text i h) e
+  stops-at i h e = starts-at i h ∙ e
 
   pub stops-end : (i : ℕ) → length text ≤ i → starts p (drop i text) ≡ false
   stops-end i h = rw (drop-of-length-le text h) refl

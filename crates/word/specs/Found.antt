@@ -72,7 +72,7 @@ hexDigit d = if isDigit d then d - byte "0" else d - byte "A" + 10
 
 -- The kinds of word, each as a step
 abbrev pub lettersAt : List (List ℕ) → List ℕ → Step
-lettersAt table s = lettersStep table (front isCapital s) (past isCapital s)
+lettersAt table s = lettersStep table (length (front isCapital s)) s
 
 abbrev pub decimalAt : List ℕ → Step
 decimalAt s = digitsStep (decimalValue 0 (front isDigit s)) (past isDigit s)

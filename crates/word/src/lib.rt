@@ -3,9 +3,9 @@ use letter::class;
 ghost use Prim.Native.Nat.{_+_, _-_, _*_, _%_, _≤_, _<_};
 ghost use mathlib.Core.Path.{_≡_};
 ghost use mathlib.Core.Bool.{true};
-ghost use lib.ListN.{length, drop, getD};
+ghost use lib.ListN.{length, take, drop, getD};
 ghost use lib.Seq.{slice};
-ghost use Rattle.nibl.specs.Bytes.{isDigit, isCapital, isHexDigit, isSpace, isQuotable, front, past};
+ghost use Rattle.nibl.specs.Bytes.{isDigit, isCapital, isHexDigit, isSpace, isQuotable, starts, front, past};
 ghost use Rattle.nibl.specs.Words.{keywords, commands, isSymbol, pairs, numberOr, firstKeyword};
 ghost use Rattle.nibl.specs.Read.{stepIn};
 ghost use Rattle.word.specs.Found.{passing, keyOf, longestKeyword, keyIndex, tableOf, keysOf, hexDigit, firstOf};
@@ -173,24 +173,47 @@ fn number_of(k: u64, commands: bool) -> u8
     }
 }
 
-// The run of capitals that starts at `from`: one letter is a variable, more are a keyword or nothing.
+// Where the letters that a keyword at `from` may have end: at the end of the run of capitals, or after the most that a
+// keyword has. So a long run is not looked at to its end again for each word in it.
+fn letters_end(text: &[u8], from: usize) -> usize
+    requires { ⌜ from < length (now text) ⌝ }
+    ensures { λ r. ⌜ r ≡ from + length (front isCapital (take longestKeyword (drop from (now (text .entry))))) ⌝ }
+{
+    if text.len() - from <= LONGEST_KEYWORD {
+        return run_end(text, from, class::CAPITAL);
+    }
+    run_end(&text[..from + LONGEST_KEYWORD], from, class::CAPITAL)
+}
+
+// Whether a letter stands at a position.
+fn letter_at(text: &[u8], at: usize) -> bool
+    ensures { λ r. ⌜ r ≡ starts isCapital (drop at (now (text .entry))) ⌝ }
+{
+    if at < text.len() {
+        return letter::is_capital(text[at]);
+    }
+    false
+}
+
+// The word at a capital: the longest keyword that begins there; if none does, a letter that no letter follows. No keyword is a
+// letter alone, so most letters need no look into the lists.
 fn letters(text: &[u8], from: usize, commands: bool) -> Word
     requires { ⌜ (from < length (now text)) × (isCapital (getD (now text) from 0) ≡ true) ⌝ }
     ensures { λ r. ⌜ WordIs (lettersAt (tableOf commands)) (now (text .entry)) from r ⌝ }
 {
-    let to = run_end(text, from, class::CAPITAL);
-    let n = to - from;
-    if n == 1 {
-        return Word::Variable(text[from] - letter::A, Cursor { at: to });
+    let next = from + 1;
+    if !letter_at(text, next) {
+        return Word::Variable(text[from] - letter::A, Cursor { at: next });
     }
-    if LONGEST_KEYWORD < n {
-        return Word::Wrong;
+    let mut to = letters_end(text, from);
+    while 1 < to - from {
+        let k = number_of(key(text, from, to), commands);
+        if k != 0 {
+            return Word::Sign(k, Cursor { at: to });
+        }
+        to -= 1;
     }
-    let k = number_of(key(text, from, to), commands);
-    if k == 0 {
-        return Word::Wrong;
-    }
-    Word::Sign(k, Cursor { at: to })
+    Word::Wrong
 }
 
 fn digit(b: u8) -> u32

@@ -3,7 +3,8 @@
 //!     rounds <INPUT               the work; writes the sum of what the rounds found
 //!     rounds input WORK ROUNDS    writes such an input
 //!
-//! The input has the work's number, the number of rounds (at most 32,767), LF, and the bytes to work on.
+//! The input has the work's number, the number of rounds (at most 32,767), LF, and the bytes to work on. A WORK with a "t"
+//! behind its number is the same work on texts whose words are written together.
 
 #![forbid(unsafe_code)]
 
@@ -13,7 +14,7 @@ use std::io::{self, Read, Write};
 use model::line::LineNumber;
 use model::page::{read_page, store, Program, END_MARK};
 use model::reader::read_list;
-use model::rules::{empty_page, full_page, RULES};
+use model::rules::{empty_page, full_page, RULES, TOGETHER};
 use model::tree::Tree;
 use model::words::{Word, Words};
 use model::{continue_run, take_line, ForEntry, ForStack, Lent, Pause, Place, PlaceStack, Record};
@@ -271,10 +272,11 @@ fn typed(page: &mut [u8], mut record: Record) -> u16 {
     found.into_iter().fold(0, add)
 }
 
-/// What a piece of work, by its number, works on.
+/// What a piece of work works on.
 fn input(work: &str) -> Option<Vec<u8>> {
     match work {
         "0" => Some(text()),
+        "1t" => Some(full_page(&TOGETHER)),
         "1" | "2" | "3" | "4" | "8" | "10" | "11" => Some(full_page(&RULES)),
         "5" | "6" | "7" => Some(lines()),
         "9" => Some(assigning()),
@@ -338,7 +340,8 @@ fn main() -> io::Result<()> {
     if let [order, work, rounds] = arguments.as_slice() {
         assert_eq!(order, "input");
         let bytes = input(work).expect("a known work");
-        io::stdout().write_all(format!("{work} {rounds}\n").as_bytes())?;
+        let number = work.trim_end_matches('t');
+        io::stdout().write_all(format!("{number} {rounds}\n").as_bytes())?;
         return io::stdout().write_all(&bytes);
     }
     let mut given = Vec::new();

@@ -11,13 +11,14 @@ pub type Way = fn(&mut Random, Lines) -> Vec<u8>;
 pub const SOUND: [Way; 4] = [whole, with_tail, shortened, at_limit];
 
 /// Ways that make bad pages, or mostly so.
-pub const FAULTY: [Way; 14] = [
+pub const FAULTY: [Way; 15] = [
     equal_numbers,
     falling_numbers,
     high_number,
     first_digit,
     over_limit,
     no_reading,
+    squeezed,
     one_letter,
     wrong_length,
     joined,
@@ -28,12 +29,13 @@ pub const FAULTY: [Way; 14] = [
     garbage,
 ];
 
-/// Texts that have no reading, some of them for one byte in a remark or a string.
+/// Texts that have no reading, some of them for one byte in a remark or a string, or for one space that is not there.
 #[rustfmt::skip]
-const NO_READINGS: [&str; 26] = [
+const NO_READINGS: [&str; 38] = [
     "", " ", ":", "END:", ":END", "END::END", "END;", "END END", "RUN", "NEW", "A", "PRINT", "A=1_", "a=1", "PR \"A",
     "5END", " 5END", "\u{c}END", "END\r", "REM\r", "REM A_B", "REM \u{1f}", "REM \u{7f}", "REM \u{e9}", "PR \"_\"",
-    "PR \"\u{7f}\"",
+    "PR \"\u{7f}\"", "AANDB", "A=AANDB", "A=BORC", "IFADO", "IFA>BGOTOX", "FORI=1TOP", "GO TOP", "PRIN", "PRINT#5ANDB",
+    "NEWA=1", "RUNX", "ENDA",
 ];
 
 /// The program's records and its end mark, and nothing else.
@@ -108,6 +110,13 @@ fn first_digit(random: &mut Random, mut lines: Lines) -> Vec<u8> {
 fn no_reading(random: &mut Random, mut lines: Lines) -> Vec<u8> {
     let at = random.below(lines.len());
     lines[at].1 = random.pick(&NO_READINGS).to_string();
+    render(&lines)
+}
+
+/// A text without its spaces, which may still be read.
+fn squeezed(random: &mut Random, mut lines: Lines) -> Vec<u8> {
+    let at = random.below(lines.len());
+    lines[at].1.retain(|byte| byte != ' ');
     render(&lines)
 }
 
@@ -194,9 +203,10 @@ fn garbage(random: &mut Random, _: Lines) -> Vec<u8> {
 
 /// Texts that have one, for which ":" in them is a place.
 #[rustfmt::skip]
-const READINGS: [&str; 12] = [
+const READINGS: [&str; 21] = [
     "END", " END ", "END:END", "END : END", "REM", "REM :A:", "REM~^`", "END:REM:END", "PR \":\":END", "PR \"~:\"",
-    "IF A REM:END:", "DO:IF A END:DO",
+    "IF A REM:END:", "DO:IF A END:DO", "REMARK:END", "IFA>B GOTOX", "IFA REMARK:", "PRINTA:PRI", "GOTOP", "FORI=1TOB:NEXTI",
+    "PRINT#1FORB", "A=STATORTOPANDNOTB", "IF1THENIF2RETURN",
 ];
 
 /// Pages of a record or less.

@@ -43,7 +43,7 @@ fn snippet(scribe: &mut Scribe, own: &str) -> Vec<String> {
             lines.push(scribe.finish());
             scribe.list();
             lines.push(scribe.finish());
-            lines.push(format!("NEXT {letter}"));
+            scribe.words(&["NEXT", letter]);
         }
         1 => {
             lines.push("DO".to_string());
@@ -51,24 +51,21 @@ fn snippet(scribe: &mut Scribe, own: &str) -> Vec<String> {
             lines.push(scribe.finish());
             scribe.word("UNTIL");
             scribe.any_relation();
-            lines.push(scribe.finish());
         }
         2 => {
             scribe.gosub();
             lines.push(scribe.finish());
             scribe.list();
             lines.push(scribe.finish());
-            lines.push("RETURN".to_string());
+            scribe.word("RETURN");
         }
-        3 => lines.push(format!("GOSUB {own}:RETURN")),
-        4 => lines.push(format!("FOR {letter}=1 TO 2:GOTO {own}")),
-        5 => lines.push(format!("DO:GOTO {own}")),
-        6 => {
-            scribe.input();
-            lines.push(scribe.finish());
-        }
-        _ => lines.push(format!("FOR {letter}=1 TO 2:NEXT A")),
+        3 => scribe.words(&["GOSUB", own, ":", "RETURN"]),
+        4 => scribe.words(&["FOR", letter, "=", "1", "TO", "2", ":", "GOTO", own]),
+        5 => scribe.words(&["DO", ":", "GOTO", own]),
+        6 => scribe.input(),
+        _ => scribe.words(&["FOR", letter, "=", "1", "TO", "2", ":", "NEXT", "A"]),
     }
+    lines.push(scribe.finish());
     lines
 }
 
@@ -149,6 +146,13 @@ pub fn spoil(random: &mut Random, bytes: &mut Vec<u8>) {
     }
 }
 
+/// Takes spaces out, some of them or all: the words that then touch may be
+/// others, or none.
+pub fn squeeze(random: &mut Random, bytes: &mut Vec<u8>) {
+    let chance = *random.pick(&[50, 100]);
+    bytes.retain(|&byte| byte != b' ' || !random.percent(chance));
+}
+
 /// A page that holds the program, with anything behind the end mark.
 pub fn sound_page(random: &mut Random, size: Size, lines: &Lines) -> Vec<u8> {
     let mut page = render(lines);
@@ -171,7 +175,7 @@ pub fn any_page(random: &mut Random, size: Size, lines: &Lines) -> Vec<u8> {
         Size::Small => 0,
         Size::Full => 3,
     };
-    match random.weighted(&[1000, 60, 15, 15, 8, too_long]) {
+    match random.weighted(&[1000, 60, 20, 15, 8, too_long]) {
         0 => {}
         1 => spoil(random, &mut page),
         2 => {
@@ -189,12 +193,13 @@ pub fn any_page(random: &mut Random, size: Size, lines: &Lines) -> Vec<u8> {
 }
 
 /// A page of sound records but for one: out of order, there twice, with too
-/// large a number, a text over the limit, or without a statement.
+/// large a number, a text over the limit, without its spaces, or without a
+/// statement.
 fn misfit(random: &mut Random, lines: &Lines) -> Vec<u8> {
     let mut lines = lines.clone();
     if !lines.is_empty() {
         let at = random.below(lines.len());
-        match random.below(5) {
+        match random.below(7) {
             0 => lines.reverse(),
             1 => lines.insert(at, lines[at].clone()),
             2 => lines[at].0 |= 32_768,
@@ -202,8 +207,9 @@ fn misfit(random: &mut Random, lines: &Lines) -> Vec<u8> {
                 let text = std::mem::take(&mut lines[at].1);
                 lines[at].1 = padded(text, 73 - lines[at].0.to_string().len());
             }
+            4 | 5 => lines[at].1.retain(|byte| byte != ' '),
             _ => {
-                let texts = ["", " ", "END:", "5 END", "RUN", "A=1_"];
+                let texts = ["", " ", "END:", "5 END", "RUN", "A=1_", "A=AANDB", "RUNX"];
                 lines[at].1 = random.pick(&texts).to_string();
             }
         }

@@ -1,6 +1,7 @@
 //! Statements and statement lists, written from the grammar.
 
 use super::{Random, Size};
+use crate::words::{Word, Words};
 
 /// What a text may speak of.
 #[derive(Clone, Copy, Debug)]
@@ -17,42 +18,56 @@ pub struct Scribe<'a> {
     pub random: &'a mut Random,
     setting: Setting<'a>,
     text: String,
+    /// Where the word written last begins.
+    last: usize,
 }
 
-const LETTERS: [&str; 8] = ["A", "B", "C", "I", "I", "J", "N", "Z"];
+/// P makes another word of TO before it.
+const LETTERS: [&str; 9] = ["A", "B", "C", "I", "I", "J", "N", "P", "Z"];
 
 impl<'a> Scribe<'a> {
     pub fn new(random: &'a mut Random, setting: Setting<'a>) -> Scribe<'a> {
-        let text = String::new();
         Scribe {
             random,
             setting,
-            text,
+            text: String::new(),
+            last: 0,
         }
     }
 
     /// The text written so far; the scribe begins another.
     pub fn finish(&mut self) -> String {
+        self.last = 0;
         std::mem::take(&mut self.text)
     }
 
-    /// Adds a word, with a space before it where the two would run together,
-    /// and now and then where they would not.
+    /// Adds a word. It may touch the one before where the two stay two words;
+    /// letters and digits mostly have a space between them all the same.
     pub fn word(&mut self, word: &str) {
         let last = self.text.chars().next_back().unwrap_or(' ');
         let first = word.chars().next().unwrap_or(' ');
-        let joined = last.is_ascii_alphanumeric() && first.is_ascii_alphanumeric();
-        let chance = match self.setting.size {
-            Size::Small => 8,
-            Size::Full => 25,
+        let touching = last.is_ascii_alphanumeric() && first.is_ascii_alphanumeric();
+        let chance = match (touching, self.setting.size) {
+            (true, _) => 60,
+            (false, Size::Small) => 8,
+            (false, Size::Full) => 25,
         };
-        if joined || self.random.percent(chance) {
+        if self.random.percent(chance) || touching && !self.stays_apart(word) {
             self.text.push(' ');
         }
+        self.last = self.text.len();
         self.text.push_str(word);
     }
 
-    fn words(&mut self, words: &[&str]) {
+    /// Does the last word end where it does also with this one behind it?
+    fn stays_apart(&self, word: &str) -> bool {
+        let together = format!("{}{word}", &self.text[self.last..]);
+        let mut words = Words::new(together.as_bytes());
+        let found = words.next_word().1 != Word::Nothing;
+        found && words.position() == self.text.len() - self.last
+    }
+
+    pub fn words(&mut self, words: &[&str]) {
         words.iter().for_each(|word| self.word(word));
     }
 
@@ -295,7 +310,9 @@ impl<'a> Scribe<'a> {
 
     fn remark(&mut self) {
         self.word("REM");
-        let rests = ["", " A:B", ":", "1", " \"", " IF THEN", ":PRINT 1", " a~"];
+        let rests = [
+            "", " A:B", ":", "1", "ARK", " \"", " IF THEN", ":PRINT 1", " a~",
+        ];
         let rest = *self.random.pick(&rests);
         self.text.push_str(rest);
     }

@@ -1,25 +1,34 @@
 //! Typed lines and replies, as bytes of the input.
 
-use super::pages::{spoil, Lines};
+use super::pages::{spoil, squeeze, Lines};
 use super::texts::{Scribe, Setting};
 use super::{Random, Size};
 
 /// Lines where the longest word, or the grammar, decides in a way that is easy
 /// to get wrong.
 #[rustfmt::skip]
-const TRICKY: [&str; 48] = [
+const TRICKY: [&str; 70] = [
     "PRINT #1FOR 2", "PRINT #5AND 3", "PRINT #", "PRINT # 5", "PRINT1", "PRINTA", "PRINT 1<2<3",
     "PRINT 1< =2", "PRINT 1=<2", "PRINT 1><2", "PRINT 1<>=2", "PRINT -32768", "PRINT 32768",
     "PRINT 2--3", "PRINT 2*-3", "PRINT NOT -1", "PRINT @-1", "PRINT 1=-1", "PRINT (-1)", "PRINT",
     "PRINT 1,", "PRINT 1;2", "PRINT \"A\"\"B\"", "PRINT \"", "PRINT \"\"", "IF A=B=C", "A=B=C",
     "IF A B=C", "IF A=B C=1", "IF A@1=2", "IF A THEN THEN END", "IF A REM:", "REM", "REM1",
     "REMARK", "REM A:B", "A=1:B=2", "END:", ":", "GO TO 1", "GO  SUB 1", "GOTO", "GO 1",
-    "LET RETURN", "$0=1", "$0=$1", "A=$1", "NEW 5",
+    "LET RETURN", "$0=1", "$0=$1", "A=$1", "NEW 5", "GOTOX", "IFA>B GOTOX", "IFA>BGOTOX", "GOTOP", "GO TOP",
+    "PRI", "PRIN", "AANDB", "A=AANDB", "A=BORC", "IFADO", "IFA DO", "FORI=1TOP", "FORI=1TOB", "PRINT#1FORB",
+    "PRINT#5ANDB", "A=STATORTOP", "NEWA=1", "RUNX", "LISTA", "LIST10", "IF1THENEND",
+];
+
+#[rustfmt::skip]
+const WORDS: [&str; 29] = [
+    "LET", "GO", "TO", "SUB", "GOTO", "GOSUB", "RETURN", "PR", "PRINT", "IF", "THEN", "DO", "UNTIL",
+    "FOR", "STEP", "NEXT", "INPUT", "REM", "END", "STAT", "TOP", "MOD", "AND", "OR", "NOT", "NEW",
+    "CLEAR", "LIST", "RUN",
 ];
 
 /// The kept bytes of a typed line: mostly one that has a reading.
 pub fn line(random: &mut Random, setting: Setting) -> Vec<u8> {
-    let mut line = match random.weighted(&[45, 14, 20, 14, 7, 11, 6, 2, 4]) {
+    let mut line = match random.weighted(&[45, 14, 20, 14, 7, 11, 6, 2, 7, 5]) {
         0 => b"RUN".to_vec(),
         1 => jump(random, setting),
         2 => immediate(random, setting),
@@ -28,8 +37,12 @@ pub fn line(random: &mut Random, setting: Setting) -> Vec<u8> {
         5 => command(random),
         6 => written(random, setting, Scribe::program_only),
         7 => vec![b' '; random.below(4)],
-        _ => tricky(random),
+        8 => tricky(random),
+        _ => heap(random),
     };
+    if random.percent(12) {
+        squeeze(random, &mut line);
+    }
     if random.percent(9) {
         spoil(random, &mut line);
     }
@@ -41,10 +54,29 @@ pub fn line(random: &mut Random, setting: Setting) -> Vec<u8> {
 
 fn tricky(random: &mut Random) -> Vec<u8> {
     let text = *random.pick(&TRICKY);
+    perhaps_numbered(random, text)
+}
+
+fn perhaps_numbered(random: &mut Random, text: &str) -> Vec<u8> {
     match random.percent(40) {
         true => format!("{}{text}", random.below(40)).into_bytes(),
         false => text.as_bytes().to_vec(),
     }
+}
+
+/// Words, fronts of words, letters and other pieces, all written together.
+fn heap(random: &mut Random) -> Vec<u8> {
+    let mut text = String::new();
+    for _ in 0..random.between(1, 4) {
+        let word = *random.pick(&WORDS);
+        text += match random.weighted(&[40, 10, 25, 25]) {
+            0 => word,
+            1 => &word[..random.between(1, word.len())],
+            2 => *random.pick(&["A", "B", "I", "P", "X"]),
+            _ => *random.pick(&["=", "1", "#1", ">", "(A)", ",", ":", " "]),
+        };
+    }
+    perhaps_numbered(random, &text)
 }
 
 fn written<'a>(
@@ -105,6 +137,7 @@ fn command(random: &mut Random) -> Vec<u8> {
     let list = match random.below(8) {
         0 => "LIST 32768".to_string(),
         1 => "LIST #5".to_string(),
+        2 => format!("LIST{}", random.below(30)),
         _ => format!("LIST {}", random.below(30)),
     };
     let commands = [
@@ -159,12 +192,16 @@ pub fn typed_line(random: &mut Random, setting: Setting) -> Vec<u8> {
 pub fn replies(random: &mut Random, setting: Setting) -> Vec<u8> {
     let mut input = Vec::new();
     for _ in 0..random.below(5) {
-        let mut reply = match random.weighted(&[60, 5, 3, 4]) {
+        let mut reply = match random.weighted(&[60, 5, 3, 4, 4]) {
             0 => written(random, setting, Scribe::reply),
             1 => b"A\x01\xff \"".to_vec(),
             2 => Vec::new(),
-            _ => vec![b'1'; random.between(70, 76)],
+            3 => vec![b'1'; random.between(70, 76)],
+            _ => heap(random),
         };
+        if random.percent(15) {
+            squeeze(random, &mut reply);
+        }
         if random.percent(15) {
             spoil(random, &mut reply);
         }

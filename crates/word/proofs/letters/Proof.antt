@@ -1,51 +1,85 @@
--- `word::letters` meets its contract: each answer is a law of Answers. Assumes nothing.
+-- `word::letters` meets its contract: each answer is a law of Capitals. Assumes nothing.
+use Prim.Native.Nat.{_-_}
 use native.Mathlib.Omega.{arith}
-use Rattle.word.proofs.Runs.{between, end-within}
-use Rattle.nibl.specs.Bytes.{isCapital}
-use Rattle.word.proofs.Answers.{letters-one, letters-long, letters-none, letters-sign}
+use mathlib.Core.Path.{_∙_, sym}
 use borrow.Author.Needs.{needs}
+use borrow.Author.Tests.{not-true, not-false}
+use Rattle.nibl.specs.Bytes.{isCapital}
+use Rattle.word.specs.Found.{tableOf}
+use Rattle.word.proofs.Runs.{between, end-within}
+use Rattle.word.proofs.Capitals.{Tried, tried-first, tried-on, letters-one, letters-sign, letters-wrong}
 use Rattle.word.proofs.letters.Statement.{statement}
 use Rattle.word.proofs.letters.Tie as tie
 
-run-end-requires : tie.Need-run-end-requires
-run-end-requires c κs = search needs
+abbrev Inv-loop : tie.InvT-loop
+Inv-loop text from commands next to₀ to = Tried (tableOf commands) text from to
 
-sub-n : tie.Need-sub-n
-sub-n c = search needs
+abbrev μ-loop : tie.MeasureT-loop
+μ-loop text from commands next to₀ to = to
 
-shared-slice-read-t9 : tie.Need-shared-slice-read-t9
-shared-slice-read-t9 c = search needs
+add-next : tie.Need-add-next Inv-loop μ-loop
+add-next c = search needs
 
-sub-t10 : tie.Need-sub-t10
-sub-t10 c = between 65 90 _ (c .before .before .before .before .pre .1) .0
+letter-at-requires : tie.Need-letter-at-requires Inv-loop μ-loop
+letter-at-requires c κs = search needs
 
-returns : tie.Need-returns
+shared-slice-read-t10 : tie.Need-shared-slice-read-t10 Inv-loop μ-loop
+shared-slice-read-t10 c = search needs
+
+sub-t11 : tie.Need-sub-t11 Inv-loop μ-loop
+sub-t11 c = between 65 90 _ (c .before .before .before .before .pre .1) .0
+
+returns : tie.Need-returns Inv-loop μ-loop
 returns c =
-    let a = c .before .before .before .before .args in
-    letters-one (a .commands) (a .text .now) (a .from) (c .before .before .run-end .result) (c .before .before .before .before .pre .0) (c .before .before .before .before .pre .1) (c .before .before .run-end .ensures) (c .before .if1 .taken)
+    let s = c .before .before .before .before in
+    let a = s .args in
+    letters-one (a .commands) (a .text .now) (a .from) (s .pre .0) (s .pre .1) (sym (c .before .before .letter-at .ensures) ∙ not-true _ (c .before .if1 .taken))
 
-returns-2 : tie.Need-returns-2
-returns-2 c =
-    let a = c .before .before .before .before .args in
-    letters-long (a .commands) (a .text .now) (a .from) (c .before .before .run-end .result) (c .before .before .before .before .pre .0) (c .before .before .before .before .pre .1) (c .before .before .run-end .ensures) (c .if2 .taken)
+letters-end-requires : tie.Need-letters-end-requires Inv-loop μ-loop
+letters-end-requires c κs = c .before .before .before .pre .0
 
-key-requires : tie.Need-key-requires
+loop-holds : tie.Need-loop-holds Inv-loop μ-loop
+loop-holds c =
+    let s = c .before .before .before .before in
+    let a = s .args in
+    tried-first (a .commands) (a .text .now) (a .from) (s .pre .0) (s .pre .1) (c .letters-end .ensures)
+
+sub-loop : tie.Need-sub-loop Inv-loop μ-loop
+sub-loop c = search needs
+
+key-requires : tie.Need-key-requires Inv-loop μ-loop
 key-requires c κs =
-    let a = c .before .before .before .before .args in
-    (omega arith, omega (arith, end-within isCapital (a .text .now) (a .from) (omega arith)), omega arith)
+    let s = c .before .before .before .before .before .before in
+    let t = c .before .loop .inv in
+    (omega (arith, t .some), omega (arith, t .run, end-within isCapital (s .args .text .now) (s .args .from) (omega arith)), t .most)
 
-number-of-requires : tie.Need-number-of-requires
+number-of-requires : tie.Need-number-of-requires Inv-loop μ-loop
 number-of-requires c κs = search needs
 
-returns-3 : tie.Need-returns-3
-returns-3 c =
-    let a = c .before .before .before .before .before .before .before .args in
-    letters-none (a .commands) (a .text .now) (a .from) (c .before .before .before .before .before .run-end .result) (c .before .before .before .before .before .before .before .pre .0) (c .before .before .before .before .before .before .before .pre .1) (c .before .before .before .before .before .run-end .ensures) (c .before .before .before .before .if1 .left) (c .before .before .key .ensures) (c .before .number-of .ensures) (c .if3 .taken)
+returns-2 : tie.Need-returns-2 Inv-loop μ-loop
+returns-2 c =
+    let s = c .before .before .before .before .before .before .before .before .before in
+    let a = s .args in
+    letters-sign (a .commands) (a .text .now) (a .from) (s .pre .0) (s .pre .1) (c .before .before .before .before .loop .inv) (omega arith) (c .before .before .key .ensures) (c .before .number-of .ensures) (c .if2 .taken)
 
-returns-4 : tie.Need-returns-4
-returns-4 c =
-    let a = c .before .before .before .before .before .before .before .args in
-    letters-sign (a .commands) (a .text .now) (a .from) (c .before .before .before .before .before .run-end .result) (c .before .before .before .before .before .before .before .pre .0) (c .before .before .before .before .before .before .before .pre .1) (c .before .before .before .before .before .run-end .ensures) (c .before .before .before .before .if1 .left) (c .before .before .key .ensures) (c .before .number-of .ensures) (c .if3 .left)
+sub-to : tie.Need-sub-to Inv-loop μ-loop
+sub-to c = search needs
+
+loop-less : tie.Need-loop-less Inv-loop μ-loop
+loop-less c = omega arith
+
+loop-again : tie.Need-loop-again Inv-loop μ-loop
+loop-again c =
+    let s = c .before .before .before .before .before .before .before .before .before in
+    let a = s .args in
+    tried-on (a .commands) (a .text .now) (a .from) (s .pre .0) (s .pre .1) (c .before .before .before .before .loop .inv) (omega arith) (c .before .before .key .ensures) (c .before .number-of .ensures) (c .if2 .left)
+
+returns-3 : tie.Need-returns-3 Inv-loop μ-loop
+returns-3 c =
+    let s = c .before .before .before .before .before .before in
+    let a = s .args in
+    letters-wrong (a .commands) (a .text .now) (a .from) (s .pre .0) (s .pre .1) (sym (c .before .before .before .before .letter-at .ensures) ∙ not-false _ (c .before .before .before .if1 .left)) (c .before .loop .inv) (c .loop-test .left)
 
 pub letters-spec : {M : Type 1} → statement M
-letters-spec = tie.close (tie.spec run-end-requires sub-n shared-slice-read-t9 sub-t10 returns returns-2 key-requires number-of-requires returns-3 returns-4)
+letters-spec =
+    tie.close (tie.spec Inv-loop μ-loop add-next letter-at-requires shared-slice-read-t10 sub-t11 returns letters-end-requires loop-holds sub-loop key-requires number-of-requires returns-2 sub-to loop-less loop-again returns-3)

@@ -13,7 +13,7 @@ pub struct Written {
     pub name: String,
     pub gate: Gate,
     pub calls: Vec<Numbers>,
-    /// The stop that document 01 gives each of the calls.
+    /// The stop that the documents give each of the calls.
     pub stops: Vec<u8>,
 }
 

@@ -5,7 +5,7 @@ use model::random::pages::Lines;
 
 /// A statement, a stop or an edge of one each. Lines stand 10 apart, and each program is run with the replies beside it.
 #[rustfmt::skip]
-const WRITTEN: [(&[&str], &str); 65] = [
+const WRITTEN: [(&[&str], &str); 74] = [
     (&["A=1:B=A+2:LET C=B*B-A/2", "PRINT A,B,C"], ""),
     (&["A=32767+1:B=-32767-2:C=A*B:D=MOD(C,7)", "PRINT A,B,C,D;"], ""),
     (&["PRINT -32767-1,32767,#FFFF,#7F", "PRINT \"\"", "PRINT \"COW\";:PRINT \" \",1<2,2<1"], ""),
@@ -33,6 +33,9 @@ const WRITTEN: [(&[&str], &str); 65] = [
     (&["INPUT A:PRINT A", "INPUT B,C:PRINT B+C"], "42\r1,2\r"), (&["INPUT A"], "X=\r"), (&["INPUT A,B"], "1\r"), (&["INPUT A"], "1"),
     (&["INPUT A:INPUT B"], "1\r"), (&["INPUT A"], "111111111122222222223333333333444444444455555555556666666666777777777788\r"),
     (&["INPUT $4:PRINT $4:INPUT $60"], "MILK\rMUCH\r"), (&["A=3:INPUT A,B:PRINT B"], "7,A+@0\r"), (&["REM A:B=1", "END:PRINT 1", "REM"], ""),
+    (&["FORI=1TO3:PRINTI;:NEXTI", "IFI>3GOTO30", "PRINT\"NO\"", "REMARK:PRINT 1"], ""), (&["P=20:GOTOP", "END", "PRI:LETSTAT=STATOR2:PRSTAT"], ""),
+    (&["GOSUB20:PRINTA;:END", "END", "A=NOTA:RETURN"], ""), (&["DO:A=A+1:UNTILA=3:IFA=3THENPRINTTOP"], ""), (&["IFA IFB END", "IFNOTA IFNOTB END"], ""),
+    (&["INPUTA,B:PRINTA,A ORB;"], "NOTB,STATORA\r"), (&["INPUTA"], "AANDB\r"), (&["INPUTA,B"], "1,TOPA\r"), (&["PRINT#1FORA,#5 ANDNOTA"], ""),
 ];
 
 /// How often a paused run goes on.

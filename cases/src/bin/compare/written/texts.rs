@@ -20,9 +20,15 @@ const LINES: &str = "\
     10 LIST 5|10 10 END|#10 END|10#10|NEW| NEW |NEW 1|CLEAR|CLEAR:|RUN|RUN 10|RUNS|RUN:RUN|LIST|LIST 7|LIST7|\
     LIST #7|LIST 32767|LIST 32768|LIST 1 2|LIST A|LIST,|LISTA|LET LIST=1|A=1:B=2|A=1:|10 A=1:|10:END|10 END::END|\
     10 END:REM :A:\"|10 PRINT \"A:B\":END|10 PRINT \"A:B|IF 1 IF 2 THEN NEXT A|IF 1 IF 2 THEN A=1|IF 1 NEW|\
-    INPUT A,B|INPUT $7|REM DO|DO";
+    INPUT A,B|INPUT $7|REM DO|DO|\
+    IFA>B GOTOX|IFA>BGOTOX|IFA>1GOTOX|PRINTA|PRINTAA|REMARK|10REMARK:A|GOTOP|GO TOP|GO TO P|GOTOTOP|PRI|PRIN|PRINTTOP|\
+    AANDB|A=AANDB|A=A ANDB|A=(A)ANDB|IFADO|IFA DO|IFAEND|IF1END|IF1THENEND|A=BORC|A=B ORC|A=STATORTOPANDNOTB|\
+    FOR I=1TOP|10FOR I=1TOP|10FORI=1TO P|10FORI=1TOB|10FORI=ATOB|10FORI=#ATO#BSTEP#C|10NEXTI|10NEXTIJ|10INPUTA,B|\
+    10INPUTAB|PRINT#5AND 3|PRINT#5ANDB|PRINT#1FORB|PRINT#1ORB|NEWA=1|NEWNEW|RUNX|RUNEND|LISTA|LISTTOP|LIST10|CLEARA|\
+    10NEWA=1|IF1RUN|PRINTRUN|LETSTAT=NOTNOTA|GOSUBNOT0";
 
-/// Every keyword and command, whole, cut, lengthened to seven letters and more, misspelt, and with neighbours.
+/// Every keyword and command, whole, cut, lengthened to seven letters and more, misspelt, and with neighbours that touch it or
+/// do not.
 fn near_keywords(texts: &mut Vec<String>) {
     for word in KEYWORDS.iter().chain(&COMMANDS) {
         let last = word.len() - 1;
@@ -35,7 +41,14 @@ fn near_keywords(texts: &mut Vec<String>) {
         texts.extend((1..8).map(|n| format!("{word}{}", "A".repeat(n))));
         texts.extend([word.to_lowercase(), format!("{}@", &word[..last])]);
         texts.extend(KEYWORDS.map(|other| format!("{word}{other}")));
+        texts.extend(letters().flat_map(|c| [format!("{word}{c}"), format!("{word}{c}=1")]));
+        texts.extend(["A", "1", "P=1", " A"].map(|s| format!("{word}NOT{s}")));
+        texts.extend(["B", "B C", "1", "NOTB"].map(|s| format!("A {word}{s}")));
     }
+}
+
+fn letters() -> impl Iterator<Item = char> {
+    (b'A'..=b'Z').map(char::from)
 }
 
 #[rustfmt::skip]
@@ -61,7 +74,6 @@ fn constants(texts: &mut Vec<String>) {
 
 /// Runs of capitals of every length up to a line's, and all of two.
 fn runs(texts: &mut Vec<String>) {
-    let letters = || (b'A'..=b'Z').map(char::from);
     texts.extend(letters().flat_map(|a| letters().map(move |b| format!("{a}{b}"))));
     texts.extend((0..=72).map(|n| "Z".repeat(n)));
     texts.extend((0..=72).map(|n| format!("{}A{}", " ".repeat(n), " ".repeat(72 - n))));
@@ -110,12 +122,15 @@ fn texts() -> Vec<Vec<u8>> {
 
 /// What stands before a text: it is a line, or a part of one, or the reply to a line 10 for one, two or three values or
 /// for a string.
-const FRONTS: [(&str, &str); 9] = [
+const FRONTS: [(&str, &str); 12] = [
     ("", ""),
     ("", "PRINT "),
     ("", "A="),
     ("", "10"),
     ("", "10 IF 1 PRINT "),
+    ("", "PRINT"),
+    ("", "IFA"),
+    ("", "10FORI=1"),
     ("INPUT A:PRINT A", "RUN\r"),
     ("INPUT A,B:PRINT A,B", "RUN\r"),
     ("INPUT A,B,C:PRINT A+B+C", "RUN\r"),

@@ -74,6 +74,9 @@ fn edits() -> Vec<Written> {
         fresh("a listing, typed again", &[])
             .lines(&["  5A=1:REM X", "0010 PRINT A ; ", "LIST", "NEW", "5A=1:REM X", "10 PRINT A ; ", "LIST", "RUN"])
             .types(0).types(0).types(0).types(0).types(0).types(0).types(0).types(0),
+        fresh("lines written together, stored, refused and run", &[])
+            .lines(&["10FORI=1TOP", "10FORI=1TO P", "20PRINTI;:NEXTI", "30A=AANDI", "30A=A ANDI", "P=2", "GOTO10", "LIST30", "NEWA=1", "GOTO10"])
+            .types(5).types(0).types(0).types(5).types(0).types(0).types(0).types(0).types(5).types(0),
         fresh("a page filled and emptied", &[])
             .page(20)
             .lines(&["10 A=1", "20 A=2", "30", "15END", "10", "15END", "20", "15 REM 12345", "15"])

@@ -42,9 +42,11 @@ fn no_cr() -> Vec<Written> {
 }
 
 #[rustfmt::skip]
-const NO_READING: [&str; 15] = [
+const NO_READING: [&str; 33] = [
     "NONSENSE", "A=1:B=2", "PRINT", "PRINT -32768", "PRINT 1<2<3", "A=32768", "PRINT \"A", "a=1", "IF 1 THEN RUN", "NEW 1",
     "LIST 32768", "10 NEW", "10 20 END", "32768 END", "32768",
+    "AANDB", "A=AANDB", "A=BORC", "PRINTAB", "IFADO", "IFA>BGOTOX", "30IFAEND", "FOR I=1TOP", "30 FORI=1TOP", "GO TOP", "PRIN",
+    "PRINT#5ANDB", "NEWA=1", "NEWS", "RUNX", "CLEARA", "LISTA", "30LIST10",
 ];
 
 fn no_reading() -> Vec<Written> {
@@ -65,9 +67,10 @@ fn no_reading() -> Vec<Written> {
 }
 
 #[rustfmt::skip]
-const NOT_IMMEDIATE: [&str; 11] = [
+const NOT_IMMEDIATE: [&str; 15] = [
     "DO", "UNTIL 1", "FOR I=1 TO 2", "NEXT I", "INPUT A", "INPUT $0",
     "IF 0 DO", "IF 1 THEN UNTIL 1", "IF 0 THEN IF 0 FOR I=1/0 TO 2 STEP 3", "IF 1 NEXT I", "IF 0 INPUT A,B",
+    "FOR I=1TOB", "FORI=1TO9", "IFA DO", "IF0THENINPUTA,B",
 ];
 
 /// The reply behind the line is not taken.
@@ -106,7 +109,7 @@ fn page_full() -> Vec<Written> {
 const FOUR: [&str; 4] = ["10 A=1", "20 GOSUB 40:B=2", "30 PRINT A", "40 RETURN"];
 
 #[rustfmt::skip]
-const EDITS: [(&str, &str); 21] = [
+const EDITS: [(&str, &str); 24] = [
     ("delete the first line", "10"),
     ("delete a line in the middle", "20"),
     ("delete the last line", "40"),
@@ -124,6 +127,9 @@ const EDITS: [(&str, &str); 21] = [
     ("replace a line by itself", "20 GOSUB 40:B=2"),
     ("replace the last line", "40 RETURN:END"),
     ("a text keeps its spaces", "  15   A = 1  "),
+    ("insert words written together", "25FORI=1TOB:IFNOTI GOTOX"),
+    ("insert a remark without a space", "25REMARK:A=1"),
+    ("replace by words written together", "30PRINTA"),
     ("no byte is typed", ""),
     ("spaces are typed", "   "),
     ("all that is typed is taken back", "\0\nAB__\nNEW\x15_\0"),
@@ -179,11 +185,13 @@ fn commands() -> Vec<Written> {
 
 // One statement, run at once: its stop has no line, and it is no step.
 
-/// A is 3, B is 10 and C is 17. On the stack of GOSUBs are the place that ends the program and the immediate mark.
+/// A is 3, B is 10, C is 17, I is 59 and P is 108; no line has the number of X.
+/// On the stack of GOSUBs are the place that ends the program and the immediate
+/// mark.
 const SHORT: [&str; 3] = ["10 A=A+1:B=2", "20 RETURN", "30 END"];
 
 #[rustfmt::skip]
-const STATEMENTS: [(u8, &str); 33] = [
+const STATEMENTS: [(u8, &str); 49] = [
     (0, "LET A=B+C*2"), (0, "A=B=C"), (0, "STAT=255"), (0, "PRINT STAT,TOP;"), (0, "@31=#1FF"), (0, "LET $6=\"BARN\""),
     (0, "$1=$0"), (0, "$27=$0"), (0, "PRINT A,$0,\"X\""), (0, "REM ANY:THING"), (0, "IF 0 A=1/0"), (0, "IF A THEN IF B C=-1"),
     (0, "RETURN"), (0, "GOSUB 20"),
@@ -192,6 +200,9 @@ const STATEMENTS: [(u8, &str); 33] = [
     (16, "A=@32"), (16, "PRINT @(-1)"), (16, "A=@32/0"), (16, "@32=1"), (16, "PRINT \"X\",$5"),
     (16, "$29=\"ABC\""), (16, "$10=$5"), (16, "$28=$0"),
     (20, "END"), (20, "IF 1 END"), (20, "GOTO 30"), (20, "GOSUB 30"),
+    (0, "PRINTA"), (0, "PRI"), (0, "REMARK"), (0, "IFA>B GOTOX"), (8, "IFA<B GOTOX"), (8, "GOTOP"), (8, "GOTO P"), (8, "GOSUBTOP"),
+    (0, "PRINT#1FORB;"), (0, "PRINT#1ORB,A ANDB;"), (0, "PRINTTOPORSTATANDNOTB"), (0, "LETSTAT=NOTNOTA"), (0, "LETC=MOD(B,A)ORB"),
+    (13, "PRINTNOTA/0"), (16, "A=NOT@32"), (20, "IFNOTA=-4THENIFB>A END"),
 ];
 
 fn statements() -> Vec<Written> {

@@ -97,7 +97,7 @@ fn at_the_limits() -> Vec<Written> {
 }
 
 #[rustfmt::skip]
-const BAD_PAGES: [(&str, Change); 22] = [
+const BAD_PAGES: [(&str, Change); 27] = [
     ("no end mark", |gate| gate.page.truncate(18)),
     ("half an end mark", |gate| gate.page.truncate(19)),
     ("an end mark with another second byte", |gate| gate.page[19] = 254),
@@ -119,13 +119,24 @@ const BAD_PAGES: [(&str, Change); 22] = [
     ("a text without a reading", |gate| gate.page[13] = b'A'),
     ("a text of spaces", |gate| gate.page[11..17].fill(b' ')),
     ("a command for a text", |gate| gate.page = page_of(&["20 NEW"])),
+    ("a command with more behind it for a text", |gate| gate.page = page_of(&["20NEWA=1"])),
+    ("a text with a letter before a keyword", |gate| gate.page = page_of(&["10PRINTA", "20A=AANDB"])),
+    ("a text with a keyword behind an IF's letter", |gate| gate.page = page_of(&["10REMARK", "20IFADO"])),
+    ("a text with TO and P written together", |gate| gate.page = page_of(&["20 FOR I=1TOP"])),
+    ("a text with a part of a keyword", |gate| gate.page = page_of(&["20 PRIN"])),
     ("73 bytes of number and text", |gate| gate.page = page_of(&[&format!("10 REM {}", "X".repeat(66))])),
 ];
 
 fn bad_pages() -> Vec<Written> {
     let bad = BAD_PAGES.map(|(name, change)| refused(18, name, &TWO, change));
     let longest = format!("10 REM {}", "X".repeat(65));
+    let together = [
+        "10FORI=1TO2:PRINTI;:NEXTI",
+        "20IFNOTI=0GOTOX",
+        "30REMARK:END",
+    ];
     let good = [
+        fresh("words written together in a page", &together).lines(&["RUN"]),
         fresh("72 bytes of number and text", &[&longest]).lines(&["RUN"]),
         fresh("an end mark before the page's end", &TWO)
             .lines(&["RUN"])

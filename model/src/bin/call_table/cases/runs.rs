@@ -9,7 +9,7 @@ pub fn cases() -> Vec<Written> {
 }
 
 #[rustfmt::skip]
-const DONE: [Run; 12] = [
+const DONE: [Run; 15] = [
     (0, "values", &["10 A=7/2:B=-7/2:C=MOD(-7,2):D=300*300:E=32767+1", "20 F=#8000/#FFFF:G=NOT 5:H=6 AND 3 OR 8:I=#12345", "30 J=1<2:K=B>=A:L=A<>3"], ""),
     (0, "bytes of the memory", &["10 @31=#105:A=@31:B=@@31"], ""),
     (0, "strings copied over themselves", &["10 $8=\"ABC\":$9=$8:$7=$9:PRINT $7,$0"], ""),
@@ -21,6 +21,9 @@ const DONE: [Run; 12] = [
     (0, "a false IF within another, in the last line", &["10 IF 1 IF 0 A=1:B=2"], ""),
     (0, "colons in a string and in a remark", &["10 PRINT \":\";:REM :END", "20 A=1"], ""),
     (0, "INPUT of values, one after another", &["10 INPUT A,B,C"], "7,A+1,B*2,IGNORED%\"\r"),
+    (0, "words written together in a run", &["10FORI=1TO3STEP2:A=A+I:NEXTI", "20IFNOTA=0GOTOX", "30GOSUB60:IFA=4THENIFB<A PRINTA,TOP;", "40P=70:GOTOP", "50A=0", "60DO:B=B+1:UNTILB>STATAND3:RETURN", "70REMARK:A=0"], ""),
+    (0, "INPUT of values written together", &["10INPUTA,B,C"], "NOT0,1ORA,STATORTOPANDB,AANDB\r"),
+    (0, "INPUT of a string written together", &["10INPUT$3:PRINT$3;"], "AANDB\r"),
     (0, "INPUT of a string, any kept bytes", &["10 INPUT $3:PRINT $0;"], "NO\x15HAX_Y\x01\t\rNEW\r"),
 ];
 
@@ -36,12 +39,16 @@ fn done() -> Vec<Written> {
 }
 
 #[rustfmt::skip]
-const STOPPED: [Run; 32] = [
+const STOPPED: [Run; 36] = [
     (6, "a reply without a reading", &["10 INPUT A"], "X=\r"),
     (6, "one relation for two", &["10 INPUT A,B"], "5\r"),
     (6, "more behind the last relation", &["10 INPUT A"], "1/0 2\r"),
     (6, "a reply above 32,767", &["10 A=7:INPUT A"], "32768\r"),
     (6, "byte 9 in a reply", &["10 INPUT A"], "1\t\r"),
+    (6, "a reply with a letter before a keyword", &["10INPUTA,B"], "1,AANDB\r"),
+    (6, "a reply with a part of a keyword", &["10 INPUT A"], "NO\r"),
+    (6, "a reply with a hex constant that takes a letter", &["10 INPUT A"], "#5ANDA\r"),
+    (6, "a reply with TOP and a letter", &["10 INPUT A"], "TOPA\r"),
     (6, "an over-long reply", &["10 A=7:INPUT A"], LONG_REPLY),
     (6, "an over-long reply for a string", &["10 INPUT $0"], LONG_REPLY),
     (7, "INPUT without a CR", &["10 A=5:INPUT A"], "12"),
