@@ -1,0 +1,5 @@
+pub mod GrammarKept
+pub mod PageKept
+pub mod Unread
+pub mod RunTogether
+pub mod Together
