@@ -229,7 +229,7 @@ apart w s h (v ∷ vs) a = rw (go (begins v s) refl) (apart w s h vs (and-right 
     go true e = absurd (false≢true (sym (not-true (meets v w) (and-left (not (meets v w)) _ a)) ∙ both-begin v w s e h))
     go false e = rw (e, or-true (leb (length v) 1))
 
-no-keyword : (c b k : ℕ) (cs s : List ℕ) → Keyword commands (c ∷ b ∷ cs) k s → stepIn keywords (c ∷ b ∷ cs ++ s) ≡ wrong
+pub no-keyword : (c b k : ℕ) (cs s : List ℕ) → Keyword commands (c ∷ b ∷ cs) k s → stepIn keywords (c ∷ b ∷ cs ++ s) ≡ wrong
 no-keyword c b k cs s r =
     let w : List ℕ = c ∷ b ∷ cs in
     no-word keywords c (b ∷ cs ++ s) (first-of (r .each)) (first-of (rest-of (r .each)))

@@ -75,7 +75,8 @@ begins (c ∷ w) (b ∷ s) = eqb c b && begins w s
 unfoldable pub noneOver : ℕ → List (List ℕ) → List ℕ → Bool
 noneOver n table s = all (λ (w : List ℕ). leb (length w) n || not (begins w s)) table
 
--- the letters w, a keyword whose number is k, stand before s: "where a letter stands, the longest keyword that begins there is taken"
+-- the letters w, a keyword whose number is k, stand before s: "where a letter stands, the longest keyword that begins there is taken". A
+-- longer one would be of the letters that stand there: those of w and the first of s
 pub record Keyword (table : List (List ℕ)) (w : List ℕ) (k : ℕ) (s : List ℕ) : Type 0 where
   pub each : All isCapital w
   pub spelled : indexIn table w ≡ some k
