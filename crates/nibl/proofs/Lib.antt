@@ -10,6 +10,8 @@ pub mod Sound
 pub mod Statements
 pub mod Complete
 pub mod Desk
+pub mod Spots
+pub mod Taken
 pub mod Ends
 pub mod Exact
 pub mod Lines
