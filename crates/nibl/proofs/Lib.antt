@@ -12,6 +12,7 @@ pub mod Complete
 pub mod Desk
 pub mod Spots
 pub mod Taken
+pub mod Spot
 pub mod Ends
 pub mod Exact
 pub mod Lines
