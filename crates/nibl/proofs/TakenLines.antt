@@ -27,8 +27,7 @@ by-cases : {A : Type 0} (f : ℕ → A) (g : List ℕ → A) (cs : Cases) → ma
 by-cases f g [] e k h = let z : _≡_ {A = ℕ} 0 1 = cc in absurd (omega arith)
 by-cases f g (c ∷ cs) e {q} k h =
     if-split (λ (o : Option (List ℕ)). o ≡ some q → f k ≡ g q) (eqb k (c .0))
-    (λ t i. let n : k ≡ c .0 = eqb-true k (c .0) t in cc)
-    (λ t i. by-cases f g cs (cc) k i) h
+    (λ t i. let n : k ≡ c .0 = eqb-true k (c .0) t in cc) (λ t i. by-cases f g cs (cc) k i) h
 
 joint-case : (r : List ℕ) (js : Joints) {o : Op} (k : ℕ) → jointOf js k ≡ some o → caseIn (jointCases r js) k ≡ some r
 joint-case r [] k h = let z : _≡_ {A = ℕ} 0 1 = cc in absurd (omega arith)
@@ -48,7 +47,8 @@ turns-by : {cs : Cases} {top rest : List ℕ} → isRemark top ≡ false
     → map (λ (c : ℕ × List ℕ). turn (c .0) top) cs ≡ map (λ (c : ℕ × List ℕ). some (c .1 ++ rest)) cs → Turns cs top rest
 turns-by {cs} {top} {rest} p e = record { plain = p; turns = by-cases (λ k. turn k top) (λ q. some (q ++ rest)) cs e }
 
-takes-by : {cs : Cases} {top rest q s t : List ℕ} {w : Token} → Turns cs top rest → W s w t → caseIn cs (sortOf w) ≡ some q → Taken (q ++ rest) t → Taken top s
+takes-by : {cs : Cases} {top rest q s t : List ℕ} {w : Token} → Turns cs top rest → W s w t → caseIn cs (sortOf w) ≡ some q
+    → Taken (q ++ rest) t → Taken top s
 takes-by {w} o k e h = takes (o .plain) k (o .turns (sortOf w) e) h
 
 -- some of the cases
@@ -76,7 +76,8 @@ module _ {rest : List ℕ} where
   unfolding turn
   first-turns = turns-by refl refl
 
-  joint-taken : (r : List ℕ) (js : Joints) {top s t : List ℕ} {o : Op} → Turns (jointCases r js) top rest → Joint W js s o t → Taken (r ++ rest) t → Taken top s
+  joint-taken : (r : List ℕ) (js : Joints) {top s t : List ℕ} {o : Op} → Turns (jointCases r js) top rest → Joint W js s o t
+      → Taken (r ++ rest) t → Taken top s
   joint-taken r js o (joint {k} w e) h = takes-by o w (joint-case r js k e) h
 
   factors-on : {m : ℕ} {s t : List ℕ} {o : Op} → More m → Joint W factorJoints s o t → Taken (factor ∷ m ∷ rest) t → Taken (m ∷ rest) s
@@ -109,11 +110,13 @@ mutual
       takes-by o w refl (takes refl b refl (relation-taken r first-turns (λ m i.
       after-more i k refl refl (relation-taken q first-turns (λ m' i'. after-more i' c refl refl h)))))
 
-  term-taken : {m : ℕ} {top rest s s' : List ℕ} {a : Expr} → Term W s a s' → Turns factorCases top (m ∷ rest) → More m → Taken (m ∷ rest) s' → Taken top s
+  term-taken : {m : ℕ} {top rest s s' : List ℕ} {a : Expr} → Term W s a s' → Turns factorCases top (m ∷ rest) → More m
+      → Taken (m ∷ rest) s' → Taken top s
   term-taken (aFactor f) o m h = factor-taken f o h
   term-taken (factors t j f) o m h = term-taken t o m (factors-on m j (factor-taken f factor-turns h))
 
-  sum-taken : {m : ℕ} {top rest s s' : List ℕ} {a : Expr} → Sum W s a s' → Turns firstCases top (m ∷ rest) → More m → Taken (m ∷ rest) s' → Taken top s
+  sum-taken : {m : ℕ} {top rest s s' : List ℕ} {a : Expr} → Sum W s a s' → Turns firstCases top (m ∷ rest) → More m
+      → Taken (m ∷ rest) s' → Taken top s
   sum-taken (aTerm noWord t) o m h = term-taken t (fewer refl o) m h
   sum-taken (aTerm (aWord w) t) o m h = takes-by o w refl (term-taken t factor-turns m h)
   sum-taken (lessTerm w t) o m h = takes-by o w refl (term-taken t factor-turns m h)
@@ -160,7 +163,8 @@ module _ (rest : List ℕ) (n : isRemark rest ≡ false) where
       go m ofRelation = h (m ∷ rest) (ends refl refl)
       go m ofSum = h (m ∷ rest) (ends refl refl)
 
-  let-taken : {top s t : List ℕ} → Turns statementCases top rest → May W "LET" s t → ((x : List ℕ) → Turns targetCases x rest → Taken x t) → Taken top s
+  let-taken : {top s t : List ℕ} → Turns statementCases top rest → May W "LET" s t
+      → ((x : List ℕ) → Turns targetCases x rest → Taken x t) → Taken top s
   unfolding turn
   let-taken {top} o noWord h = h top (fewer refl o)
   let-taken o (aWord w) h = takes-by o w refl (h (target ∷ rest) (turns-by refl refl))
@@ -193,7 +197,8 @@ module _ (rest : List ℕ) (n : isRemark rest ≡ false) where
   step-taken {m} noStep ofSum h = h (m ∷ forStep ∷ rest) (ends refl refl)
   step-taken (someStep w r) i h = after-more i w refl refl (value-taken r h)
 
-  variables-taken : {top s s' vs : List ℕ} → isRemark top ≡ false → turn aName top ≡ some (moreVariables ∷ rest) → Variables W s vs s' → Onward s' → Taken top s
+  variables-taken : {top s s' vs : List ℕ} → isRemark top ≡ false → turn aName top ≡ some (moreVariables ∷ rest) → Variables W s vs s'
+      → Onward s' → Taken top s
   unfolding turn
   variables-taken p e (lastVariable w) h = takes p w e (h (moreVariables ∷ rest) (ends refl refl))
   variables-taken p e (variablesOn w k vs) h = takes p w e (takes refl k refl (variables-taken refl refl vs h))
@@ -207,7 +212,8 @@ module _ (rest : List ℕ) (n : isRemark rest ≡ false) where
   statement-taken (aLetText m w f k b) o h =
       let-taken o m (λ x i. takes-by i w refl (factor-taken f factor-turns (takes refl k refl (takes refl b refl (onward h)))))
   statement-taken (aLetCopy m w f k d g) o h =
-      let-taken o m (λ x i. takes-by i w refl (factor-taken f factor-turns (takes refl k refl (takes refl d refl (factor-taken g factor-turns (onward h))))))
+      let-taken o m (λ x i. takes-by i w refl (factor-taken f factor-turns (takes refl k refl (takes refl d refl (
+      factor-taken g factor-turns (onward h))))))
   statement-taken (aGoto (whole w) r) o h = takes-by o w refl (value-taken r h)
   statement-taken (aGoto (parted w k) r) o h = takes-by o w refl (takes refl k refl (value-taken r h))
   statement-taken (aGosub (whole w) r) o h = takes-by o w refl (value-taken r h)
