@@ -9,11 +9,11 @@ use native.Mathlib.Omega.{arith}
 use borrow.Author.Tests.{eqb-true, eqb-false}
 use lib.Dec.{leb, eqb}
 use lib.ListN.{length}
-use Rattle.nibl.specs.Bytes.{if_then_else_, same, isSpace, isDigit, isCapital, isHexDigit, isQuotable, All, none as done, each, starts, front, all, decimalValue, hexValue}
-use Rattle.nibl.specs.Words.{Token, variable, decimal, hex, string, sign, indexFrom, pairs, pairsWith, isSymbol, Run, begins, noneOver, Keyword, Word, spaced, keyword, letter, decimalDigits, hexDigits, quoted, pair, symbol}
+use Rattle.nibl.specs.Bytes.{if_then_else_, isSpace, isDigit, isCapital, isHexDigit, isQuotable, All, none as done, each, starts, front, all, decimalValue, hexValue}
+use Rattle.nibl.specs.Words.{Token, variable, decimal, hex, string, sign, indexIn, there, pairs, pairsWith, isSymbol, Run, begins, noneOver, Keyword, Word, spaced, keyword, letter, decimalDigits, hexDigits, quoted, pair, symbol}
 use Rattle.nibl.specs.Column.{sortOf, aText, isOpenString, spellings}
 use Rattle.nibl.proofs.Tests.{if-split, and-left, and-right, or-cases, or-true, of-pairs, between, all-true}
-use Rattle.nibl.proofs.Keywords.{first-of}
+use Rattle.nibl.proofs.Keywords.{entries, of-table, first-of}
 
 -- A text in two ways
 pub data Split (p u s t : List ℕ) : Type 0 where
@@ -76,30 +76,8 @@ value-shorter n [] t = value-grows n t
 value-shorter n (d ∷ s) t = value-shorter (n * 10 + (d - 48)) s t
 
 -- Spellings
-unfoldable pub isIn : List ℕ → List (List ℕ) → Bool
-isIn z [] = false
-isIn z (y ∷ ys) = same y z || isIn z ys
-
-pub in-left : (z : List ℕ) (xs ys : List (List ℕ)) → isIn z xs ≡ true → isIn z (xs ++ ys) ≡ true
-unfolding isIn
-in-left z [] ys e = absurd (false≢true e)
-in-left z (x ∷ xs) ys e =
-    or-cases (same x z) (isIn z xs) e (λ h. rw h) (λ h. rw (in-left z xs ys h) (or-true (same x z)))
-
-pub in-right : (z : List ℕ) (xs ys : List (List ℕ)) → isIn z ys ≡ true → isIn z (xs ++ ys) ≡ true
-unfolding isIn
-in-right z [] ys e = e
-in-right z (x ∷ xs) ys e = rw (in-right z xs ys e) (or-true (same x z))
-
-index-in : (n : ℕ) (table : List (List ℕ)) (w : List ℕ) (k : ℕ) → indexFrom n table w ≡ some k → isIn w table ≡ true
-unfolding isIn
-index-in n [] w k e = let z : _≡_ {A = ℕ} 0 1 = cc in absurd (omega arith)
-index-in n (v ∷ vs) w k e = go (same v w) (index-in (suc n) vs w k) e
-  where
-    go : (t : Bool) → (indexFrom (suc n) vs w ≡ some k → isIn w vs ≡ true) → (if t then some n else indexFrom (suc n) vs w) ≡ some k
-        → (t || isIn w vs) ≡ true
-    go true f h = refl
-    go false f h = f h
+unfoldable pub isSpelling : List ℕ → Bool
+isSpelling z = there (indexIn spellings z)
 
 -- what holds of each of n numbers from lo on
 abbrev count : ℕ → ℕ → List ℕ
@@ -116,10 +94,10 @@ of-count p lo (suc n) b h l a =
     go false e f = let d = eqb-false lo b e in f (omega arith)
 
 -- "#" and a digit
-hex-in : (d : ℕ) → isHexDigit d ≡ true → isIn (35 ∷ d ∷ []) spellings ≡ true
-unfolding isIn
-hex-in d e =
-    let p : ℕ → Bool = λ x. isIn (35 ∷ x ∷ []) spellings in
+hex-spelling : (d : ℕ) → isHexDigit d ≡ true → isSpelling (35 ∷ d ∷ []) ≡ true
+unfolding isSpelling
+hex-spelling d e =
+    let p : ℕ → Bool = λ x. isSpelling (35 ∷ x ∷ []) in
     or-cases (isDigit d) (leb 65 d && leb d 70) e
     (λ h. let i = between 48 57 d h in of-count p 48 10 d (i .0) (omega arith) refl)
     (λ h. let i = between 65 70 d h in of-count p 65 6 d (i .0) (omega arith) refl)
@@ -127,7 +105,7 @@ hex-in d e =
 -- the text, cut before c, may have begun a word of which c is the rest
 pub data Begun : List ℕ → List ℕ → Type 0 where
   whole : {s : List ℕ} → Begun s []
-  part : (p a c : List ℕ) (x y : ℕ) → isIn ((x ∷ a) ++ (y ∷ c)) spellings ≡ true → Begun (p ++ (x ∷ a)) (y ∷ c)
+  part : (p a c : List ℕ) (x y : ℕ) → isSpelling ((x ∷ a) ++ (y ∷ c)) ≡ true → Begun (p ++ (x ∷ a)) (y ∷ c)
 
 pub begun-behind : (q : List ℕ) {s c : List ℕ} → Begun s c → Begun (q ++ s) c
 begun-behind [] h = h
@@ -141,15 +119,15 @@ begun-behind (b ∷ q) {s} {c} h = go (begun-behind q h)
 pub data Cut (table : List (List ℕ)) (s t : List ℕ) (w : Token) (u : List ℕ) : Type 0 where
   spaces : All isSpace s → Cut table s t w u
   within : (q v : List ℕ) → s ≡ q ++ v → u ≡ v ++ t → ((c d : List ℕ) → t ≡ c ++ d → Word table (s ++ c) w (v ++ c)) → Cut table s t w u
-  opened : isOpenString s ≡ true → sortOf w ≡ aText → Cut table s t w u
+  leftOpen : isOpenString s ≡ true → sortOf w ≡ aText → Cut table s t w u
   begun : (c d : List ℕ) {w' : Token} → t ≡ c ++ d → Begun s c → Word table (s ++ c) w' [] → sortOf w' ≡ sortOf w → Cut table s t w u
 
-module _ (table : List (List ℕ)) (known : (z : List ℕ) → isIn z table ≡ true → isIn z spellings ≡ true) where
+module _ (table : List (List ℕ)) (known : entries isSpelling table ≡ true) where
   space-cut : {s t u : List ℕ} {w : Token} → Cut table s t w u → Cut table (32 ∷ s) t w u
   unfolding isOpenString
   space-cut (spaces a) = spaces (each refl a)
   space-cut (within q v e f g) = within (32 ∷ q) v (cc) f (λ c d h. spaced (g c d h))
-  space-cut (opened e f) = opened e f
+  space-cut (leftOpen e f) = leftOpen e f
   space-cut (begun c d e b w f) = begun c d e (begun-behind (32 ∷ []) b) (spaced w) f
 
   -- the word stands before the cut, if it stands before any front part of what follows it
@@ -170,7 +148,7 @@ module _ (table : List (List ℕ)) (known : (z : List ℕ) → isIn z table ≡ 
       go : Split (c ∷ d ∷ cs) u (b ∷ s) t → Cut table (b ∷ s) t (sign k) u
       go (before v e f) = before-cut (c ∷ d ∷ cs) v (b ∷ s) t u (sign k) e f shorter
       go (across x y e f) =
-          begun (x ∷ y) u {w' = sign k} f (part [] s y b x (rw (← e) (known (c ∷ d ∷ cs) (index-in 128 table (c ∷ d ∷ cs) k (r .spelled)))))
+          begun (x ∷ y) u {w' = sign k} f (part [] s y b x (rw (← e) (of-table isSpelling 128 table (c ∷ d ∷ cs) k known (r .spelled))))
           (rw (← e) (rw append-nil at (shorter [] u refl))) refl
 
   letter-cut : (c : ℕ) (u : List ℕ) → Run isCapital (c ∷ []) u → (b : ℕ) (s t : List ℕ) → c ∷ u ≡ b ∷ s ++ t → Cut table (b ∷ s) t (variable (c - 65)) u
@@ -196,24 +174,24 @@ module _ (table : List (List ℕ)) (known : (z : List ℕ) → isIn z table ≡ 
     where
       go : (s : List ℕ) → All isHexDigit (s ++ (x ∷ y)) → Cut table (35 ∷ s) t (hex (hexValue 0 ds % 65536)) u
       go [] (each h a) =
-          begun (x ∷ []) (y ++ u) f (part [] [] [] 35 x (hex-in x h)) (hexDigits {ds = x ∷ []} {s = []} (record { some = h; each = each h done; longest = refl })) refl
+          begun (x ∷ []) (y ++ u) f (part [] [] [] 35 x (hex-spelling x h)) (hexDigits {ds = x ∷ []} {s = []} (record { some = h; each = each h done; longest = refl })) refl
       go (b ∷ s) a =
           let h = all-first (b ∷ s) (x ∷ y) a in
           begun [] t refl whole (hexDigits {ds = b ∷ s} {s = []} (record { some = first-of h; each = h; longest = refl })) refl
 
   quoted-cut : (bs u : List ℕ) → All isQuotable bs → (s t : List ℕ) → Split bs (34 ∷ u) s t → Cut table (34 ∷ s) t (string bs) u
   unfolding isOpenString
-  quoted-cut bs u a s t (before [] e f) = opened (rw (e, append-nil bs) (all-true a)) refl
+  quoted-cut bs u a s t (before [] e f) = leftOpen (rw (e, append-nil bs) (all-true a)) refl
   quoted-cut bs u a s t (before (x ∷ v) e f) =
       let h : x ≡ 34 = cc in
       before-cut (34 ∷ bs ++ (34 ∷ [])) v (34 ∷ s) t u (string bs) (rw (e, h, append-assoc bs (34 ∷ []) v)) (cc) λ y z g. rw (append-assoc bs (34 ∷ []) y) (quoted a)
-  quoted-cut bs u a s t (across x y e f) = opened (all-true (all-first s (x ∷ y) (rw e at a))) refl
+  quoted-cut bs u a s t (across x y e f) = leftOpen (all-true (all-first s (x ∷ y) (rw e at a))) refl
 
   pair-cut : (a c k : ℕ) (u : List ℕ) → pairs a c ≡ some k → (b : ℕ) (s t : List ℕ) → a ∷ c ∷ u ≡ b ∷ s ++ t → Cut table (b ∷ s) t (sign k) u
-  unfolding isIn
+  unfolding isSpelling
   pair-cut a c k u e b [] t h =
       let i : a ≡ b = cc in
-      begun (c ∷ []) u {w' = sign k} (cc) (part [] [] [] b c (rw (← i) (of-pairs (λ x y n. isIn (x ∷ y ∷ []) spellings ≡ true) a c k refl refl refl e))) (rw (← i) (pair e)) refl
+      begun (c ∷ []) u {w' = sign k} (cc) (part [] [] [] b c (rw (← i) (of-pairs (λ x y n. isSpelling (x ∷ y ∷ []) ≡ true) a c k refl refl refl e))) (rw (← i) (pair e)) refl
   pair-cut a c k u e b (x ∷ s) t h = before-cut (a ∷ c ∷ []) s (b ∷ x ∷ s) t u (sign k) (cc) (cc) λ y z g. pair e
 
   -- a word of s ++ t, cut before t
