@@ -1,20 +1,20 @@
 -- A front part of a text whose words are taken is found to be a front: its own words are taken, or those of it and the rest of a word that
 -- it has begun (`isFront`, specs/Column.antt). Assumes nothing.
-use Prim.Native.Nat.{ℕ, zero, suc, _+_, _-_, _≤_, _<_}
-use mathlib.Core.Path.{_≡_, refl, sym, ap, _∙_, subst}
+use Prim.Native.Nat.{ℕ, zero, suc, _-_, _≤_, _<_}
+use mathlib.Core.Path.{_≡_, refl, sym, _∙_}
 use mathlib.Core.Bool.{Bool, true, false, not, _&&_, _||_, false≢true}
-use mathlib.Core.List.{List, [], _∷_, _++_, append-nil, append-assoc}
+use mathlib.Core.List.{List, [], _∷_, _++_, append-nil}
 use mathlib.Core.Option.{Option, none, some}
 use native.Mathlib.Omega.{arith}
 use borrow.Author.Tests.{le-leb, eqb-true, eqb-false, eq-eqb}
-use lib.Dec.{leb, eqb}
+use lib.Dec.{eqb}
 use lib.ListN.{length, take, drop, length-append}
 use lib.Seq.{take-append-seam, drop-append-seam}
 use Rattle.nibl.specs.Bytes.{if_then_else_, same, isSpace, isText, isQuotable, All, none as done, each, past, all}
 use Rattle.nibl.specs.Words.{Token, Word, indexIn, there, keywords, commands}
-use Rattle.nibl.specs.Read.{Step, atEnd, wrong, got, wordStep, stepIn}
-use Rattle.nibl.specs.Column.{sortOf, aText, typedLine, typedCommand, turn, isSome, isRemark, opened, isOpenString, Verdict, alive, isAlive, byStep, turned, remarkAt, advance, runN, lineRun, allTaken, spellings, endsWith, begunBy, begunIn, isFront}
-use Rattle.nibl.proofs.Tests.{and-left, and-right, or-cases, or-true, all-true, true-all, past-run, front-run}
+use Rattle.nibl.specs.Read.{wrong, wordStep, stepIn}
+use Rattle.nibl.specs.Column.{sortOf, aText, typedLine, typedCommand, turn, isSome, isRemark, opened, isOpenString, Verdict, alive, isAlive, advance, runN, lineRun, allTaken, spellings, endsWith, begunBy, begunIn, isFront}
+use Rattle.nibl.proofs.Tests.{and-left, and-right, or-cases, or-true, all-true, true-all, past-run}
 use Rattle.nibl.proofs.Keywords.{entries, of-table}
 use Rattle.nibl.proofs.Words.{step-space, step-word, word-complete, ended-complete}
 use Rattle.nibl.proofs.Over.{word-short}
@@ -23,8 +23,8 @@ use Rattle.nibl.proofs.CutWord.{all-first, isSpelling, Begun, whole, pa
 
 -- The relation, cut
 
--- of t, the text behind the cut, c is taken too
-pub record Shorter (P : List ℕ → Type 0) (s t : List ℕ) : Type 0 where
+-- P holds of s, cut before t, or of s and a front part of t that ends the word that s has begun
+record Shorter (P : List ℕ → Type 0) (s t : List ℕ) : Type 0 where
   pub more : List ℕ
   pub left : List ℕ
   pub parted : t ≡ more ++ left
@@ -43,7 +43,9 @@ open-cut (b ∷ s) t e = go (isSpace b) (open-cut s t) e
         → opened (if r then past isSpace (s ++ t) else b ∷ s ++ t) ≡ true
         → ((r && all isSpace s) || opened (if r then past isSpace s else b ∷ s)) ≡ true
     go true f h = f h
-    go false f h = rw (and-left (eqb b 34) (all isQuotable (s ++ t)) h) (all-true (all-first s t (true-all isQuotable (s ++ t) (and-right (eqb b 34) (all isQuotable (s ++ t)) h))))
+    go false f h =
+        let a = true-all isQuotable (s ++ t) (and-right (eqb b 34) (all isQuotable (s ++ t)) h) in
+        rw (and-left (eqb b 34) (all isQuotable (s ++ t)) h) (all-true (all-first s t a))
 
 some-turn : (o : Option (List ℕ)) (next : List ℕ) → o ≡ some next → isSome o ≡ true
 some-turn none next e = let z : _≡_ {A = ℕ} 0 1 = cc in absurd (omega arith)
@@ -57,46 +59,56 @@ commands-known : entries isSpelling commands ≡ true
 unfolding isSpelling
 commands-known = refl
 
-pub taken-shorter : (s t : List ℕ) {stack l : List ℕ} → Taken stack l → l ≡ s ++ t → Shorter (Taken stack) s t
+-- P by a word of the sort of w and then Q: from the word's own cut and that of Q
+module _ (P Q : List ℕ → Type 0) {table : List (List ℕ)} {s t u : List ℕ} {w : Token}
+    (by : (x y : List ℕ) (v : Token) → Word table x v y → sortOf v ≡ sortOf w → Q y → P x) where
+  word-shorter : (All isSpace s → P s) → (isOpenString s ≡ true → sortOf w ≡ aText → P s) → Q [] → ((x : List ℕ) → u ≡ x ++ t → Shorter Q x t)
+      → Cut table s t w u → Shorter P s t
+  word-shorter f g k r (spaces a) = uncut P t (f a)
+  word-shorter f g k r (within q x i j h) =
+      let m = r x j in
+      record {
+        more = m .more;
+        left = m .left;
+        parted = m .parted;
+        front = rw i (begun-behind q (m .front));
+        taken = by _ _ w (h (m .more) (m .left) (m .parted)) refl (m .taken);
+      }
+  word-shorter f g k r (leftOpen i j) = uncut P t (g i j)
+  word-shorter f g k r (begun c d i b x j) = record { more = c; left = d; parted = i; front = b; taken = by _ _ _ x j k }
+
+taken-shorter : (s t : List ℕ) {stack l : List ℕ} → Taken stack l → l ≡ s ++ t → Shorter (Taken stack) s t
 taken-shorter s t (ended {stack} a) h = uncut (Taken stack) t (ended (all-first s t (rw h at a)))
 taken-shorter s t (remarked {stack} r a) h = uncut (Taken stack) t (remarked r (all-first s t (rw h at a)))
-taken-shorter s t (inString {stack} r o e) h =
-    or-cases (all isSpace s) (isOpenString s) (open-cut s t (rw h at o)) (λ a. uncut (Taken stack) t (ended (true-all isSpace s a))) (λ i. uncut (Taken stack) t (inString r i e))
-taken-shorter s t (takes {stack} {next} {s = l} {u} {w} r v e k) h = go (word-cut keywords keywords-known s t v h) (λ x. taken-shorter x t k)
-  where
-    go : Cut keywords s t w u → ((x : List ℕ) → u ≡ x ++ t → Shorter (Taken next) x t) → Shorter (Taken stack) s t
-    go (spaces a) f = uncut (Taken stack) t (ended a)
-    go (within q x i j g) f = let m = f x j in
-        record { more = m .more; left = m .left; parted = m .parted; front = rw i (begun-behind q (m .front)); taken = takes r (g (m .more) (m .left) (m .parted)) e (m .taken) }
-    go (leftOpen i j) f = uncut (Taken stack) t (inString r i (some-turn _ next (rw j at e)))
-    go (begun c d i b x j) f = record { more = c; left = d; parted = i; front = b; taken = takes {stack = stack} {next = next} r x (rw j e) (ended done) }
+taken-shorter s t (inString {stack} r o e) h = uncut (Taken stack) t
+    (or-cases (all isSpace s) (isOpenString s) (open-cut s t (rw h at o)) (λ a. ended (true-all isSpace s a)) (λ i. inString r i e))
+taken-shorter s t (takes {stack} {next} r v e k) h =
+    word-shorter (Taken stack) (Taken next) (λ x y v' f i. takes {stack = stack} {next = next} r f (rw i e)) ended
+    (λ i j. inString r i (some-turn _ next (rw j at e))) (ended done) (λ x. taken-shorter x t k) (word-cut keywords keywords-known s t v h)
 
-pub line-shorter : (s t : List ℕ) {l : List ℕ} → LineTaken l → l ≡ s ++ t → Shorter LineTaken s t
+line-shorter : (s t : List ℕ) {l : List ℕ} → LineTaken l → l ≡ s ++ t → Shorter LineTaken s t
 unfolding turn
-line-shorter s t (byKeywords k) h = let m = taken-shorter s t k h in
+line-shorter s t (byKeywords k) h =
+    let m = taken-shorter s t k h in
     record { more = m .more; left = m .left; parted = m .parted; front = m .front; taken = byKeywords (m .taken) }
-line-shorter s t (byCommand {stack} {s = l} {u} {w} v e k) h = go (word-cut commands commands-known s t v h)
+line-shorter s t (byCommand {stack} v e k) h =
+    word-shorter LineTaken (Taken stack) (λ x y v' f i. byCommand {stack = stack} f (rw i e)) (λ a. byKeywords (ended a))
+    (λ i j. absurd (no-string (rw j at e))) (ended done) (λ x. taken-shorter x t k) (word-cut commands commands-known s t v h)
   where
-    go : Cut commands s t w u → Shorter LineTaken s t
-    go (spaces a) = uncut LineTaken t (byKeywords (ended a))
-    go (within q x i j g) = let m = taken-shorter x t k j in
-        record { more = m .more; left = m .left; parted = m .parted; front = rw i (begun-behind q (m .front)); taken = byCommand (g (m .more) (m .left) (m .parted)) e (m .taken) }
-    go (leftOpen i j) = let n : none ≡ some stack = rw j at e in let z : _≡_ {A = ℕ} 0 1 = cc in absurd (omega arith)
-    go (begun c d i b x j) = record { more = c; left = d; parted = i; front = b; taken = byCommand {stack = stack} x (rw j e) (ended done) }
+    no-string : none ≡ some stack → ⊥
+    no-string n = let z : _≡_ {A = ℕ} 0 1 = cc in omega arith
 
 -- The relation gives what the function finds
 
-space-text : (b : ℕ) → isSpace b ≡ true → isText b ≡ true
-space-text b e = rw (eqb-true b 32 e)
-
 spaces-text : {s : List ℕ} → All isSpace s → All isText s
 spaces-text done = done
-spaces-text (each {b} e a) = each (space-text b e) (spaces-text a)
+spaces-text (each {b} e a) = each {b = b} (rw (eqb-true b 32 e)) (spaces-text a)
 
 quote-wrong : (table : List (List ℕ)) (s : List ℕ) → All isQuotable s → wordStep table 34 s ≡ wrong
 unfolding wordStep
 quote-wrong table s a = let e : past isQuotable s ≡ [] = rw append-nil at (past-run a [] refl) in rw e
 
+-- a string that is left open is no word
 open-wrong : (table : List (List ℕ)) (s : List ℕ) → isOpenString s ≡ true → stepIn table s ≡ wrong
 unfolding isOpenString
 open-wrong table [] e = absurd (false≢true e)
@@ -106,7 +118,8 @@ open-wrong table (b ∷ s) e = go (isSpace b) refl (open-wrong table s) e
         → stepIn table (b ∷ s) ≡ wrong
     go true i f h = step-space table b s i ∙ f h
     go false i f h =
-        step-word table b s i ∙ rw (eqb-true b 34 (and-left (eqb b 34) (all isQuotable s) h)) (quote-wrong table s (true-all isQuotable s (and-right (eqb b 34) (all isQuotable s) h)))
+        let a = true-all isQuotable s (and-right (eqb b 34) (all isQuotable s) h) in
+        step-word table b s i ∙ rw (eqb-true b 34 (and-left (eqb b 34) (all isQuotable s) h)) (quote-wrong table s a)
 
 module _ (table : List (List ℕ)) (go : List ℕ → List ℕ → Verdict) (stack s : List ℕ) where
   advance-ended : All isSpace s → advance table go stack s ≡ alive
@@ -129,6 +142,7 @@ run-remark : (n : ℕ) (stack s : List ℕ) → isRemark stack ≡ true → All 
 unfolding runN
 run-remark n stack s e a = rw (e, runN) (rw (all-true a))
 
+-- every word takes a byte, so a text's length bounds them
 run-taken : (n : ℕ) {stack s : List ℕ} → Taken stack s → length s < n → runN n stack s ≡ alive
 run-taken zero t h = absurd (omega arith)
 run-taken (suc n) (ended {stack} {s} a) h = go (isRemark stack) refl
@@ -138,14 +152,15 @@ run-taken (suc n) (ended {stack} {s} a) h = go (isRemark stack) refl
     go false e = run-word n stack s e ∙ advance-ended keywords (runN n) stack s a
 run-taken (suc n) (remarked {stack} {s} r a) h = run-remark n stack s r a
 run-taken (suc n) (inString {stack} {s} r o e) h = run-word n stack s r ∙ advance-open keywords (runN n) stack s o e
-run-taken (suc n) (takes {stack} {next} {s} {u} r v e k) h =
+run-taken (suc n) (takes {stack} {next} {s} r v e k) h =
     run-word n stack s r ∙ advance-word keywords (runN n) stack s v e ∙ run-taken n k (omega (arith, word-short v))
 
 pub taken-complete : {s : List ℕ} → LineTaken s → allTaken s ≡ true
 unfolding allTaken lineRun
 taken-complete (byKeywords {s} k) = rw (sym (run-word (length s) (typedLine ∷ []) s refl) ∙ run-taken (suc (length s)) k (omega arith))
-taken-complete (byCommand {stack} {s} {u} v e k) =
-    rw (advance-word commands (runN (length s)) (typedCommand ∷ []) s v e ∙ run-taken (length s) k (word-short v)) (or-true (isAlive (advance keywords (runN (length s)) (typedLine ∷ []) s)))
+taken-complete (byCommand {s} v e k) =
+    rw (advance-word commands (runN (length s)) (typedCommand ∷ []) s v e ∙ run-taken (length s) k (word-short v))
+    (or-true (isAlive (lineRun keywords typedLine s)))
 
 -- What is begun is found
 
@@ -166,7 +181,7 @@ begun-here : (s z : List ℕ) (i : ℕ) → endsWith (take (suc i) z) s && allTa
 unfolding begunBy
 begun-here s z i e = rw (e, begunBy)
 
--- the first i bytes of z, and so on down to those of a
+-- of the spelling a ++ c the first i bytes are tried, and fewer, down to a
 begun-by : (p a c : List ℕ) (i : ℕ) → 1 ≤ length a → length a ≤ i → allTaken (p ++ a ++ c) ≡ true → begunBy (p ++ a) (a ++ c) i ≡ true
 unfolding begunBy
 begun-by p a c zero l h t = absurd (omega arith)

@@ -1,7 +1,7 @@
 -- A word of a text that is cut somewhere: it stands before the cut, or is a string that the cut leaves open, or what is left of it is a
 -- word of the same sort, or the front of a spelling whose rest stands behind the cut. Assumes nothing.
 use Prim.Native.Nat.{ℕ, zero, suc, _+_, _-_, _*_, _%_, _≤_, _<_}
-use mathlib.Core.Path.{_≡_, refl, sym, ap, _∙_, subst}
+use mathlib.Core.Path.{_≡_, refl, sym, ap, _∙_}
 use mathlib.Core.Bool.{Bool, true, false, not, _&&_, _||_, false≢true}
 use mathlib.Core.List.{List, [], _∷_, _++_, append-nil, append-assoc}
 use mathlib.Core.Option.{some}
@@ -12,15 +12,15 @@ use lib.ListN.{length}
 use Rattle.nibl.specs.Bytes.{if_then_else_, isSpace, isDigit, isCapital, isHexDigit, isQuotable, All, none as done, each, starts, front, all, decimalValue, hexValue}
 use Rattle.nibl.specs.Words.{Token, variable, decimal, hex, string, sign, indexIn, there, pairs, pairsWith, isSymbol, Run, begins, noneOver, Keyword, Word, spaced, keyword, letter, decimalDigits, hexDigits, quoted, pair, symbol}
 use Rattle.nibl.specs.Column.{sortOf, aText, isOpenString, spellings}
-use Rattle.nibl.proofs.Tests.{if-split, and-left, and-right, or-cases, or-true, of-pairs, between, all-true}
+use Rattle.nibl.proofs.Tests.{and-left, and-right, or-cases, or-true, of-pairs, between, all-true}
 use Rattle.nibl.proofs.Keywords.{entries, of-table, first-of}
 
--- A text in two ways
-pub data Split (p u s t : List ℕ) : Type 0 where
+-- One text, p ++ u and s ++ t: p ends within s, or s within p
+data Split (p u s t : List ℕ) : Type 0 where
   before : (v : List ℕ) → s ≡ p ++ v → u ≡ v ++ t → Split p u s t
   across : (b : ℕ) (e : List ℕ) → p ≡ s ++ (b ∷ e) → t ≡ (b ∷ e) ++ u → Split p u s t
 
-pub split : (p u s t : List ℕ) → p ++ u ≡ s ++ t → Split p u s t
+split : (p u s t : List ℕ) → p ++ u ≡ s ++ t → Split p u s t
 split [] u s t h = before s refl h
 split (x ∷ p) u [] t h = across x p refl (sym h)
 split (x ∷ p) u (y ∷ s) t h = let i : p ++ u ≡ s ++ t = cc in let j : x ≡ y = cc in go j (split p u s t i)
@@ -52,7 +52,8 @@ begins-longer p (c ∷ w) (b ∷ s) t e = go (p b) (begins-longer p w s t) e
     go true f h = rw (and-left (eqb c b) (begins w (front p s)) h) (f (and-right (eqb c b) (begins w (front p s)) h))
     go false f h = absurd (false≢true h)
 
-over-shorter : (p : ℕ → Bool) (n : ℕ) (table : List (List ℕ)) (s t : List ℕ) → noneOver n table (front p (s ++ t)) ≡ true → noneOver n table (front p s) ≡ true
+over-shorter : (p : ℕ → Bool) (n : ℕ) (table : List (List ℕ)) (s t : List ℕ) → noneOver n table (front p (s ++ t)) ≡ true
+    → noneOver n table (front p s) ≡ true
 unfolding noneOver
 over-shorter p n [] s t o = refl
 over-shorter p n (w ∷ ws) s t o =
@@ -102,20 +103,21 @@ hex-spelling d e =
     (λ h. let i = between 48 57 d h in of-count p 48 10 d (i .0) (omega arith) refl)
     (λ h. let i = between 65 70 d h in of-count p 65 6 d (i .0) (omega arith) refl)
 
--- the text, cut before c, may have begun a word of which c is the rest
+-- the text ends with a word, or with the front of a spelling of which c is the rest
 pub data Begun : List ℕ → List ℕ → Type 0 where
   whole : {s : List ℕ} → Begun s []
   part : (p a c : List ℕ) (x y : ℕ) → isSpelling ((x ∷ a) ++ (y ∷ c)) ≡ true → Begun (p ++ (x ∷ a)) (y ∷ c)
 
 pub begun-behind : (q : List ℕ) {s c : List ℕ} → Begun s c → Begun (q ++ s) c
 begun-behind [] h = h
-begun-behind (b ∷ q) {s} {c} h = go (begun-behind q h)
+begun-behind (b ∷ q) h = go (begun-behind q h)
   where
     go : {s c : List ℕ} → Begun s c → Begun (b ∷ s) c
     go whole = whole
     go (part p a c x y e) = part (b ∷ p) a c x y e
 
--- The word w stands at the front of s ++ t, and u follows it
+-- Of s ++ t the word w is the first, and u follows it: what s, cut before t, has of it. Where w stands within s, it does with any front
+-- part of t behind s
 pub data Cut (table : List (List ℕ)) (s t : List ℕ) (w : Token) (u : List ℕ) : Type 0 where
   spaces : All isSpace s → Cut table s t w u
   within : (q v : List ℕ) → s ≡ q ++ v → u ≡ v ++ t → ((c d : List ℕ) → t ≡ c ++ d → Word table (s ++ c) w (v ++ c)) → Cut table s t w u
@@ -135,7 +137,8 @@ module _ (table : List (List ℕ)) (known : entries isSpelling table ≡ true) w
   before-cut q v s t u w e f g = within q v e f λ c d h.
       rw (e, append-assoc q v c) (g (v ++ c) d (f ∙ ap (λ (l : List ℕ). v ++ l) h ∙ sym (append-assoc v c d)))
 
-  keyword-cut : (c d k : ℕ) (cs u : List ℕ) → Keyword table (c ∷ d ∷ cs) k u → (b : ℕ) (s t : List ℕ) → Split (c ∷ d ∷ cs) u (b ∷ s) t → Cut table (b ∷ s) t (sign k) u
+  keyword-cut : (c d k : ℕ) (cs u : List ℕ) → Keyword table (c ∷ d ∷ cs) k u → (b : ℕ) (s t : List ℕ) → Split (c ∷ d ∷ cs) u (b ∷ s) t
+      → Cut table (b ∷ s) t (sign k) u
   keyword-cut c d k cs u r b s t h = go h
     where
       shorter : (y z : List ℕ) → u ≡ y ++ z → Word table (c ∷ d ∷ cs ++ y) (sign k) y
@@ -155,7 +158,8 @@ module _ (table : List (List ℕ)) (known : entries isSpelling table ≡ true) w
   letter-cut c u r b s t h = before-cut (c ∷ []) s (b ∷ s) t u (variable (c - 65)) (cc) (cc) λ y z e.
       letter (record { some = r .some; each = r .each; longest = starts-shorter isCapital y z (rw e at (r .longest)) })
 
-  symbol-cut : (c : ℕ) (u : List ℕ) → isSymbol c ≡ true → pairsWith c u ≡ false → (b : ℕ) (s t : List ℕ) → c ∷ u ≡ b ∷ s ++ t → Cut table (b ∷ s) t (sign c) u
+  symbol-cut : (c : ℕ) (u : List ℕ) → isSymbol c ≡ true → pairsWith c u ≡ false → (b : ℕ) (s t : List ℕ) → c ∷ u ≡ b ∷ s ++ t
+      → Cut table (b ∷ s) t (sign c) u
   symbol-cut c u r n b s t h = before-cut (c ∷ []) s (b ∷ s) t u (sign c) (cc) (cc) λ y z e. symbol r (pairs-shorter c y z (rw e at n))
 
   decimal-cut : (ds u : List ℕ) → Run isDigit ds u → decimalValue 0 ds ≤ 32767 → (b : ℕ) (s t : List ℕ) → Split ds u (b ∷ s) t
@@ -174,7 +178,8 @@ module _ (table : List (List ℕ)) (known : entries isSpelling table ≡ true) w
     where
       go : (s : List ℕ) → All isHexDigit (s ++ (x ∷ y)) → Cut table (35 ∷ s) t (hex (hexValue 0 ds % 65536)) u
       go [] (each h a) =
-          begun (x ∷ []) (y ++ u) f (part [] [] [] 35 x (hex-spelling x h)) (hexDigits {ds = x ∷ []} {s = []} (record { some = h; each = each h done; longest = refl })) refl
+          begun (x ∷ []) (y ++ u) f (part [] [] [] 35 x (hex-spelling x h))
+          (hexDigits {ds = x ∷ []} {s = []} (record { some = h; each = each h done; longest = refl })) refl
       go (b ∷ s) a =
           let h = all-first (b ∷ s) (x ∷ y) a in
           begun [] t refl whole (hexDigits {ds = b ∷ s} {s = []} (record { some = first-of h; each = h; longest = refl })) refl
@@ -184,20 +189,22 @@ module _ (table : List (List ℕ)) (known : entries isSpelling table ≡ true) w
   quoted-cut bs u a s t (before [] e f) = leftOpen (rw (e, append-nil bs) (all-true a)) refl
   quoted-cut bs u a s t (before (x ∷ v) e f) =
       let h : x ≡ 34 = cc in
-      before-cut (34 ∷ bs ++ (34 ∷ [])) v (34 ∷ s) t u (string bs) (rw (e, h, append-assoc bs (34 ∷ []) v)) (cc) λ y z g. rw (append-assoc bs (34 ∷ []) y) (quoted a)
+      before-cut (34 ∷ bs ++ (34 ∷ [])) v (34 ∷ s) t u (string bs) (rw (e, h, append-assoc bs (34 ∷ []) v)) (cc) λ y z g.
+      rw (append-assoc bs (34 ∷ []) y) (quoted a)
   quoted-cut bs u a s t (across x y e f) = leftOpen (all-true (all-first s (x ∷ y) (rw e at a))) refl
 
   pair-cut : (a c k : ℕ) (u : List ℕ) → pairs a c ≡ some k → (b : ℕ) (s t : List ℕ) → a ∷ c ∷ u ≡ b ∷ s ++ t → Cut table (b ∷ s) t (sign k) u
   unfolding isSpelling
   pair-cut a c k u e b [] t h =
       let i : a ≡ b = cc in
-      begun (c ∷ []) u {w' = sign k} (cc) (part [] [] [] b c (rw (← i) (of-pairs (λ x y n. isSpelling (x ∷ y ∷ []) ≡ true) a c k refl refl refl e))) (rw (← i) (pair e)) refl
+      let z : isSpelling (b ∷ c ∷ []) ≡ true = rw (← i) (of-pairs (λ x y n. isSpelling (x ∷ y ∷ []) ≡ true) a c k refl refl refl e) in
+      begun (c ∷ []) u {w' = sign k} (cc) (part [] [] [] b c z) (rw (← i) (pair e)) refl
   pair-cut a c k u e b (x ∷ s) t h = before-cut (a ∷ c ∷ []) s (b ∷ x ∷ s) t u (sign k) (cc) (cc) λ y z g. pair e
 
   -- a word of s ++ t, cut before t
   pub word-cut : (s t : List ℕ) {l u : List ℕ} {w : Token} → Word table l w u → l ≡ s ++ t → Cut table s t w u
   word-cut [] t w h = spaces done
-  word-cut (b ∷ s) t (spaced {s = l} w) h = let e : b ≡ 32 = cc in rw e (space-cut (word-cut s t w (cc)))
+  word-cut (b ∷ s) t (spaced w) h = let e : b ≡ 32 = cc in rw e (space-cut (word-cut s t w (cc)))
   word-cut (b ∷ s) t (keyword {c} {d} {k} {cs} {s = u} r) h = keyword-cut c d k cs u r b s t (split (c ∷ d ∷ cs) u (b ∷ s) t h)
   word-cut (b ∷ s) t (letter {c} {s = u} r) h = letter-cut c u r b s t h
   word-cut (b ∷ s) t (decimalDigits {ds} {s = u} r l) h = decimal-cut ds u r l b s t (split ds u (b ∷ s) t h)
