@@ -24,3 +24,5 @@ pub mod Derived
 pub mod Once
 pub mod InOrder
 pub mod TakenLines
+pub mod CutWord
+pub mod CutLine
