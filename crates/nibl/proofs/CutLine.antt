@@ -15,9 +15,10 @@ use Rattle.nibl.specs.Words.{Token, Word, indexIn, there, keywords, comm
 use Rattle.nibl.specs.Read.{wrong, wordStep, stepIn}
 use Rattle.nibl.specs.Column.{sortOf, aText, typedLine, typedCommand, turn, isSome, isRemark, opened, isOpenString, Verdict, alive, isAlive, advance, runN, lineRun, allTaken, spellings, endsWith, begunBy, begunIn, isFront}
 use Rattle.nibl.proofs.Tests.{and-left, and-right, or-cases, or-true, all-true, true-all, past-run}
-use Rattle.nibl.proofs.Keywords.{entries, of-table}
+use Rattle.nibl.proofs.Keywords.{same-self, entries, of-table}
 use Rattle.nibl.proofs.Words.{step-space, step-word, word-complete, ended-complete}
 use Rattle.nibl.proofs.Over.{word-short}
+use Rattle.nibl.proofs.Ends.{spaces-text}
 use Rattle.nibl.proofs.Taken.{Taken, ended, remarked, inString, takes, LineTaken, byKeywords, byCommand}
 use Rattle.nibl.proofs.CutWord.{all-first, isSpelling, Begun, whole, part, begun-behind, Cut, spaces, within, leftOpen, begun, word-cut}
 
@@ -100,10 +101,6 @@ line-shorter s t (byCommand {stack} v e k) h =
 
 -- The relation gives what the function finds
 
-spaces-text : {s : List ℕ} → All isSpace s → All isText s
-spaces-text done = done
-spaces-text (each {b} e a) = each {b = b} (rw (eqb-true b 32 e)) (spaces-text a)
-
 quote-wrong : (table : List (List ℕ)) (s : List ℕ) → All isQuotable s → wordStep table 34 s ≡ wrong
 unfolding wordStep
 quote-wrong table s a = let e : past isQuotable s ≡ [] = rw append-nil at (past-run a [] refl) in rw e
@@ -163,10 +160,6 @@ taken-complete (byCommand {s} v e k) =
     (or-true (isAlive (lineRun keywords typedLine s)))
 
 -- What is begun is found
-
-same-self : (s : List ℕ) → same s s ≡ true
-same-self [] = refl
-same-self (b ∷ s) = rw (eq-eqb b b refl) (same-self s)
 
 ends-behind : (p a : List ℕ) → endsWith a (p ++ a) ≡ true
 ends-behind p a =

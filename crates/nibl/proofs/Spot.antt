@@ -15,8 +15,13 @@ use Rattle.nibl.specs.Readings.{LineReading}
 use Rattle.nibl.specs.Tree.{blank}
 use Rattle.nibl.specs.Fronts.{Front, IsColumn}
 use Rattle.nibl.specs.Column.{isFront, columnDown, columnOf}
+use Rattle.nibl.proofs.TakenLines.{line-taken}
+use Rattle.nibl.proofs.CutLine.{taken-cut}
 
-module _ (front-sound : (s : List ℕ) → isFront s ≡ true → Front s) (front-complete : (s : List ℕ) → Front s → isFront s ≡ true) where
+front-complete : (s : List ℕ) → Front s → isFront s ≡ true
+front-complete s f = taken-cut s (f .more) (line-taken (f .reading))
+
+module _ (front-sound : (s : List ℕ) → isFront s ≡ true → Front s) where
   no-front : Front []
   no-front = record { more = []; line = blank; reading = aBlank none }
 
