@@ -22,3 +22,4 @@ pub mod Names
 pub mod Derived
 pub mod Once
 pub mod InOrder
+pub mod Joined
