@@ -23,3 +23,4 @@ pub mod Derived
 pub mod Once
 pub mod InOrder
 pub mod Joined
+pub mod Means
