@@ -24,3 +24,4 @@ pub mod Once
 pub mod InOrder
 pub mod Joined
 pub mod Means
+pub mod Closes
