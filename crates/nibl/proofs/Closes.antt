@@ -1,9 +1,9 @@
 -- Every stack that comes of a line (specs/Column.antt) can be brought to an end: its ending, and that the stack then means the text.
 -- Assumes nothing.
 use Prim.Native.Nat.{ℕ, zero, suc}
-use mathlib.Core.Path.{_≡_, refl, sym, ap, _∙_}
+use mathlib.Core.Path.{_≡_, refl, sym, _∙_}
 use mathlib.Core.Bool.{Bool, true, false, not, _&&_, _||_, false≢true}
-use mathlib.Core.List.{List, [], _∷_, _++_, append-nil, append-assoc}
+use mathlib.Core.List.{List, [], _∷_, _++_, append-nil}
 use mathlib.Core.Option.{Option, none, some}
 use native.Mathlib.Omega.{arith}
 use borrow.Author.Tests.{eqb-true}
@@ -199,7 +199,7 @@ apart-append : (a s : List ℕ) → starts isSpace a ≡ true → Apart (a ++ s)
 apart-append [] s e = absurd (false≢true e)
 apart-append (b ∷ a) s e = rw (eqb-true b 32 e) aSpace
 
-one : {x : ℕ} {s u : List ℕ} → Means (x ∷ []) s u → Mean x s u
+pub one : {x : ℕ} {s u : List ℕ} → Means (x ∷ []) s u → Mean x s u
 one (more m noMore) = m
 
 with-ending : (x : ℕ) (e : List ℕ) {xs : List ℕ} → Closed xs → isEnding (x, e) ≡ true → Closed (x ∷ xs)

@@ -25,3 +25,4 @@ pub mod InOrder
 pub mod Joined
 pub mod Means
 pub mod Closes
+pub mod FrontSound

@@ -1,6 +1,5 @@
--- What may still come means (specs/Column.antt), in the grammar; and a word that is taken keeps the meaning. Assumes nothing.
+-- What a stack of what may still come (specs/Column.antt) means in the grammar; and a word that is taken keeps its meaning. Assumes nothing.
 use Prim.Native.Nat.{ℕ}
-use Prim.Native.String.{String}
 use mathlib.Core.Path.{_≡_, refl, sym, _∙_}
 use mathlib.Core.Bool.{Bool, true, false, _&&_, false≢true}
 use mathlib.Core.List.{List, [], _∷_, _++_, append-nil}
@@ -9,15 +8,15 @@ use native.Mathlib.Omega.{arith}
 use borrow.Author.Tests.{eqb-true, ne-eqb, le-leb, lt-leb}
 use lib.Dec.{leb, eqb}
 use Rattle.nibl.specs.Bytes.{if_then_else_, isSpace, isText, All, all}
-use Rattle.nibl.specs.Words.{Token, variable, decimal, hex, string, sign, number, command, commands, Word, spaced, keyword, pair, symbol}
-use Rattle.nibl.specs.Grammar.{Joints, jointOf, factorJoints, termJoints, sumJoints, Key, May, noWord, aWord, Joint, joint, Factor, Term, Sum, Relation, aVariable, aConstant, aHex, aStat, aTop, inBrackets, aByte, aNot, aMod, aFactor, factors, aTerm, lessTerm, terms, aSum, related}
-use Rattle.nibl.specs.Grammar.{Either, whole, parted, PrintWord, shortPrint, longPrint, AnItem, aString, aStored, aValue, Items, oneItem, LastSemicolon, noSemicolon, aSemicolon, AStep, noStep, someStep, Variables}
-use Rattle.nibl.specs.Grammar.{Statement, aLetVar, aLetStat, aLetByte, aLetText, aLetCopy, aGoto, aGosub, aReturn, aPrint, anIf, aDo, anUntil, aFor, aNext, anInput, anInputText, aRemark, anEnd, Members, lastMember, Line, aBlank, aDelete, aStore, aNew, aClear, aRun, aList, aListFrom, anImmediate}
+use Rattle.nibl.specs.Words.{Token, variable, decimal, hex, string, sign, command, Word, spaced, keyword, pair, symbol}
+use Rattle.nibl.specs.Grammar.{jointOf, factorJoints, termJoints, sumJoints, Key, May, noWord, aWord, Joint, joint, Factor, Sum, Relation, aVariable, aConstant, aHex, aStat, aTop, inBrackets, aByte, aNot, aMod, aFactor, factors, aTerm, lessTerm, terms, aSum, related}
+use Rattle.nibl.specs.Grammar.{whole, parted, PrintWord, shortPrint, longPrint, AnItem, aString, aStored, aValue, Items, oneItem, LastSemicolon, noSemicolon, aSemicolon, AStep, noStep, someStep, Variables}
+use Rattle.nibl.specs.Grammar.{Statement, aLetVar, aLetStat, aLetByte, aLetText, aLetCopy, aGoto, aGosub, aReturn, aPrint, anIf, aDo, anUntil, aFor, aNext, anInput, anInputText, aRemark, anEnd, Members, lastMember, Line, aStore, aNew, aClear, aRun, aList, aListFrom, anImmediate}
 use Rattle.nibl.specs.Grammar.{moreItems as itemAnd, oneVariable as variableAlone, moreVariables as variableAnd, moreMembers as memberAnd}
 use Rattle.nibl.specs.Tree.{Op, Expr, Item, Stmt, Member, Typed}
 use Rattle.nibl.specs.Read.{choose}
 use Rattle.nibl.specs.Column.{sortOf, aName, aDecimal, aHex as aHexSort, aText, factor, firstFactor, closing, modOpen, modComma, target, equals, textEquals, textValue, statement, afterGo, item, consequence, forVariable, forEquals, forTo, oneVariable, inputTarget, typedLine, typedCommand, remark, moreOfRelation, moreOfSum, moreItems, forStep, moreVariables, moreMembers, listNumber}
-use Rattle.nibl.specs.Column.{isOptional, Cases, aRelation, factorCases, firstCases, followed, operandCases, targetCases, statementCases, rules, casesOf, caseIn, turn}
+use Rattle.nibl.specs.Column.{isOptional, Cases, factorCases, firstCases, followed, operandCases, targetCases, statementCases, rules, casesOf, caseIn, turn}
 use Rattle.nibl.proofs.Keywords.{place-least}
 use Rattle.nibl.proofs.Words.{if-split, and-left, and-right, of-pairs, no-symbol}
 use Rattle.nibl.proofs.Rules.{W}
@@ -27,16 +26,17 @@ use Rattle.nibl.proofs.Lines.{C}
 abbrev pub Part : Type 1
 Part = List ℕ → List ℕ → Type 0
 
--- one after the other; what stands after P and makes it Q
+-- one after the other
 infixr 30 _⨟_
 abbrev pub _⨟_ : Part → Part → Part
 (P ⨟ Q) s u = (t : List ℕ) × P s t × Q t u
 
+-- what goes on from a P to a Q
 infixr 20 _⇾_
 abbrev pub _⇾_ : Part → Part → Part
 (P ⇾ Q) s u = (r : List ℕ) → P r s → Q r u
 
--- by a number
+-- the part that has the number, or r
 abbrev pub pick : List (ℕ × Part) → Part → ℕ → Part
 pick [] r k = r
 pick (c ∷ cs) r k = elim (eqb k (c .0)) [ true ↦ c .1 | false ↦ pick cs r k ]
@@ -82,15 +82,24 @@ pub data TextValue : List ℕ → List ℕ → Type 0 where
   given : {s u bs : List ℕ} → W s (string bs) u → TextValue s u
   copied : {s t u : List ℕ} {a : Expr} → Key W "$" s t → Factor W t a u → TextValue s u
 
+abbrev pub ModComma : Part
+ModComma = Key W "," ⨟ ARelation ⨟ Key W ")"
+
+abbrev pub ForTo : Part
+ForTo = Key W "TO" ⨟ ARelation ⨟ TheStep
+
+abbrev pub ForEquals : Part
+ForEquals = Key W "=" ⨟ ARelation ⨟ ForTo
+
+-- What each means: of what must come and of what need not
 abbrev pub needed : List (ℕ × Part)
 needed =
     (factor, AFactor) ∷ (firstFactor, ASum) ∷ (closing, Key W ")")
-    ∷ (modOpen, Key W "(" ⨟ ARelation ⨟ Key W "," ⨟ ARelation ⨟ Key W ")") ∷ (modComma, Key W "," ⨟ ARelation ⨟ Key W ")")
+    ∷ (modOpen, Key W "(" ⨟ ARelation ⨟ ModComma) ∷ (modComma, ModComma)
     ∷ (target, May W "LET" ⇾ AStatement) ∷ (equals, Key W "=" ⨟ ARelation) ∷ (textEquals, Key W "=" ⨟ TextValue) ∷ (textValue, TextValue)
     ∷ (statement, AStatement) ∷ (afterGo, Key W "GO" ⇾ AStatement) ∷ (item, TheItem) ∷ (consequence, May W "THEN" ⨟ AStatement)
-    ∷ (forVariable, AVariable ⨟ Key W "=" ⨟ ARelation ⨟ Key W "TO" ⨟ ARelation ⨟ TheStep)
-    ∷ (forEquals, Key W "=" ⨟ ARelation ⨟ Key W "TO" ⨟ ARelation ⨟ TheStep) ∷ (forTo, Key W "TO" ⨟ ARelation ⨟ TheStep)
-    ∷ (oneVariable, AVariable) ∷ (inputTarget, Key W "INPUT" ⇾ AStatement) ∷ (typedLine, ALine) ∷ (remark, λ s u. All isText s × (u ≡ [])) ∷ []
+    ∷ (forVariable, AVariable ⨟ ForEquals) ∷ (forEquals, ForEquals) ∷ (forTo, ForTo) ∷ (oneVariable, AVariable)
+    ∷ (inputTarget, Key W "INPUT" ⇾ AStatement) ∷ (typedLine, ALine) ∷ (remark, λ s u. All isText s × (u ≡ [])) ∷ []
 
 abbrev pub optional : List (ℕ × Part)
 optional =
@@ -98,16 +107,16 @@ optional =
     ∷ (forStep, TheStep) ∷ (moreVariables, AVariable ⇾ TheVariables) ∷ (moreMembers, AStatement ⇾ TheMembers)
     ∷ (listNumber, (λ s u. C s (sign (command "LIST")) u) ⇾ ALine) ∷ []
 
--- what stands for the front of an immediate line alone has a meaning of its own (`command-rules`)
+-- what begins a line by a command is read with other words, and has no meaning here (`command-rules`)
 abbrev pub Mean : ℕ → Part
 Mean x = elim (isOptional x) [ true ↦ pick optional (λ s u. s ≡ u) x | false ↦ pick needed (λ s u. Unit) x ]
 
-abbrev pub Then : ℕ → List ℕ → Part
+abbrev Then : ℕ → List ℕ → Part
 Then x [] = Mean x
 Then x (y ∷ ys) = Mean x ⨟ Then y ys
 
 -- a word of a sort, by a rule of words
-abbrev pub Spoken : (List ℕ → Token → List ℕ → Type 0) → ℕ → Part
+abbrev Spoken : (List ℕ → Token → List ℕ → Type 0) → ℕ → Part
 Spoken D k =
     pick (
     (aName, λ s u. (v : ℕ) × D s (variable v) u) ∷ (aDecimal, λ s u. (n : ℕ) × D s (decimal n) u)
@@ -115,16 +124,18 @@ Spoken D k =
     (λ s u. D s (sign k) u) k
 
 -- A rule: a word of a sort, and what may come after it, make a part
-abbrev pub Rule : (List ℕ → Token → List ℕ → Type 0) → Part → ℕ → List ℕ → Type 0
+abbrev Rule : (List ℕ → Token → List ℕ → Type 0) → Part → ℕ → List ℕ → Type 0
 Rule D P k [] = (s u : List ℕ) → Spoken D k s u → P s u
 Rule D P k (x ∷ xs) = (s t u : List ℕ) → Spoken D k s t → Then x xs t u → P s u
 
-pub data Rules (D : List ℕ → Token → List ℕ → Type 0) (P : Part) : Cases → Type 0 where
+data Rules (D : List ℕ → Token → List ℕ → Type 0) (P : Part) : Cases → Type 0 where
   none : Rules D P []
   more : {c : ℕ × List ℕ} {cs : Cases} → Rule D P (c .0) (c .1) → Rules D P cs → Rules D P (c ∷ cs)
 
+-- `more`, as a function: so the goal gives the rule its type
 infixr 5 _and_
-_and_ : {D : List ℕ → Token → List ℕ → Type 0} {P : Part} {c : ℕ × List ℕ} {cs : Cases} → Rule D P (c .0) (c .1) → Rules D P cs → Rules D P (c ∷ cs)
+_and_ : {D : List ℕ → Token → List ℕ → Type 0} {P : Part} {c : ℕ × List ℕ} {cs : Cases} → Rule D P (c .0) (c .1) → Rules D P cs
+    → Rules D P (c ∷ cs)
 _and_ = more
 
 factor-rules : Rules W AFactor factorCases
@@ -140,7 +151,7 @@ then-last : (x : ℕ) (xs : List ℕ) (y : ℕ) (s u : List ℕ) → Then x (xs 
 then-last x [] y s u m = m
 then-last x (z ∷ zs) y s u m = let (v, n, l) = then-last z zs y (m .0) u (m .2) in (v, (m .0, m .1, n), l)
 
--- Rules made of rules: for what a part makes, with more after it, one list after another
+-- Rules made of rules: of what a part makes, of a part and one more after it, of two lists
 module _ {D : List ℕ → Token → List ℕ → Type 0} {P Q : Part} where
   also : {cs : Cases} → ((s u : List ℕ) → P s u → Q s u) → Rules D P cs → Rules D Q cs
   also h none = none
@@ -193,13 +204,19 @@ target-rules =
     text-let m d f k (given w) = (_, aLetText m d f k w)
     text-let m d f k (copied j g) = (_, aLetCopy m d f k j g)
 
+-- a relation, after one part and before another
+relation-then : (P Q : Part) (s t u : List ℕ) → P s t → (ASum ⨟ (ASum ⇾ ARelation) ⨟ Q) t u → (P ⨟ ARelation ⨟ Q) s u
+relation-then P Q s t u p (x, a, (y, f, q)) = (t, p, (y, f t a, q))
+
+printing : {s t u : List ℕ} → PrintWord W s t → (TheItem ⨟ (TheItem ⇾ TheItems ⨟ TheLast)) t u → AStatement s u
+printing {t} p (x, i, m) = let (y, is, l) = m t i in (_, aPrint p (is .1) (l .1))
+
 statement-rules : Rules W AStatement statementCases
 statement-rules =
     (λ s t u k m. m s (aWord k))
     and (λ s t u k (x, a, f). (_, aGoto (whole k) ((f t a) .1))) and (λ s t u k (x, a, f). (_, aGosub (whole k) ((f t a) .1)))
     and (λ s t u k m. m s k) and (λ s u k. (_, aReturn k))
-    and (λ s t u k (x, i, m). let (y, is, l) = m t i in (_, aPrint (shortPrint k) (is .1) (l .1)))
-    and (λ s t u k (x, i, m). let (y, is, l) = m t i in (_, aPrint (longPrint k) (is .1) (l .1)))
+    and (λ s t u k m. printing (shortPrint k) m) and (λ s t u k m. printing (longPrint k) m)
     and (λ s t u k (x, a, (y, f, (z, m, (q, b)))). (_, anIf k ((f t a) .1) m b))
     and (λ s u k. (_, aDo k)) and (λ s t u k (x, a, f). (_, anUntil k ((f t a) .1)))
     and (λ s t u k (x, (v, w), (y, e, (z, r, (z', o, (z'', q, (c, p)))))). (_, aFor k w e (r .1) o (q .1) p))
@@ -223,73 +240,66 @@ command-rules : Rules C ALine (casesOf typedCommand)
 command-rules =
     (λ s u c e. (_, aNew c e)) and (λ s u c e. (_, aClear c e)) and (λ s u c e. (_, aRun c e)) and (λ s t u c m. m s c) and none
 
-data All-rules : List (ℕ × Cases) → Type 0 where
-  none : All-rules []
-  more : {c : ℕ × Cases} {cs : List (ℕ × Cases)} → Rules W (Mean (c .0)) (c .1) → All-rules cs → All-rules (c ∷ cs)
+data Table : List (ℕ × Cases) → Type 0 where
+  none : Table []
+  more : {c : ℕ × Cases} {cs : List (ℕ × Cases)} → Rules W (Mean (c .0)) (c .1) → Table cs → Table (c ∷ cs)
 
 infixr 4 _with_
-_with_ : {c : ℕ × Cases} {cs : List (ℕ × Cases)} → Rules W (Mean (c .0)) (c .1) → All-rules cs → All-rules (c ∷ cs)
+_with_ : {c : ℕ × Cases} {cs : List (ℕ × Cases)} → Rules W (Mean (c .0)) (c .1) → Table cs → Table (c ∷ cs)
 _with_ = more
 
-all-rules : All-rules rules
-all-rules =
+table : Table rules
+table =
     factor-rules with first-rules with ((λ s u k. k) and none)
-    with ((λ s t u k (x, a, (y, f, m)). (t, k, (y, f t a, m))) and none) with ((λ s t u k (x, a, (y, f, m)). (t, k, (y, f t a, m))) and none)
-    with target-rules with ((λ s t u k (x, a, f). (t, k, f t a)) and none) with ((λ s t u k v. (t, k, v)) and none)
+    with (relation-then (Key W "(") ModComma and none) with (relation-then (Key W ",") (Key W ")") and none) with target-rules
+    with ((λ s t u k (x, a, f). (t, k, f t a)) and none) with ((λ s t u k v. (t, k, v)) and none)
     with ((λ s u (bs, w). given w) and (λ s t u k (a, f). copied k f) and none)
     with statement-rules
     with ((λ s t u j (x, a, f) r k. (_, aGoto (parted k j) ((f t a) .1))) and (λ s t u j (x, a, f) r k. (_, aGosub (parted k j) ((f t a) .1))) and none)
     with item-rules
     with ((λ s t u k q. (t, aWord k, q)) and also (λ s u q. (s, noWord, q)) statement-rules)
-    with ((λ s t u w m. (t, w, m)) and none) with ((λ s t u k (x, a, (y, f, m)). (t, k, (y, f t a, m))) and none)
-    with ((λ s t u k (x, a, (y, f, m)). (t, k, (y, f t a, m))) and none)
+    with ((λ s t u w m. (t, w, m)) and none) with (relation-then (Key W "=") ForTo and none) with (relation-then (Key W "TO") TheStep and none)
     with ((λ s u w. w) and none)
     with ((λ s t u d (a, f) r k. (_, anInputText k d f)) and (λ s t u w m r k. (_, anInput k ((m s w) .1))) and none)
     with ((λ s t u (n, w) (x, q, m) e. (_, aStore w ((m t q e) .1))) and also (λ s u (q, p) e. (_, anImmediate p e)) statement-rules)
     with ((λ s u k. tt) and (λ s u k. tt) and (λ s u k. tt) and (λ s t u k m. tt) and none)
     with related-rules with operand-rules moreOfSum ASum (λ s u m. m)
-    with ((λ s t u c (x, i, m) r (j, p). let (y, is, l) = m t i in (y, (_, itemAnd p c (is .1)), l)) and (λ s u k r (j, p). (s, (_, oneItem p), (_, aSemicolon k))) and none)
+    with ((λ s t u c (x, i, m) r (j, p). let (y, is, l) = m t i in (y, (_, itemAnd p c (is .1)), l))
+    and (λ s u k r (j, p). (s, (_, oneItem p), (_, aSemicolon k))) and none)
     with ((λ s t u k (x, a, f). (_, someStep k ((f t a) .1))) and none)
     with ((λ s t u c (x, w, m) r (v, p). (_, variableAnd p c ((m t w) .1))) and none)
     with ((λ s t u c (x, q, m) r (i, p) e. (_, memberAnd p c ((m t q e) .1))) and none)
     with ((λ s u (n, w) r c e. (_, aListFrom c w e)) and none)
     with none
 
-rules-of : (x : ℕ) {cs : List (ℕ × Cases)} → All-rules cs → Rules W (Mean x) (choose cs [] x)
+rules-of : (x : ℕ) {cs : List (ℕ × Cases)} → Table cs → Rules W (Mean x) (choose cs [] x)
 rules-of x none = none
 rules-of x (more {c} {cs} f fs) = if-split (λ r. Rules W (Mean x) r) (eqb x (c .0)) (λ e. rw (eqb-true x (c .0) e) f) (λ _. rules-of x fs)
 
 -- What need not come may be nothing
-abbrev Stays : List (ℕ × Part) → Type 0
-Stays [] = Unit
-Stays (c ∷ cs) = ((s : List ℕ) → c .1 s s) × Stays cs
+data Stays : List (ℕ × Part) → Type 1 where
+  none : Stays []
+  more : {c : ℕ × Part} {cs : List (ℕ × Part)} → ((s : List ℕ) → c .1 s s) → Stays cs → Stays (c ∷ cs)
 
-stays : (cs : List (ℕ × Part)) (x : ℕ) → Stays cs → (s : List ℕ) → pick cs (λ s u. s ≡ u) x s s
-stays [] x f s = refl
-stays (c ∷ cs) x f s = go (eqb x (c .0)) (stays cs x (f .1) s)
+infixr 5 _beside_
+_beside_ : {c : ℕ × Part} {cs : List (ℕ × Part)} → ((s : List ℕ) → c .1 s s) → Stays cs → Stays (c ∷ cs)
+_beside_ = more
+
+optional-stays : Stays optional
+optional-stays =
+    (λ s r (a, p). (_, aSum p)) beside (λ s r m. m) beside (λ s r (i, p). (s, (_, oneItem p), (_, noSemicolon))) beside (λ s. (_, noStep))
+    beside (λ s r (v, w). (_, variableAlone w)) beside (λ s r (q, p) e. (_, lastMember p e)) beside (λ s r c e. (_, aList c e)) beside none
+
+stays : {cs : List (ℕ × Part)} → Stays cs → (x : ℕ) (s : List ℕ) → pick cs (λ s u. s ≡ u) x s s
+stays none x s = refl
+stays (more {c} {cs} f fs) x s = go (eqb x (c .0)) (stays fs x s)
   where
     go : (t : Bool) → pick cs (λ s u. s ≡ u) x s s → (elim t as (λ _. Part) [ true ↦ c .1 | false ↦ pick cs (λ s u. s ≡ u) x ]) s s
-    go true i = f .0 s
+    go true i = f s
     go false i = i
 
 pub left-out : (x : ℕ) → isOptional x ≡ true → (s : List ℕ) → Mean x s s
-left-out x e s =
-    rw (e, Mean) (stays optional x (
-      λ s r (a, p). (_, aSum p),
-      (
-        λ s r m. m,
-        (
-          λ s r (i, p). (s, (_, oneItem p), (_, noSemicolon)),
-          (
-            λ s. (_, noStep),
-            (
-              λ s r (v, w). (_, variableAlone w),
-              (λ s r (q, p) e. (_, lastMember p e), (λ s r c e. (_, aList c e), tt)),
-            ),
-          ),
-        ),
-      ),
-    ) s)
+left-out x e s = rw (e, Mean) (stays optional-stays x s)
 
 -- A stack: one after the other, from a text to what is left
 pub data Means : List ℕ → List ℕ → List ℕ → Type 0 where
@@ -360,7 +370,7 @@ turn-means {s} {t} {u} {next} {w = v} (x ∷ xs) e w m = go (caseIn (casesOf x) 
         let j : r ++ xs ≡ next = cc in
         let n : Means (r ++ xs) t u = rw j m in
         let q = parted-at r n in
-        more (case-makes W (Mean x) (sortOf v) r (rules-of x all-rules) h (spoken v w) (q .first)) (q .rest)
+        more (case-makes W (Mean x) (sortOf v) r (rules-of x table) h (spoken v w) (q .first)) (q .rest)
     go nothing h i g =
         if-split (λ o. o ≡ some next → Means (x ∷ xs) s u) (isOptional x) (λ f n. more (left-out x f s) (g n))
         (λ _ n. let z : _≡_ {A = ℕ} 0 1 = cc in absurd (omega arith)) i
