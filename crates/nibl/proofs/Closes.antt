@@ -75,7 +75,7 @@ ends-means (suc n) stack s t e a f g h =
     go wrong i m h = absurd (false≢true h)
     go (got w u) i m h = by w u (turn (sortOf w) stack) refl (word-sound keywords s u w i) m h
 
--- Stacks that come of a line: of what is there, and where a remark may come only what need not come stands behind
+-- Stacks that come of a line. A remark takes the rest of the line: behind what it may come of, nothing stands that must come
 abbrev takesAll : ℕ → Bool
 takesAll x = eqb x statement || eqb x consequence || eqb x typedLine || eqb x remark || eqb x moreMembers
 
@@ -83,6 +83,7 @@ abbrev isIn : List (ℕ × List ℕ) → ℕ → Bool
 isIn [] x = false
 isIn (c ∷ cs) x = eqb x (c .0) || isIn cs x
 
+-- there is a way to end it
 abbrev isKnown : ℕ → Bool
 isKnown x = isOptional x || eqb x remark || isIn endings x
 
@@ -108,7 +109,8 @@ allFit x cs = all (λ (c : ℕ × List ℕ). isFit x (c .1)) cs
 rules-fit : all (λ (c : ℕ × Cases). allFit (c .0) (c .1)) rules ≡ true
 rules-fit = refl
 
-fit-of : (p : ℕ → Cases → Bool) (x : ℕ) (cs : List (ℕ × Cases)) → p x [] ≡ true → all (λ (c : ℕ × Cases). p (c .0) (c .1)) cs ≡ true → p x (choose cs [] x) ≡ true
+fit-of : (p : ℕ → Cases → Bool) (x : ℕ) (cs : List (ℕ × Cases)) → p x [] ≡ true → all (λ (c : ℕ × Cases). p (c .0) (c .1)) cs ≡ true
+    → p x (choose cs [] x) ≡ true
 fit-of p x [] e h = e
 fit-of p x (c ∷ cs) e h =
     let a = and-left (p (c .0) (c .1)) (all (λ (c : ℕ × Cases). p (c .0) (c .1)) cs) h in
@@ -172,12 +174,13 @@ pub record Ended (stack s : List ℕ) : Type 0 where
   pub means : Means stack s left
   pub spaces : All isSpace left
 
+-- what ends it, after any spaces
 pub record Closed (stack : List ℕ) : Type 0 where
   pub ending : List ℕ
   pub apart : Apart ending
   pub made : (p : List ℕ) → All isSpace p → Ended stack (p ++ ending)
 
-pub all-end : (xs : List ℕ) → all isOptional xs ≡ true → Ended xs []
+all-end : (xs : List ℕ) → all isOptional xs ≡ true → Ended xs []
 all-end xs e = record { left = []; means = all-left-out xs [] e; spaces = done }
 
 pub remark-ends : {x : ℕ} {xs s : List ℕ} → eqb x remark ≡ true → (takesAll x ≡ true → all isOptional xs ≡ true) → All isText s → Ended (x ∷ xs) s
