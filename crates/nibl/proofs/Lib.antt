@@ -26,3 +26,7 @@ pub mod InOrder
 pub mod TakenLines
 pub mod CutWord
 pub mod CutLine
+pub mod Joined
+pub mod Means
+pub mod Closes
+pub mod FrontSound
