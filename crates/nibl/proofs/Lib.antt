@@ -10,6 +10,7 @@ pub mod Sound
 pub mod Statements
 pub mod Complete
 pub mod Desk
+pub mod GaveUp
 pub mod Spots
 pub mod Taken
 pub mod Spot
