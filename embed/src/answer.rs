@@ -44,4 +44,7 @@ pub struct Answer {
     pub inpos: usize,
     /// The end of what was written.
     pub outpos: usize,
+    /// Of a typed line that was refused with 5: so many bytes of it, as it was kept, could still be the front of a line
+    /// with a reading. 72 for an over-long one, and 0 for every other stop.
+    pub column: u16,
 }

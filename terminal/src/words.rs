@@ -5,7 +5,8 @@ use nibl::Stop;
 use crate::desk::{Cause, Reply};
 use crate::page::Change;
 
-/// A reply in one sentence: the stop's number and words, the line that gave it, the steps, and what came of it.
+/// A reply in one sentence: the stop's number and words, the line that gave it and the steps, or a refused line's column, and
+/// what came of it.
 pub fn sentence(reply: &Reply) -> String {
     let mut said = reply.stop.to_string();
     if reply.cause == Cause::Interrupted {
@@ -25,6 +26,7 @@ fn whereabouts(reply: &Reply) -> String {
     let steps = counted(reply.steps, "step");
     match reply.line {
         Some(line) => format!(" (line {line}, {steps})"),
+        None if reply.stop == Stop::NoReading => format!(" after column {}", reply.column),
         None if reply.steps > 0 || reply.stop == Stop::Paused => format!(" after {steps}"),
         None => String::new(),
     }
@@ -94,6 +96,7 @@ mod tests {
             stop,
             line,
             steps,
+            column: 0,
             cause: Cause::Answered,
             change: Change::Nothing,
             ended_pause: false,
@@ -102,9 +105,13 @@ mod tests {
 
     #[test]
     fn a_refused_line_and_a_pause() {
+        let wrong = Reply {
+            column: 6,
+            ..reply(Stop::NoReading, None, 0)
+        };
         assert_eq!(
-            sentence(&reply(Stop::NoReading, None, 0)),
-            "5: over-long or no reading; nothing was stored"
+            sentence(&wrong),
+            "5: over-long or no reading after column 6; nothing was stored"
         );
         let paused = reply(Stop::Paused, None, 10_000);
         assert_eq!(
@@ -158,7 +165,7 @@ mod tests {
         };
         assert_eq!(
             sentence(&wrong),
-            "5: over-long or no reading; nothing was stored; the pause has ended"
+            "5: over-long or no reading after column 0; nothing was stored; the pause has ended"
         );
     }
 

@@ -11,6 +11,7 @@ pub mod Statements
 pub mod Complete
 pub mod Desk
 pub mod Spots
+pub mod Spot
 pub mod Taken
 pub mod Ends
 pub mod Exact
