@@ -283,7 +283,7 @@ mod tests {
         assert_eq!(at(&"A".repeat(73), 80), Some(74)); // over-long
         assert_eq!(at("PRINT \"ä\"", 80), Some(9));
         assert_eq!(at("PRINT\t1", 80), Some(7));
-        assert_eq!(at("PRI__PRIMT", 80), None); // other bytes are kept
+        assert_eq!(at("PR__PRIMT", 80), None); // other bytes are kept
     }
 
     #[test]

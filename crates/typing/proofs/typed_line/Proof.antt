@@ -130,12 +130,22 @@ returns c =
     let a = start r .args in
     ap (λ (e : Ended). endedIn e (a .page .now) (a .memory .now) (a .output .now)) (c .stopped .ensures) ∙ ends-none (all r) (lim r) (hears r (c .before .enum-told .given .1))
 
+cast-refused : tie.Need-cast-refused
+cast-refused c =
+    let r = c .before .before .before .before .before in
+    let l = as-long r in
+    let q = start r .pre .0 .short in
+    omega arith
+
 returns-2 : tie.Need-returns-2
 returns-2 c =
     let r = c .before .before .before .before .before .before .before in
     let a = start r .args in
+    let at = c .before .before .before .g .given .0 .0 in
     ap (λ (e : Ended). endedIn e (a .page .now) (a .memory .now) (a .output .now))
-    (c .stopped2 .ensures ∙ ap (λ (x : Session). stopped 5 x (c .before .before .before .g .given .0 .0) (a .call .outpos)) (c .before .unpaused .ensures))
+    (c .refused .ensures
+    ∙ ap (λ (x : Session). refused (length (slots r)) x at (a .call .outpos)) (c .before .unpaused .ensures)
+    ∙ ap (λ (n : ℕ). refused n (unpaused (a .rec)) at (a .call .outpos)) (as-long r))
     ∙ ends-long (all r) (lim r) (hears r (c .before .before .before .g .given .1))
 
 same-length-6 : tie.Need-same-length-6
@@ -163,6 +173,7 @@ typed-line-spec =
     (λ c. search needs)
     (λ c κs. search needs)
     (λ c. search needs)
+    cast-refused
     (λ c κs. search needs)
     (λ c κs. search needs)
     (λ c. search needs)
