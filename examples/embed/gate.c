@@ -1,6 +1,6 @@
 /*
- * A host of the controller in one page: it lends a page, a memory and a record, types two lines, one of them wrong at first,
- * runs the program with a small budget, and continues the pause until the run is over. Build and run it, from the
+ * A host of the controller in one page: it lends a page, a memory and a record, types two lines, one of them wrongly at
+ * first, runs the program with a small budget, and continues the pause until the run is over. Build and run it, from the
  * repository's root:
  *
  *     cc -std=c11 -Wall -Wextra -Werror -Iinclude examples/embed/gate.c "$(tools/library)" -o gate && ./gate
@@ -15,7 +15,8 @@ static uint8_t memory[1024];
 static nibl_record record;
 
 /* What is typed, and what comes back. */
-static const uint8_t input[] = "10 FOR C=1 TO 3:PRINT \"COW\",C;\r20 NEXT C:PRIMT \" DONE\"\r20 NEXT C:PRINT \" DONE\"\rRUN\r";
+static const uint8_t input[] = "10 FOR C=1 TO 3:PRINT \"COW\",C;\r20 NEXT C:PRIMT \" DONE\"\r"
+                               "20 NEXT C:PRINT \" DONE\"\rRUN\r";
 static uint8_t output[256];
 
 static void show(const char *what, const nibl_call *call, const nibl_answer *answer) {
