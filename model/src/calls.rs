@@ -1,5 +1,6 @@
 //! The two calls of the controller.
 
+use crate::column::column;
 use crate::line::{read_line, Command, LineNumber, TypedLine};
 use crate::machine::{Ending, Flow, Machine};
 use crate::page::{delete, read_page, store, Program, END_MARK};
@@ -26,6 +27,9 @@ pub struct Answer {
     pub stop: Stop,
     pub line: Option<u16>,
     pub steps: u32,
+    /// How far a line without a reading could have gone on to one; 0 where the
+    /// stop is another.
+    pub column: u32,
     pub input_position: u32,
     pub output_position: u32,
 }
@@ -47,7 +51,7 @@ pub fn take_line(record: &mut Record, mut lent: Lent) -> Answer {
         false => read_line(&mut tree, gathered.kept()),
     };
     let ending = match line {
-        None => Ending::plain(Stop::NoReading, 0),
+        None => return lent.no_reading(column(&gathered)),
         Some(TypedLine::Blank) => Ending::plain(Stop::Done, 0),
         Some(TypedLine::Delete(number)) => lent.delete(record, &program, number),
         Some(TypedLine::Store(number, text)) => lent.store(record, &program, number, text),
@@ -99,8 +103,16 @@ impl Lent<'_> {
             stop: ending.stop,
             line: ending.line,
             steps: ending.steps,
+            column: 0,
             input_position: self.input_position,
             output_position: self.output_position,
+        }
+    }
+
+    fn no_reading(&self, column: u32) -> Answer {
+        Answer {
+            column,
+            ..self.answer(Ending::plain(Stop::NoReading, 0))
         }
     }
 

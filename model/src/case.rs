@@ -12,7 +12,7 @@ use crate::json::{parse, push_bytes, push_list, Json};
 use crate::record::{ForEntry, ForStack, Pause, Place, PlaceStack, Record};
 
 /// The last of document 02's items that is in force.
-const LANDED: u8 = 1;
+const LANDED: u8 = 2;
 
 const ITEMS: u8 = 13;
 
@@ -126,6 +126,7 @@ impl Case {
             Some(line) => push_number(&mut out, "line", line.into()),
         }
         push_number(&mut out, "steps", answer.steps);
+        push_number(&mut out, "column", answer.column);
         push_number(&mut out, "inpos", answer.input_position);
         push_number(&mut out, "outpos", answer.output_position);
         push_field(&mut out, "page", &self.page);

@@ -6,8 +6,8 @@
 //! definitions.
 //!
 //! Reading order: [`value`], [`stop`], [`typing`], [`words`], [`tree`],
-//! [`reader`], [`line`], [`page`], [`record`], [`machine`], [`statements`],
-//! [`calls`]. [`session`], [`case`] and [`json`] serve the programs in
+//! [`reader`], [`line`], [`column`], [`page`], [`record`], [`machine`],
+//! [`statements`], [`calls`]. [`session`], [`case`] and [`json`] serve the programs in
 //! `src/bin`, [`random`] makes sessions, cases and lines for comparisons, and
 //! [`rules`] pages to measure on.
 
@@ -15,6 +15,7 @@
 
 pub mod calls;
 pub mod case;
+pub mod column;
 pub mod json;
 pub mod line;
 pub mod machine;

@@ -16,7 +16,7 @@ const CASE: &str = concat!(
 );
 
 const OUTCOME: &str = concat!(
-    r#"{"stop":0,"line":null,"steps":0,"inpos":6,"outpos":4,"page":[255,255,7],"mem":[],"#,
+    r#"{"stop":0,"line":null,"steps":0,"column":0,"inpos":6,"outpos":4,"page":[255,255,7],"mem":[],"#,
     r#""out":[9,32,49,32],"rec":{"vars":[-32768,0,0,0,0,0,0,0,0,0,0,0,0,0,0,0,0,0,0,0,0,0,0,0,0,"#,
     r#"32767],"flags":3,"gosub":[1,[65535,0,0,0,0,0,0,0]],"do":[0,[0,0,0,0,0,0,0,0]],"#,
     r#""for":[0,[{"var":0,"limit":0,"step":0,"place":0},{"var":0,"limit":0,"step":0,"place":0},"#,
@@ -29,6 +29,28 @@ const SKIP: &str = "{\"skip\":true}";
 #[test]
 fn a_case_and_its_outcome() {
     assert_eq!(drive(CASE.as_bytes()), OUTCOME);
+}
+
+#[test]
+fn the_column_stands_behind_the_steps() {
+    for (typed, front) in [
+        (
+            "PRINT 1;2",
+            r#"{"stop":5,"line":null,"steps":0,"column":8,"inpos":10,"#,
+        ),
+        (
+            "10 RUN",
+            r#"{"stop":5,"line":null,"steps":0,"column":4,"inpos":7,"#,
+        ),
+        (
+            "DO",
+            r#"{"stop":3,"line":null,"steps":0,"column":0,"inpos":3,"#,
+        ),
+    ] {
+        let case = CASE.replace("[80,82,32,49,59,13]", &format!("\"{typed}\\r\""));
+        let outcome = drive(case.as_bytes());
+        assert!(outcome.starts_with(front), "{outcome}");
+    }
 }
 
 #[test]
@@ -148,20 +170,20 @@ fn with(field: &str) -> String {
 
 #[test]
 fn the_item_of_a_case() {
-    assert_eq!(drive(with("\"upto\":1").as_bytes()), OUTCOME);
-    for item in (0..=13).filter(|&item| item != 1) {
+    assert_eq!(drive(with("\"upto\":2").as_bytes()), OUTCOME);
+    for item in (0..=13).filter(|&item| item != 2) {
         let case = with(&format!("\"upto\":{item}"));
         assert_eq!(drive(case.as_bytes()), SKIP, "{item}");
         let other = format!("{{\"call\":\"save\",\"saved\":[1],\"upto\":{item}}}");
         assert_eq!(drive(other.as_bytes()), SKIP, "{item}");
     }
     for upto in [
-        "14", "-1", "256", "257", "1.0", "null", "true", "[1]", "{}", "\"1\"",
+        "14", "-1", "256", "258", "2.0", "null", "true", "[2]", "{}", "\"2\"",
     ] {
         let answer = drive(with(&format!("\"upto\":{upto}")).as_bytes());
         assert!(answer.starts_with("{\"error\":"), "{upto}: {answer}");
     }
-    let twice = drive(with("\"upto\":1,\"upto\":1").as_bytes());
+    let twice = drive(with("\"upto\":2,\"upto\":2").as_bytes());
     assert_eq!(twice, r#"{"error":"\"upto\" twice"}"#);
 }
 
@@ -176,7 +198,7 @@ fn what_later_items_add_is_absent_or_null() {
         ("lists", "[]"),
         ("room", "0"),
     ] {
-        for front in ["", "\"upto\":1,"] {
+        for front in ["", "\"upto\":2,"] {
             let case = with(&format!("{front}\"{field}\":null"));
             assert_eq!(drive(case.as_bytes()), OUTCOME, "{field}");
             let answer = drive(with(&format!("{front}\"{field}\":{value}")).as_bytes());

@@ -1,6 +1,7 @@
 //! Laws that hold of any implementation, over random cases of a fixed seed.
 
 use model::case::{Call, Case};
+use model::column::is_front;
 use model::page::read_page;
 use model::random::cases::case;
 use model::random::lines::{kept, verdict};
@@ -8,6 +9,7 @@ use model::random::pages::{program, render};
 use model::random::sessions::session;
 use model::random::{Random, Size};
 use model::session::run_session;
+use model::typing::{gather, LINE_LIMIT};
 use model::{Answer, Record, Stop};
 
 const ROUNDS: usize = 100_000;
@@ -59,6 +61,7 @@ fn every_call_keeps_the_laws() {
         only_the_answered_bytes_change(before, answer, after);
         answers_are_well_formed(before, answer, after);
         no_reading_changes_only_position_and_pause(before, answer, after);
+        the_column_is_that_of_the_line(before, answer);
     });
     for stop in Stop::ALL {
         let times = seen[usize::from(stop.number())];
@@ -128,6 +131,22 @@ fn no_reading_changes_only_position_and_pause(before: &Case, answer: &Answer, af
         assert_eq!(answer.output_position, before.output_position);
         assert_eq!((answer.line, answer.steps), (None, 0));
     }
+}
+
+fn the_column_is_that_of_the_line(before: &Case, answer: &Answer) {
+    let column = answer.column as usize;
+    if answer.stop != Stop::NoReading {
+        assert_eq!(column, 0);
+        return;
+    }
+    let line = gather(&before.input, before.input_position as usize).expect("a line");
+    if line.over_long {
+        assert_eq!(column, LINE_LIMIT);
+        return;
+    }
+    let kept = line.kept();
+    assert!(column <= kept.len() && is_front(&kept[..column]));
+    assert!(column == kept.len() || !is_front(&kept[..column + 1]));
 }
 
 #[test]

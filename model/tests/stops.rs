@@ -144,6 +144,7 @@ fn no_cr() {
             stop: 7,
             line: None,
             steps: 0,
+            column: 0,
             taken: 0,
             out: String::new(),
         };

@@ -17,6 +17,7 @@ use Rattle.nibl.specs.Page.{Stored, recordsOf, programBytes, hasLine, without, 
 use Rattle.nibl.specs.Meaning.{World, Env, on, skip, go, stop, Done, done, exec}
 use Rattle.nibl.specs.Calls.{Lent, Outcome, stops, firstRefusal, begun, lentEnv, edited, listFrom, afterImmediate, needsProgram, obey, takeLine, continueFrom, continueRun, limit}
 use Rattle.nibl.proofs.Words.{if-split}
+use Rattle.nibl.proofs.Spot.{column-exact}
 use Rattle.record.specs.Sound.{Sized}
 use Rattle.demands.specs.Lent.{gatheredLine}
 use Rattle.demands.specs.Leaves.{lineTakenAt, spotOf}
@@ -97,6 +98,6 @@ module _ (x : Lent) where
       ap columnIn (t .leaves) ∙ ap spotOf same
 
   -- "the length of the longest front part of the line that could still be the front of some line with a reading, the 72 limit put aside"
-  pub spot-exact : ((s : List ℕ) → IsColumn s (columnOf s)) → Sized (x .session) → takeLine x .answer .stop ≡ 5 → (g : Gathered) → gatheredLine limit x ≡ some g
-      → g .line .long ≡ false → IsColumn (g .line .bytes) (takeLine x .answer .column)
-  spot-exact column-exact s e g h l = subst (IsColumn (g .line .bytes)) (sym (column-at-5 s e g h ∙ rw l refl)) (column-exact (g .line .bytes))
+  pub spot-exact : Sized (x .session) → takeLine x .answer .stop ≡ 5 → (g : Gathered) → gatheredLine limit x ≡ some g → g .line .long ≡ false
+      → IsColumn (g .line .bytes) (takeLine x .answer .column)
+  spot-exact s e g h l = subst (IsColumn (g .line .bytes)) (sym (column-at-5 s e g h ∙ rw l refl)) (column-exact (g .line .bytes))

@@ -31,7 +31,7 @@ all-also : {p q : ℕ → Bool} → ((b : ℕ) → p b ≡ true → q b ≡ true
 all-also f done = done
 all-also f (each {b} e a) = each (f b e) (all-also f a)
 
-spaces-text : {s : List ℕ} → All isSpace s → All isText s
+pub spaces-text : {s : List ℕ} → All isSpace s → All isText s
 spaces-text a = all-also (λ b e. rw (eqb-true b 32 e)) a
 
 -- and so no CR

@@ -45,7 +45,7 @@ place-least n (v ∷ vs) w k e = go (same v w) (place-least (suc n) vs w k) e
     go true f h = let i : n ≡ k = cc in omega arith
     go false f h = omega (arith, f h)
 
-same-self : (w : List ℕ) → same w w ≡ true
+pub same-self : (w : List ℕ) → same w w ≡ true
 same-self [] = refl
 same-self (c ∷ w) = rw (eq-eqb c c refl) (same-self w)
 

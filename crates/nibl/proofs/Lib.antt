@@ -10,9 +10,10 @@ pub mod Sound
 pub mod Statements
 pub mod Complete
 pub mod Desk
+pub mod GaveUp
 pub mod Spots
-pub mod Spot
 pub mod Taken
+pub mod Spot
 pub mod Ends
 pub mod Exact
 pub mod Lines
@@ -23,3 +24,10 @@ pub mod Names
 pub mod Derived
 pub mod Once
 pub mod InOrder
+pub mod TakenLines
+pub mod CutWord
+pub mod CutLine
+pub mod Joined
+pub mod Means
+pub mod Closes
+pub mod FrontSound

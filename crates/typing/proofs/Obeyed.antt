@@ -17,7 +17,7 @@ use Rattle.nibl.specs.Calls.{Outcome, stops, needsProgram, runFrom, runOutcome,
 use Rattle.nibl.specs.Calls as calls
 use Rattle.nibl.specs.declared.Session.{Session}
 use Rattle.nibl.specs.declared.LineNumber.{LineNumber}
-use Rattle.nibl.proofs.Spot.{column-within}
+use Rattle.nibl.proofs.Spot.{column-exact}
 use Rattle.record.proofs.Fitted.{fit-vars, fit-cleared}
 use Rattle.word.specs.declared.Cursor.{Cursor}
 use Rattle.line.specs.declared.LineRead.{LineRead}
@@ -90,7 +90,7 @@ module _ (g : Given) where
 
   -- a column is within its line
   pub column-small : {c : ℕ} → c ≡ columnOf (g .text) → c ≤ 65535
-  column-small e = omega (arith, e, column-within (g .text), g .read .short)
+  column-small e = omega (arith, e, column-exact (g .text) .within, g .read .short)
 
   pub no-room-read : g .kind ≡ line.NoRoom → ⊥
   no-room-read f = no-room (length (g .text)) (typed (g .text)) (sym f ∙ g .read .kind-is)

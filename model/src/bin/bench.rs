@@ -13,10 +13,12 @@ use std::time::Instant;
 use model::line::LineNumber;
 use model::page::{delete, read_page, store};
 use model::rules::{empty_page, full_page, RULES};
+use model::typing::LINE_LIMIT;
 use model::{continue_run, take_line, ForEntry, Lent, Pause, Place, Record, Stop};
 
 const BATCHES: usize = 200;
 const CALL_LIMIT: f64 = 100.0;
+const COLUMN_LIMIT: f64 = 1000.0;
 const STEPS_LIMIT: f64 = 5.0;
 
 /// As many words as a line can hold.
@@ -77,6 +79,34 @@ fn time_call(texts: &[&str]) -> f64 {
         };
         assert_eq!(take_line(&mut record, lent).stop, Stop::Done);
     })
+}
+
+/// Lines without a reading, wrong early and late, and one with brackets on
+/// brackets; the longest time that one of them takes on an empty page.
+fn time_column() -> f64 {
+    let deep = format!("A={}", "(".repeat(LINE_LIMIT - 2));
+    let late = format!("{}A", "A=MOD(A,1)AND(1<=B)OR".repeat(3));
+    let half = format!("10{};{}", "A=1:".repeat(8), "A=1:".repeat(9));
+    let early = "X".repeat(LINE_LIMIT);
+    let mut page = empty_page(16);
+    let times = [deep, late, half, early].map(|line| {
+        let input = line + "\r";
+        best(20, || {
+            let lent = Lent {
+                page: &mut page,
+                memory: &mut [],
+                input: input.as_bytes(),
+                output: &mut [],
+                input_position: 0,
+                output_position: 0,
+                sense: 0,
+                budget: 0,
+            };
+            let answer = take_line(&mut Record::default(), lent);
+            assert_eq!(black_box(answer).stop, Stop::NoReading);
+        })
+    });
+    times.into_iter().fold(0.0, f64::max)
 }
 
 /// Millions of steps a second in a loop of assignments and FOR/NEXT.
@@ -151,6 +181,8 @@ fn main() -> ExitCode {
     println!("typed line on a full 4096-byte page: {call:.1} us (limit {CALL_LIMIT} us)");
     let dense = time_call(&DENSE);
     println!("the same with as many words as fit: {dense:.1} us (limit {CALL_LIMIT} us)");
+    let column = time_column();
+    println!("a line without a reading, at most: {column:.1} us (limit {COLUMN_LIMIT} us)");
     let steps = count_steps();
     println!("steps: {steps:.1} million a second (limit {STEPS_LIMIT} million)");
     let page = full_page(&RULES);
@@ -167,7 +199,8 @@ fn main() -> ExitCode {
         time_edit()
     );
     println!("finding a line on a 200-line page: {:.4} us", time_finder());
-    match call.max(dense) < CALL_LIMIT && steps >= STEPS_LIMIT {
+    let quick = call.max(dense) < CALL_LIMIT && column < COLUMN_LIMIT;
+    match quick && steps >= STEPS_LIMIT {
         true => ExitCode::SUCCESS,
         false => ExitCode::FAILURE,
     }

@@ -1,4 +1,4 @@
-//! Writes random sessions, cases or lines to standard output.
+//! Writes random sessions, cases or lines to standard output, or damaged lines.
 //!
 //!     generate KIND SEED COUNT [small]
 //!
@@ -11,10 +11,13 @@
 //! - `lines`: COUNT typed lines with the model's verdict, one JSON object a
 //!   line: `text` the kept bytes (at most 72); `verdict` one of "blank",
 //!   "delete", "store", "command", "statement" and "none" (no reading);
-//!   `number` the line number of a deleted or stored line, else `null`; `ends`
-//!   the position in `text` of each statement's ":" or of the end of the line,
-//!   for "store" and "statement", else empty; `three` whether a statement is
-//!   one that an immediate line may not hold.
+//!   `column` that of a line without a reading, else 0; `number` the line
+//!   number of a deleted or stored line, else `null`; `ends` the position in
+//!   `text` of each statement's ":" or of the end of the line, for "store" and
+//!   "statement", else empty; `three` whether a statement is one that an
+//!   immediate line may not hold.
+//! - `damaged`: COUNT different lines that have no reading, good ones of each
+//!   statement and command in turn after a slip, as cases that type them.
 
 #![forbid(unsafe_code)]
 
@@ -22,11 +25,12 @@ use std::io::{self, BufWriter, Write};
 use std::process::ExitCode;
 
 use model::random::cases::case;
+use model::random::damage::{refused, typed};
 use model::random::lines::{kept, verdict};
 use model::random::sessions::session;
 use model::random::{Random, Size};
 
-const USAGE: &str = "usage: generate sessions|cases|lines SEED COUNT [small]";
+const USAGE: &str = "usage: generate sessions|cases|lines|damaged SEED COUNT [small]";
 
 struct Order {
     kind: String,
@@ -43,7 +47,7 @@ fn order(arguments: &[String]) -> Option<Order> {
     let [kind, seed, count] = plain else {
         return None;
     };
-    let known = ["sessions", "cases", "lines"].contains(&kind.as_str());
+    let known = ["sessions", "cases", "lines", "damaged"].contains(&kind.as_str());
     known.then_some(Order {
         kind: kind.clone(),
         seed: seed.parse().ok()?,
@@ -55,16 +59,23 @@ fn order(arguments: &[String]) -> Option<Order> {
 fn write(order: &Order) -> io::Result<()> {
     let mut random = Random::new(order.seed);
     let mut sink = BufWriter::new(io::stdout().lock());
-    if order.kind == "sessions" {
-        sink.write_all(&session(&mut random, order.size, order.count))?;
-        return sink.flush();
-    }
-    for _ in 0..order.count {
-        let line = match order.kind.as_str() {
-            "cases" => case(&mut random, order.size).write(),
-            _ => verdict(&kept(&mut random, order.size)),
-        };
-        writeln!(sink, "{line}")?;
+    match order.kind.as_str() {
+        "sessions" => sink.write_all(&session(&mut random, order.size, order.count))?,
+        "damaged" => {
+            for damaged in refused(&mut random, order.count) {
+                writeln!(sink, "{}", typed(&damaged.line).write())?;
+            }
+        }
+        "cases" => {
+            for _ in 0..order.count {
+                writeln!(sink, "{}", case(&mut random, order.size).write())?;
+            }
+        }
+        _ => {
+            for _ in 0..order.count {
+                writeln!(sink, "{}", verdict(&kept(&mut random, order.size)))?;
+            }
+        }
     }
     sink.flush()
 }

@@ -4,6 +4,7 @@ use super::pages::program;
 use super::texts::Setting;
 use super::typed::{line, line_numbers};
 use super::{Random, Size};
+use crate::column::longest_front;
 use crate::json::{push_bytes, push_list};
 use crate::line::{read_line, LineNumber, TypedLine};
 use crate::reader::read_list;
@@ -43,9 +44,15 @@ pub fn verdict(kept: &[u8]) -> String {
         Some(TypedLine::Command(_)) => ("command", None, None, false),
         Some(TypedLine::Statement(id)) => ("statement", None, Some(kept), tree.needs_program(id)),
     };
+    let column = match read {
+        None => longest_front(kept),
+        Some(_) => 0,
+    };
     let mut out = String::from("{\"text\":");
     push_bytes(&mut out, kept);
-    out.push_str(&format!(",\"verdict\":\"{name}\",\"number\":"));
+    out.push_str(&format!(
+        ",\"verdict\":\"{name}\",\"column\":{column},\"number\":"
+    ));
     out.push_str(&number.map_or("null".to_string(), |LineNumber(number)| number.to_string()));
     out.push_str(",\"ends\":");
     push_list(&mut out, &ends(kept, text), |out, end| {

@@ -4,6 +4,7 @@
 //! implementations differ, so every stop must come up often.
 
 pub mod cases;
+pub mod damage;
 pub mod edits;
 pub mod faults;
 pub mod lines;

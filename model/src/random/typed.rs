@@ -1,5 +1,6 @@
 //! Typed lines and replies, as bytes of the input.
 
+use super::damage;
 use super::pages::{spoil, squeeze, Lines};
 use super::texts::{Scribe, Setting};
 use super::{Random, Size};
@@ -19,8 +20,9 @@ const TRICKY: [&str; 70] = [
     "PRINT#5ANDB", "A=STATORTOP", "NEWA=1", "RUNX", "LISTA", "LIST10", "IF1THENEND",
 ];
 
+/// The keywords and the commands.
 #[rustfmt::skip]
-const WORDS: [&str; 29] = [
+pub const WORDS: [&str; 29] = [
     "LET", "GO", "TO", "SUB", "GOTO", "GOSUB", "RETURN", "PR", "PRINT", "IF", "THEN", "DO", "UNTIL",
     "FOR", "STEP", "NEXT", "INPUT", "REM", "END", "STAT", "TOP", "MOD", "AND", "OR", "NOT", "NEW",
     "CLEAR", "LIST", "RUN",
@@ -28,7 +30,7 @@ const WORDS: [&str; 29] = [
 
 /// The kept bytes of a typed line: mostly one that has a reading.
 pub fn line(random: &mut Random, setting: Setting) -> Vec<u8> {
-    let mut line = match random.weighted(&[45, 14, 20, 14, 7, 11, 6, 2, 7, 5]) {
+    let mut line = match random.weighted(&[45, 14, 20, 14, 7, 11, 6, 2, 7, 5, 14]) {
         0 => b"RUN".to_vec(),
         1 => jump(random, setting),
         2 => immediate(random, setting),
@@ -38,7 +40,8 @@ pub fn line(random: &mut Random, setting: Setting) -> Vec<u8> {
         6 => written(random, setting, Scribe::program_only),
         7 => vec![b' '; random.below(4)],
         8 => tricky(random),
-        _ => heap(random),
+        9 => heap(random),
+        _ => damage::any(random),
     };
     if random.percent(12) {
         squeeze(random, &mut line);

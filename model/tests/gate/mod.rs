@@ -21,6 +21,7 @@ pub struct Reply {
     pub stop: u8,
     pub line: Option<u16>,
     pub steps: u32,
+    pub column: u32,
     /// How many input bytes were taken.
     pub taken: u32,
     pub out: String,
@@ -69,6 +70,7 @@ impl Gate {
             stop: answer.stop.number(),
             line: answer.line,
             steps: answer.steps,
+            column: answer.column,
             taken: answer.input_position,
             out: output.into_iter().map(char::from).collect(),
         }

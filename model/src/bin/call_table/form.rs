@@ -14,7 +14,7 @@ impl Input {
         Input(bytes.into_iter())
     }
 
-    /// The cases, which no longer say what stops are theirs.
+    /// The cases, which no longer say what answers are theirs.
     pub fn cases(&mut self) -> Vec<Written> {
         (0..self.number()).map(|_| self.case()).collect()
     }
@@ -106,7 +106,7 @@ impl Input {
             name,
             gate,
             calls,
-            stops: Vec::new(),
+            answers: Vec::new(),
         }
     }
 }

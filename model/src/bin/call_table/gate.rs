@@ -54,7 +54,7 @@ impl Gate {
         let record = &self.record;
         let line = answer.line.map_or("-".to_string(), |line| line.to_string());
         let mut row = format!("{} {line}", answer.stop.number());
-        show(&mut row, [answer.steps]);
+        show(&mut row, [answer.steps, answer.column]);
         show(&mut row, [answer.input_position, answer.output_position]);
         show(&mut row, [u16::from(record.flags), pause(record.paused)]);
         places(&mut row, &record.gosubs);

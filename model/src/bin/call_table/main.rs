@@ -15,8 +15,8 @@
 //! for a continued run), the sense byte and the budget. A number is two bytes, high first; a length of lent bytes, a
 //! position and a budget are two such numbers.
 //!
-//! A row has the stop with its line, the steps, both positions, the flags and the pause; the three stacks; the variables;
-//! the sums of page, memory and output; and the bytes that were written, at most the first 40.
+//! A row has the stop with its line, the steps, the column, both positions, the flags and the pause; the three stacks; the
+//! variables; the sums of page, memory and output; and the bytes that were written, at most the first 40.
 
 #![forbid(unsafe_code)]
 
@@ -53,8 +53,10 @@ fn table(cases: Vec<Written>) -> String {
 
 /// How often each call of these cases answers with a stop.
 fn count(cases: &[Written], call: Call, stop: Stop) -> usize {
-    let stops = cases.iter().flat_map(Written::outcomes);
-    stops.filter(|&outcome| outcome == (call, stop)).count()
+    let outcomes = cases.iter().flat_map(Written::outcomes);
+    outcomes
+        .filter(|(made, answer)| *made == call && answer.stop == stop)
+        .count()
 }
 
 /// A row for each stop: its number, and how often a typed line and a continued run give it.

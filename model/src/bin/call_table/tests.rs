@@ -10,14 +10,14 @@ use crate::form::{bytes, Input};
 use crate::{count, table};
 
 #[test]
-fn the_stops_are_those_of_the_document() {
+fn stops_and_columns_are_those_of_the_documents() {
     for case in cases() {
-        let stops: Vec<u8> = case
+        let answers: Vec<(u8, u32)> = case
             .outcomes()
             .iter()
-            .map(|(_, stop)| stop.number())
+            .map(|(_, answer)| (answer.stop.number(), answer.column))
             .collect();
-        assert_eq!(stops, case.stops, "{}", case.name);
+        assert_eq!(answers, case.answers, "{}", case.name);
     }
 }
 

@@ -3,7 +3,7 @@
 use model::case::Call;
 use model::page::{read_page, END_MARK};
 use model::typing::CR;
-use model::{ForEntry, Pause, Place, Record, Stop};
+use model::{Answer, ForEntry, Pause, Place, Record};
 
 use crate::gate::{Gate, Numbers};
 
@@ -13,8 +13,8 @@ pub struct Written {
     pub name: String,
     pub gate: Gate,
     pub calls: Vec<Numbers>,
-    /// The stop that the documents give each of the calls.
-    pub stops: Vec<u8>,
+    /// The stop and the column that the documents give each of the calls.
+    pub answers: Vec<(u8, u32)>,
 }
 
 /// What stands behind the end mark and behind the memory's strings, what an output is filled with, and what dead slots
@@ -101,7 +101,7 @@ pub fn on(name: &str, program: &[&str]) -> Written {
         name: name.to_string(),
         gate,
         calls: Vec::new(),
-        stops: Vec::new(),
+        answers: Vec::new(),
     }
 }
 
@@ -159,13 +159,13 @@ impl Written {
         self
     }
 
-    fn calls(mut self, call: Call, budget: u32, stop: u8) -> Written {
+    fn calls(mut self, call: Call, budget: u32, answer: (u8, u32)) -> Written {
         self.calls.push(Numbers {
             call,
             sense: SENSE,
             budget,
         });
-        self.stops.push(stop);
+        self.answers.push(answer);
         self
     }
 
@@ -175,7 +175,12 @@ impl Written {
     }
 
     pub fn types_in(self, budget: u32, stop: u8) -> Written {
-        self.calls(Call::Line, budget, stop)
+        self.calls(Call::Line, budget, (stop, 0))
+    }
+
+    /// Takes a typed line that has no reading, or is over-long, with this column.
+    pub fn refused_at(self, column: u32) -> Written {
+        self.calls(Call::Line, ENOUGH, (5, column))
     }
 
     /// Continues the run, which stops so.
@@ -184,7 +189,7 @@ impl Written {
     }
 
     pub fn goes_on_in(self, budget: u32, stop: u8) -> Written {
-        self.calls(Call::Continue, budget, stop)
+        self.calls(Call::Continue, budget, (stop, 0))
     }
 
     /// The same under a longer name.
@@ -193,10 +198,10 @@ impl Written {
         self
     }
 
-    /// Each call with the stop that the model gives it.
-    pub fn outcomes(&self) -> Vec<(Call, Stop)> {
+    /// Each call with the answer that the model gives it.
+    pub fn outcomes(&self) -> Vec<(Call, Answer)> {
         let mut gate = self.gate.clone();
-        let outcome = |&numbers: &Numbers| (numbers.call, gate.call(numbers).stop);
+        let outcome = |&numbers: &Numbers| (numbers.call, gate.call(numbers));
         self.calls.iter().map(outcome).collect()
     }
 }

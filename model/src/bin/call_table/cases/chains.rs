@@ -25,7 +25,7 @@ fn pauses() -> Vec<Written> {
             .types_in(1, 14).types(0).goes_on(0).types(20),
         fresh("5 ends a pause and keeps the stacks", &CALLS)
             .lines(&["RUN", "NONSENSE", "RETURN"])
-            .types_in(1, 14).types(5).goes_on(0).types(20),
+            .types_in(1, 14).refused_at(1).goes_on(0).types(20),
         fresh("3 ends a pause and keeps the stacks", &CALLS)
             .lines(&["RUN", "INPUT A", "RETURN"])
             .types_in(2, 14).types(3).goes_on(0).types(20),
@@ -76,7 +76,7 @@ fn edits() -> Vec<Written> {
             .types(0).types(0).types(0).types(0).types(0).types(0).types(0).types(0),
         fresh("lines written together, stored, refused and run", &[])
             .lines(&["10FORI=1TOP", "10FORI=1TO P", "20PRINTI;:NEXTI", "30A=AANDI", "30A=A ANDI", "P=2", "GOTO10", "LIST30", "NEWA=1", "GOTO10"])
-            .types(5).types(0).types(0).types(5).types(0).types(0).types(0).types(0).types(5).types(0),
+            .refused_at(10).types(0).types(0).refused_at(5).types(0).types(0).types(0).types(0).refused_at(3).types(0),
         fresh("a page filled and emptied", &[])
             .page(20)
             .lines(&["10 A=1", "20 A=2", "30", "15END", "10", "15END", "20", "15 REM 12345", "15"])

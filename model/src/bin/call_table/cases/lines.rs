@@ -3,7 +3,7 @@
 use model::rules::{full_page, RULES};
 use model::Place;
 
-use super::{crowd, line, typed, TWO};
+use super::{crowd, line, typed, wrong, TWO};
 use crate::gate::Gate;
 use crate::written::{fresh, on, Written};
 
@@ -41,27 +41,77 @@ fn no_cr() -> Vec<Written> {
     ]
 }
 
+/// "|" is no part of the line: it shows where its column is.
 #[rustfmt::skip]
-const NO_READING: [&str; 33] = [
-    "NONSENSE", "A=1:B=2", "PRINT", "PRINT -32768", "PRINT 1<2<3", "A=32768", "PRINT \"A", "a=1", "IF 1 THEN RUN", "NEW 1",
-    "LIST 32768", "10 NEW", "10 20 END", "32768 END", "32768",
-    "AANDB", "A=AANDB", "A=BORC", "PRINTAB", "IFADO", "IFA>BGOTOX", "30IFAEND", "FOR I=1TOP", "30 FORI=1TOP", "GO TOP", "PRIN",
-    "PRINT#5ANDB", "NEWA=1", "NEWS", "RUNX", "CLEARA", "LISTA", "30LIST10",
+const NO_READING: [&str; 153] = [
+    "N|ONSENSE", "A=1|:B=2", "PRINT|", "PRINT -3276|8", "PRINT 1<2|<3", "A=3276|8", "PRINT \"A|", "|a=1", "IF 1 THEN R|UN", "NEW |1",
+    "LIST 3276|8", "10 NE|W", "10 |20 END", "3276|8 END", "3276|8",
+    "A|ANDB", "A=A|ANDB", "A=B|ORC", "PRINTA|B", "IFA|DO", "IFA>B|GOTOX", "30IFA|END", "FOR I=1TO|P", "30 FORI=1TO|P", "GO TO|P", "PRIN|",
+    "PRINT#5A|NDB", "NEW|A=1", "NEW|S", "RUN|X", "CLEAR|A", "LIST|A", "30L|IST10",
+    // The desk's rows.
+    "A=(1|", "PRINTX  |Y", "9999|9", "10 R|UN", "GOSU|", "10 PRIN|X", "PRINT 3276|8", "A=#|", "PRINT \"AB|", "A=A|N", "FOR I=1 TO|PX",
+    // Numbers and commands.
+    "03276|8 END", "32767|0", "1 |0", "10 |:END", "10 END:|", "10 END:|:END", "10|#1", "RU|", "LIS|P", "LIST |#5", "LIST 1 |2", "CL|AER", "RUN |10",
+    // Words.
+    "G|", "GO|", "GO T|", "GO S|TEP", "GO |1", "GOT|", "GOT|X", "PR|", "PRIN|PUT", "PRINTTO|", "PRINTTO|X", "PRINT TO| 1", "PRINTE|ND",
+    "ST|EP 5", "T|OP=1", "N|OT 1", "IN|TO", "RE|N", "NEX|X", "UNTI|",
+    // Assignments.
+    "A|", "A |B", "A=|", "A=|=1", "A=B=C|=D", "LET|", "LET L|ET A=1", "LET ST|=1", "STAT|", "STAT|US=1", "@|", "@|-1=2", "@(1=2|", "@A|+1=2",
+    "$|", "$0|", "$0=|1", "$0=\"A|", "$0=\"A\"|,", "$0=$|", "$0=$1|+1", "A=|$1",
+    // Relations.
+    "A=1< |=2", "A=1=|<2", "A=1<>|=2", "A=2-|-3", "A=2*|-3", "A=NOT |-1", "A=(|)", "A=1|)", "A=(1=2|=3)", "A=1 AN|T", "A=1 O|F", "A=MOD|", "A=MOD(1|)",
+    "A=MOD(1,2|,3)", "A=MOD((1|,2),3)", "A=NO| 1", "A=TOPA|", "A=TOP|B", "A=#| 5", "A=#12345|G", "IF #5AN|D 1 END",
+    // Statements.
+    "PRINT |,", "PRINT 1,|", "PRINT 1,|;", "PRINT 1;|2", "PRINT $1|+1", "PRINT \"A\"|\"B\"", "PRINT 1 A|", "PR |;", "GOTO|", "GOTO 1|,2", "GOSUB (1|",
+    "RETURN |1", "IF|", "IF A T|", "IF A THE|X", "IF A THEN T|HEN END", "IF A E|LSE", "IF A=B|=C", "DO|A", "UNTIL |:", "FOR I|", "FOR I|J=1 TO 2",
+    "FOR I=1 T|HEN", "FOR I=1 TO TO|", "FOR I=1 TO 2 ST|OP", "FOR I=1 TO 2 |TO 3", "NEXT |1", "NEXT I|,J", "INPUT A,|", "INPUT A |B", "INPUT $A|,B",
+    "INPU|X", "END|S",
 ];
 
 fn no_reading() -> Vec<Written> {
-    let lines = NO_READING.map(|text| line(5, &TWO, text));
+    let lines = NO_READING.map(|row| {
+        let column = row.find('|').expect("a mark");
+        let text = row.replacen('|', "", 1);
+        wrong(column as u32, &format!("typed {text}"), &TWO, &text)
+    });
     let kept = format!("30 REM {}", "X".repeat(65));
-    let bytes = |name, input: &[u8]| on(name, &TWO).input(input).types(5);
+    let bytes = |column, name, input: &[u8]| on(name, &TWO).input(input).refused_at(column);
     let more = [
-        typed(5, "73 bytes", &TWO, &format!("{kept}X")),
-        typed(5, "73 bytes, one erased again", &TWO, &format!("{kept}X_")),
-        typed(5, "73 spaces", &TWO, &" ".repeat(73)),
-        bytes("byte 9 in a typed line", b"A=\x091\r"),
-        bytes("byte 128 in a typed remark", b"REM \x80\r"),
-        bytes("byte 255 in a line to store", b"30 REM \xff\r"),
-        bytes("byte 1 in a blank line", b" \x01\r"),
-        bytes("byte 9 behind a number alone", b"10\t\r"),
+        wrong(72, "73 bytes", &TWO, &format!("{kept}X")),
+        wrong(72, "73 bytes, one erased again", &TWO, &format!("{kept}X_")),
+        wrong(
+            72,
+            "73 bytes, all erased again",
+            &TWO,
+            &format!("{kept}X{}", "_".repeat(73)),
+        ),
+        wrong(72, "73 spaces", &TWO, &" ".repeat(73)),
+        wrong(
+            72,
+            "72 bytes that could go on",
+            &TWO,
+            &format!("A={}", "(".repeat(70)),
+        ),
+        wrong(
+            1,
+            "72 bytes, wrong from the second on",
+            &TWO,
+            &"X".repeat(72),
+        ),
+        wrong(
+            5,
+            "73 bytes, and 21 before a wrong line",
+            &TWO,
+            &format!("{kept}X\x15PRINT"),
+        ),
+        wrong(6, "slips in a wrong line", &TWO, "\0PRX_I\nNT ,"),
+        bytes(2, "byte 9 in a typed line", b"A=\x091\r"),
+        bytes(4, "byte 128 in a typed remark", b"REM \x80\r"),
+        bytes(7, "byte 255 in a line to store", b"30 REM \xff\r"),
+        bytes(8, "byte 200 in a string", b"PRINT \"A\xc8\"\r"),
+        bytes(1, "byte 1 in a blank line", b" \x01\r"),
+        bytes(2, "byte 9 behind a number alone", b"10\t\r"),
+        bytes(0, "byte 127 alone", b"\x7f\r"),
     ];
     lines.into_iter().chain(more).collect()
 }

@@ -40,6 +40,11 @@ fn line(stop: u8, program: &[&str], line: &str) -> Written {
     typed(stop, &format!("typed {line}"), program, line)
 }
 
+/// The same with a line that has no reading, or is over-long.
+fn wrong(column: u32, name: &str, program: &[&str], line: &str) -> Written {
+    on(name, program).lines(&[line]).refused_at(column)
+}
+
 /// What a run stops with, what it shows, its program and its replies.
 type Run = (u8, &'static str, &'static [&'static str], &'static str);
 

@@ -2,7 +2,7 @@
 
 use model::{ForEntry, Pause, Place};
 
-use super::{pause_after, refused, typed, Change, FIVE, TWO};
+use super::{pause_after, refused, typed, wrong, Change, FIVE, TWO};
 use crate::gate::Gate;
 use crate::written::{fresh, on, page_of, Written};
 
@@ -250,9 +250,9 @@ fn one_before_another() -> Vec<Written> {
             .goes_on(19),
         typed(19, "19 before 5", &TWO, "NONSENSE").with(spoil_record),
         on("7 before 5", &TWO).input("NONSENSE").types(7),
-        typed(5, "5 before 3", &TWO, "DO DO"),
-        typed(5, "5 before 2", &TWO, "30 NONSENSE").page(20),
-        typed(5, "over-long before 2", &TWO, &"30 A=1".repeat(13)).page(20),
+        wrong(3, "5 before 3", &TWO, "DO DO"),
+        wrong(4, "5 before 2", &TWO, "30 NONSENSE").page(20),
+        wrong(72, "over-long before 2", &TWO, &"30 A=1".repeat(13)).page(20),
         typed(3, "3 before what would run", &TWO, "IF 1/0 INPUT A"),
     ]
 }
