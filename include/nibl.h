@@ -115,6 +115,9 @@ typedef struct {
     uint16_t steps; /* the steps that ran, the one that stopped included */
     size_t inpos;   /* where to read next */
     size_t outpos;  /* the end of what was written */
+    /* Of a typed line that was refused with NIBL_NO_READING: so many bytes of it, as it was kept, could still be the front
+     * of a line with a reading; NIBL_LINE_MOST if it was over-long. 0 for every other stop. */
+    uint16_t column;
 } nibl_answer;
 
 /* Give either call 72 KiB of stack: it takes less than 8 KiB, and up to 880 bytes for each open bracket, "@" or NOT. */

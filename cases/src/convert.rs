@@ -90,5 +90,6 @@ pub fn model_answer(answer: &nibl::Answer) -> model::Answer {
         steps: answer.steps.into(),
         input_position: answer.inpos as u32,
         output_position: answer.outpos as u32,
+        column: answer.column.into(),
     }
 }

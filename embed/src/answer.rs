@@ -5,6 +5,9 @@ use crate::stop::Stop;
 /// The line that the library answers with where there is none.
 pub const NO_LINE: u16 = 65535;
 
+/// How many bytes of a typed line, or of a reply, are kept. It is the column of an over-long line.
+pub const LINE_MOST: u16 = 72;
+
 /// The numbers of a call. In C's layout: `nibl_call` in `include/nibl.h`.
 #[repr(C)]
 #[derive(Clone, Copy, Debug, Default, PartialEq, Eq)]
@@ -44,4 +47,7 @@ pub struct Answer {
     pub inpos: usize,
     /// The end of what was written.
     pub outpos: usize,
+    /// Of a typed line that was refused with 5: so many bytes of it, as it was kept, could still be the front of a line
+    /// with a reading. [`LINE_MOST`] for an over-long one, and 0 for every other stop.
+    pub column: u16,
 }

@@ -70,6 +70,7 @@ where
     /// assert_eq!(&output[..answer.outpos], b" 3 \r\n");
     /// let answer = gate.take_line(b"PRIMT 7/2\r", &mut output, Call::at(0, 0, 0));
     /// assert_eq!(answer.stop.to_string(), "5: over-long or no reading");
+    /// assert_eq!(answer.column, 3); // "PRI" could become a line, "PRIM" could not
     /// ```
     pub fn take_line(&mut self, input: &[u8], output: &mut [u8], call: Call) -> Answer {
         let (page, memory) = (self.page.as_mut(), self.memory.as_mut());

@@ -19,6 +19,7 @@ pub(crate) struct Written {
     pub(crate) steps: u16,
     pub(crate) inpos: usize,
     pub(crate) outpos: usize,
+    pub(crate) column: u16,
 }
 
 impl Written {
@@ -29,6 +30,7 @@ impl Written {
             steps: self.steps,
             inpos: self.inpos,
             outpos: self.outpos,
+            column: self.column,
         }
     }
 }

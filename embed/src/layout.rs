@@ -98,7 +98,8 @@ mod tests {
                 line,
                 steps,
                 inpos,
-                outpos
+                outpos,
+                column
             }),
         ];
         assert_eq!(of_c(), rust.concat());

@@ -54,7 +54,7 @@ mod stop;
 #[doc = include_str!("../../docs/EMBEDDING.md")]
 struct Embedding;
 
-pub use answer::{Answer, Call, NO_LINE};
+pub use answer::{Answer, Call, LINE_MOST, NO_LINE};
 pub use controller::{empty_page, Controller};
 pub use gate::{continue_run, take_line};
 pub use record::{ForEntry, ForStack, PlaceStack, Record, MARK, NOWHERE, START};

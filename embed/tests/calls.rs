@@ -14,6 +14,29 @@ fn typed(
 }
 
 #[test]
+fn a_refused_line_has_its_column_and_every_other_answer_0() {
+    let mut gate = Controller::owned(256, 0);
+    let mut column = |line: &[u8]| {
+        let answer = gate.take_line(line, &mut [], Call::at(0, 0, 9));
+        (answer.stop, answer.column)
+    };
+    assert_eq!(column(b"30 PRIMT 1\r"), (Stop::NoReading, 6));
+    assert_eq!(column(b"print 1\r"), (Stop::NoReading, 0));
+    assert_eq!(column(b"IF A=1 GOTX 10\r"), (Stop::NoReading, 10));
+    assert_eq!(column(b"A=(1\r"), (Stop::NoReading, 4));
+    assert_eq!(column(b"PR__PRIMT\r"), (Stop::NoReading, 3)); // of the bytes that are kept
+    assert_eq!(column(&[b'A'; 73]), (Stop::NoCr, 0));
+    assert_eq!(
+        column(&[&[b'A'; 73][..], b"\r"].concat()),
+        (Stop::NoReading, 72)
+    );
+    assert_eq!(column(b"PRINT 1\r"), (Stop::OutputFull, 0));
+    assert_eq!(column(b"10 INPUT A\r"), (Stop::Done, 0));
+    assert_eq!(column(b"RUN\rX\r"), (Stop::OutputFull, 0));
+    assert_eq!(column(b"INPUT A\r"), (Stop::NotImmediate, 0));
+}
+
+#[test]
 fn every_field_of_the_record_crosses_both_ways() {
     let mut gate = Controller::owned(256, 0);
     typed(&mut gate, "10 FOR Z=1 TO 5 STEP 2:DO:GOSUB 30\r", 0);

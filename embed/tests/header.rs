@@ -80,6 +80,7 @@ fn the_named_numbers_are_the_same() {
         ("NIBL_NOWHERE", nibl::NOWHERE),
         ("NIBL_START", nibl::START),
         ("NIBL_NO_LINE", nibl::NO_LINE),
+        ("NIBL_LINE_MOST", nibl::LINE_MOST),
     ];
     for (name, number) in wanted {
         assert_eq!(header(name), usize::from(number), "{name}");
@@ -123,6 +124,14 @@ fn lines_at_and_past_their_limits() {
     let most = header("NIBL_LINE_MOST");
     assert_eq!(stop(format!("{:most$}", "NEW")), Stop::Done);
     assert_eq!(stop(format!("{:1$}", "NEW", most + 1)), Stop::NoReading);
+    let column = |line: String| {
+        let mut gate = Controller::owned(header("NIBL_PAGE_LEAST"), 0);
+        usize::from(
+            gate.take_line(line.as_bytes(), &mut [], Call::at(0, 0, 0))
+                .column,
+        )
+    };
+    assert_eq!(column(format!("{:1$}\r", "NEW", most + 1)), most);
     let highest = header("NIBL_LINE_NUMBER_MOST");
     assert_eq!(stop(format!("{highest} END")), Stop::Done);
     assert_eq!(stop(format!("{} END", highest + 1)), Stop::NoReading);

@@ -44,6 +44,8 @@ pub struct Reply {
     pub stop: Stop,
     pub line: Option<u16>,
     pub steps: u64,
+    /// Of a refused line: so many bytes of it could still be the front of a line with a reading.
+    pub column: u16,
     pub cause: Cause,
     pub change: Change,
     /// The typed line ended a pause.
@@ -176,6 +178,7 @@ impl Desk {
                 stop: answer.stop,
                 line: answer.line,
                 steps: run.steps,
+                column: answer.column,
                 cause: match (interrupted, replied) {
                     (true, _) => Cause::Interrupted,
                     (false, false) => Cause::NoReply,
@@ -437,6 +440,22 @@ mod tests {
         }
         let listed = desk.listing().expect("a listing");
         assert!(listed.starts_with(b"31000DO\r\n") && listed.len() == 9 * ((PAGE - 2) / 6));
+    }
+
+    #[test]
+    fn a_refused_line_has_its_column_and_no_other_has_one() {
+        let mut desk = Desk::default();
+        let mut column = |line: &str| {
+            let reply = desk.take_line(line.as_bytes(), &mut Script::default());
+            (reply.stop.number(), reply.column)
+        };
+        assert_eq!(column("30 PRIMT 1"), (5, 6));
+        assert_eq!(column("print 1"), (5, 0));
+        assert_eq!(column("PRINT"), (5, 5));
+        assert_eq!(column("PR__PRIMT"), (5, 3)); // of the bytes that are kept
+        assert_eq!(column(&"A".repeat(73)), (5, 72));
+        assert_eq!(column("PRINT 1/0"), (13, 0));
+        assert_eq!(column("PRINT 1"), (0, 0));
     }
 
     #[test]

@@ -7,7 +7,9 @@ use crate::editor::{shape, Row};
 /// Stands before every line that the dealer types. It is none of the characters that program output is shown in.
 pub const PROMPT: &str = "» ";
 /// Stands before what the desk says of a line.
-const SAID: &str = "« ";
+pub const SAID: &str = "« ";
+/// Stands below the first byte of a line that is wrong.
+const POINTER: &str = "^";
 const BOLD: &str = "\x1b[1m";
 const DIM: &str = "\x1b[2m";
 const PLAIN: &str = "\x1b[0m";
@@ -59,6 +61,13 @@ impl<W: Write> Screen<W> {
         let words = format!("{SAID}{}", words.chars().map(shape).collect::<String>());
         let styled = self.styled(if stands_out { BOLD } else { DIM }, &words);
         self.put(&format!("{styled}\r\n"));
+    }
+
+    /// Points at a column of the row above.
+    pub fn point(&mut self, column: usize) {
+        self.fresh_line();
+        let styled = self.styled(BOLD, POINTER);
+        self.put(&format!("{}{styled}\r\n", " ".repeat(column)));
     }
 
     /// Several lines that the dealer asked for.
@@ -178,6 +187,12 @@ mod tests {
             screen.say("0: done", false);
         });
         assert_eq!(text, "BOX\r\n« 20: END\r\nBOX\r\n« 0: done\r\n");
+    }
+
+    #[test]
+    fn the_pointer_stands_in_its_column() {
+        assert_eq!(shown(|screen| screen.point(3)), "   ^\r\n");
+        assert_eq!(shown(|screen| screen.point(0)), "^\r\n");
     }
 
     #[test]

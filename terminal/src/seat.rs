@@ -2,12 +2,15 @@
 
 use std::io::Write;
 
-use crate::desk::Dealer;
+use nibl::Stop;
+
+use crate::desk::{Dealer, Reply};
 use crate::editor::{Editor, Pressed};
 use crate::history::History;
 use crate::keyboard::Keyboard;
 use crate::raw;
 use crate::screen::{Screen, PROMPT};
+use crate::show::spot;
 
 /// What the dealer was asked for, and answered.
 #[derive(Debug, PartialEq, Eq)]
@@ -45,6 +48,16 @@ impl<W: Write> Seat<W> {
             &mut self.typed,
             PROMPT,
         )
+    }
+
+    /// Points at the spot of a refused line that stands in the row above, behind some text.
+    pub fn point(&mut self, before: &str, line: &[u8], reply: &Reply) {
+        if reply.stop != Stop::NoReading {
+            return;
+        }
+        if let Some(at) = spot(line, reply.column, before.chars().count(), raw::width()) {
+            self.screen.point(at);
+        }
     }
 
     pub fn has_left(&self) -> bool {

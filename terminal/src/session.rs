@@ -8,6 +8,7 @@ use nibl::Stop;
 use crate::commands::{parse, Command, HELP};
 use crate::desk::{Dealer, Desk, Reply};
 use crate::files;
+use crate::screen::{PROMPT, SAID};
 use crate::seat::{Asked, Seat};
 use crate::show;
 use crate::words::{counted, grouped, sentence, stops};
@@ -44,6 +45,7 @@ impl<W: Write> Session<W> {
         match parse(line) {
             None => {
                 let reply = self.desk.take_line(line.as_bytes(), &mut self.seat);
+                self.seat.point(PROMPT, line.as_bytes(), &reply);
                 self.answer(&reply);
             }
             Some(Ok(command)) => self.command(command),
@@ -212,9 +214,9 @@ fn numbered(bytes: &[u8]) -> VecDeque<(usize, &[u8])> {
 impl<W: Write> Book<'_, W> {
     fn refused(&mut self, file: &str, number: usize, line: &[u8], reply: &Reply) {
         let text = String::from_utf8_lossy(line);
-        self.seat
-            .screen
-            .say(&format!("{file}, line {number}: {text}"), true);
+        let before = format!("{file}, line {number}: ");
+        self.seat.screen.say(&format!("{before}{text}"), true);
+        self.seat.point(&format!("{SAID}{before}"), line, reply);
         self.seat.screen.say(&sentence(reply), true);
     }
 }

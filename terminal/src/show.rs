@@ -13,6 +13,8 @@ const AFTER: u16 = 2;
 /// How many bytes of memory a row has, and how many rows are shown from an address on.
 const ROW: usize = 10;
 const ROWS: usize = 6;
+/// Bytes that typing drops, or that take back others: 0 and LF, Ctrl-U, and `_`.
+const UNKEPT: [u8; 4] = [0, 10, 21, 95];
 
 pub fn state(desk: &Desk) -> String {
     let (record, page) = (&desk.controller.record, &desk.controller.page);
@@ -122,6 +124,16 @@ fn rest_after(place: u16, page: &[u8]) -> Option<String> {
     let line = line_at(page, usize::from(place))?;
     let rest = page.get(begin..line.end)?;
     Some(String::from_utf8_lossy(rest).trim().to_string())
+}
+
+/// Where in its row the spot of a refused line is, if the row shows it: the line stands there behind some columns, and does
+/// not go on in the next row. It must be shown as it was kept up to the spot: a byte to a column, none dropped and none erased.
+pub fn spot(line: &[u8], column: u16, behind: usize, width: usize) -> Option<usize> {
+    let good = usize::from(column);
+    let fits = behind + line.len().max(good + 1) < width; // the last column stays free: terminals differ there
+    let kept = !line.iter().any(|byte| UNKEPT.contains(byte));
+    let plain = line.iter().take(good).all(u8::is_ascii);
+    (fits && kept && plain).then_some(behind + good)
 }
 
 /// The memory in short: the rows that have something in them.
@@ -253,6 +265,25 @@ mod tests {
         );
         assert_eq!(rows(&after(2, &program), "pause"), ["before line 20"]);
         assert_eq!(rows(&after(7, &program), "pause"), ["before line 20"]);
+    }
+
+    #[test]
+    fn a_spot_is_shown_below_its_byte() {
+        let mut desk = Desk::default();
+        let mut at = |line: &str, width| {
+            let reply = desk.take_line(line.as_bytes(), &mut Silent);
+            assert_eq!(reply.stop.number(), 5);
+            spot(line.as_bytes(), reply.column, 2, width)
+        };
+        assert_eq!(at("30 PRIMT 1", 80), Some(8));
+        assert_eq!(at("30 PRIMT 1", 13), Some(8));
+        assert_eq!(at("30 PRIMT 1", 12), None); // it may go on in the next row
+        assert_eq!(at("PRINT", 9), Some(7)); // behind the last byte
+        assert_eq!(at("PRINT", 8), None);
+        assert_eq!(at(&"A".repeat(73), 80), Some(74)); // over-long
+        assert_eq!(at("PRINT \"ä\"", 80), Some(9));
+        assert_eq!(at("PRINT\t1", 80), Some(7));
+        assert_eq!(at("PR__PRIMT", 80), None); // other bytes are kept
     }
 
     #[test]

@@ -1,13 +1,13 @@
 //! What is said of a reply, and of the stops.
 
-use nibl::Stop;
+use nibl::{Stop, LINE_MOST};
 
 use crate::desk::{Cause, Reply};
 use crate::page::Change;
 
 /// A reply in one sentence: the stop's number and words, the line that gave it, the steps, and what came of it.
 pub fn sentence(reply: &Reply) -> String {
-    let mut said = reply.stop.to_string();
+    let mut said = reason(reply);
     if reply.cause == Cause::Interrupted {
         said += " by Ctrl-C";
     }
@@ -19,6 +19,16 @@ pub fn sentence(reply: &Reply) -> String {
         said += "; the pause has ended";
     }
     said
+}
+
+/// The stop in words. A line whose column is less than an over-long one's is none.
+fn reason(reply: &Reply) -> String {
+    match (reply.stop, reply.column) {
+        (Stop::NoReading, column) if column < LINE_MOST => {
+            format!("{}: no reading after column {column}", reply.stop.number())
+        }
+        (stop, _) => stop.to_string(),
+    }
 }
 
 fn whereabouts(reply: &Reply) -> String {
@@ -94,6 +104,7 @@ mod tests {
             stop,
             line,
             steps,
+            column: 0,
             cause: Cause::Answered,
             change: Change::Nothing,
             ended_pause: false,
@@ -102,8 +113,16 @@ mod tests {
 
     #[test]
     fn a_refused_line_and_a_pause() {
+        let wrong = |column| Reply {
+            column,
+            ..reply(Stop::NoReading, None, 0)
+        };
         assert_eq!(
-            sentence(&reply(Stop::NoReading, None, 0)),
+            sentence(&wrong(6)),
+            "5: no reading after column 6; nothing was stored"
+        );
+        assert_eq!(
+            sentence(&wrong(LINE_MOST)),
             "5: over-long or no reading; nothing was stored"
         );
         let paused = reply(Stop::Paused, None, 10_000);
@@ -158,7 +177,7 @@ mod tests {
         };
         assert_eq!(
             sentence(&wrong),
-            "5: over-long or no reading; nothing was stored; the pause has ended"
+            "5: no reading after column 0; nothing was stored; the pause has ended"
         );
     }
 

@@ -4,8 +4,8 @@
 // calls, after one byte for their number. The calls of a case are made one after the other, each on what the one before left,
 // from the positions that it answered.
 //
-// Below a case's name each call has a row: the stop with its line, the steps, both positions, the flags, the pause, the stacks,
-// the variables, the sums of page, memory and output, and the bytes that were written, at most the first 40.
+// Below a case's name each call has a row: the stop with its line, the steps, the column, both positions, the flags, the pause,
+// the stacks, the variables, the sums of page, memory and output, and the bytes that were written, at most the first 40.
 ghost use Prim.Native.Nat.{_≤_};
 ghost use lib.ListN.{length};
 ghost use mathlib.Core.Path.{_≡_};
@@ -183,6 +183,7 @@ fn show_answer(answer: Answer) {
     io::print_decimal(1, answer.stop as u64);
     show_line(answer.line);
     show(answer.steps as u64);
+    show(answer.column as u64);
     show(answer.inpos as u64);
     show(answer.outpos as u64);
 }

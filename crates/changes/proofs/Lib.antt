@@ -3,3 +3,4 @@ pub mod PageKept
 pub mod Unread
 pub mod RunTogether
 pub mod Together
+pub mod Columns

@@ -12,18 +12,19 @@ use borrow.Author.Tests.{eqb-true}
 use Rattle.nibl.specs.Bytes.{if_then_else_}
 use Rattle.nibl.specs.Tree.{Typed, blank, new, clear, run, delete, list, store, immediate}
 use Rattle.nibl.specs.Read.{typed}
+use Rattle.nibl.specs.Column.{columnOf}
 use Rattle.nibl.specs.Readings.{LineReading}
 use Rattle.nibl.specs.Typing.{Gathered}
 use Rattle.nibl.specs.Page.{Stored, isAmong, isGood, recordsOf, size, lineIn, lineOf, hasLine, without, with, programBytes, onto}
 use Rattle.nibl.specs.Meaning.{World, Env, stop, Done, withSession, exec}
-use Rattle.nibl.specs.Calls.{Lent, Outcome, noLine, stopAt, envAt, runFrom, runOutcome, stops, firstRefusal, begun, lentEnv, edited, afterImmediate, needsProgram, obey, obeyRead, takeLine, takeLineIn, continueFrom, continueRun, limit}
+use Rattle.nibl.specs.Calls.{Lent, Outcome, noLine, stopAt, envAt, runFrom, runOutcome, stops, refusedLine, firstRefusal, begun, lentEnv, edited, afterImmediate, needsProgram, obey, obeyRead, takeLine, takeLineIn, continueFrom, continueRun, limit}
 use Rattle.nibl.specs.Record.{stackless}
 use Rattle.nibl.proofs.Words.{if-split}
 use Rattle.nibl.proofs.Lines.{typed-sound}
 use Rattle.page.proofs.Program.{Program, none as no-record, each}
 use Rattle.page.proofs.Laid.{good-laid, laid-program}
 use Rattle.demands.specs.Lent.{gatheredLine, Typing, OneOfThese, firstRefusals, twoAndThree}
-use Rattle.demands.specs.Leaves.{unchanged, lineTaken, TakesLine}
+use Rattle.demands.specs.Leaves.{unchanged, lineTakenAt, spotOf, TakesLine}
 use Rattle.demands.proofs.Runs.{placeEnding, crOf, after-law, every-run}
 use Rattle.demands.proofs.Ways.{Takes, refused, noCR, overlong, unread, reads, every-line, Continues, refused′, continues, every-continue}
 use Rattle.demands.proofs.Accepted.{accepted-of}
@@ -174,14 +175,17 @@ two-and-three-take-the-line x = take-two-three (every-line limit x)
 
 -- 5 is a typed line's where no run gives it
 module _ (x : Lent) where
+  at-spot : (g : Gathered) {b : Bool} → g .line .long ≡ b → lineTakenAt x 5 (g .taken) (if b then limit else columnOf (g .line .bytes)) ≡ lineTakenAt x 5 (g .taken) (spotOf g)
+  at-spot g l = ap (λ (b : Bool). lineTakenAt x 5 (g .taken) (if b then limit else columnOf (g .line .bytes))) (sym l)
+
   take-five : {o : Outcome} → Takes limit x o
       → ((g : Gathered) (y : Typed) → Typing limit x g → LineReading (g .line .bytes) y
       → obey (x .call .budget) (lentEnv limit x) (begun x (g .taken)) y .answer .stop ≡ 5 → ⊥)
       → o .answer .stop ≡ 5 → TakesLine x 5 o
   take-five (refused {n} h) f i = absurd (apart (5 ∷ []) firstNumbers refl (suc n) (rw i refl) (first-numbers limit x (suc n) h))
   take-five (noCR z h) f i = absurd (omega arith)
-  take-five (overlong g z h l) f i = record { gathered = g; line = h; leaves = refl }
-  take-five (unread g h r) f i = record { gathered = g; line = h .line; leaves = refl }
+  take-five (overlong g z h l) f i = record { gathered = g; line = h; leaves = at-spot g l }
+  take-five (unread g h r) f i = record { gathered = g; line = h .line; leaves = at-spot g (h .short) }
   take-five (reads g t h r) f i = absurd (f g t h (typed-sound (g .line .bytes) t r) i)
 
   pub five-takes-the-line : ((g : Gathered) (y : Typed) → Typing limit x g → LineReading (g .line .bytes) y
@@ -192,12 +196,15 @@ module _ (x : Lent) where
 
   -- over-long, or with no reading
   pub unread-takes-the-line : firstRefusal limit x ≡ 0 → (g : Gathered) → gatheredLine limit x ≡ some g
-      → (g .line .long ≡ true) ⊎ ((y : Typed) → LineReading (g .line .bytes) y → ⊥) → takeLine x ≡ lineTaken x 5 (g .taken)
+      → (g .line .long ≡ true) ⊎ ((y : Typed) → LineReading (g .line .bytes) y → ⊥) → takeLine x ≡ lineTakenAt x 5 (g .taken) (spotOf g)
   unfolding takeLine takeLineIn
   unread-takes-the-line z g h (inl l) = rw (z, takeLineIn) (rw h (rw l))
   unread-takes-the-line z g h (inr f) = rw (z, takeLineIn) (rw h (by (g .line .long) (typed (g .line .bytes)) refl)) where
     by : (b : Bool) (o : Option Typed) → typed (g .line .bytes) ≡ o
-        → elim b [ true ↦ lineTaken x 5 (g .taken) | false ↦ obeyRead (x .call .budget) (lentEnv limit x) (begun x (g .taken)) o ] ≡ lineTaken x 5 (g .taken)
+        → elim b [
+          | true ↦ refusedLine limit (begun x (g .taken)) (x .page)
+          | false ↦ obeyRead (x .call .budget) (lentEnv limit x) (begun x (g .taken)) (columnOf (g .line .bytes)) o
+        ] ≡ lineTakenAt x 5 (g .taken) (if b then limit else columnOf (g .line .bytes))
     by true o e = refl
     by false none e = refl
     by false (some y) e = absurd (f y (typed-sound (g .line .bytes) y e))

@@ -185,8 +185,8 @@ module _ (x : Lent) where
   take-held : {o : Outcome} → Takes limit x o → L o
   take-held (refused h) = as-lent same-lengths _ _ _ _
   take-held (noCR z h) = as-lent same-lengths _ _ _ _
-  take-held (overlong g z h l) = as-lent (begun-held (g .taken)) _ _ _ _
-  take-held (unread g h r) = as-lent (begun-held (g .taken)) _ _ _ _
+  take-held (overlong g z h l) = record { memory = refl; output = refl }
+  take-held (unread g h r) = record { memory = refl; output = refl }
   take-held (reads g y h r) = obey-held (x .call .budget) (lentEnv limit x) (begun x (g .taken)) y (begun-held (g .taken))
 
   continue-held : {o : Outcome} → Continues limit x o → L o

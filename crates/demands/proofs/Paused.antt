@@ -12,9 +12,10 @@ use lib.Dec.{eqb}
 use borrow.Author.Tests.{eqb-true, eq-eqb}
 use Rattle.nibl.specs.Tree.{Typed}
 use Rattle.nibl.specs.Read.{typed}
+use Rattle.nibl.specs.Column.{columnOf}
 use Rattle.nibl.specs.Typing.{Gathered}
 use Rattle.nibl.specs.Meaning.{World, Env}
-use Rattle.nibl.specs.Calls.{Lent, Outcome, Ran, ran, textFrom, runFrom, stops, firstRefusal, begun, lentEnv, obeyRead, obeyLine, takeLine, takeLineIn, continueRun, continueRunIn, limit}
+use Rattle.nibl.specs.Calls.{Lent, Outcome, Ran, ran, textFrom, runFrom, refusedLine, firstRefusal, begun, lentEnv, obeyRead, obeyLine, takeLine, takeLineIn, continueRun, continueRunIn, limit}
 use Rattle.page.proofs.Walk.{by-cases}
 use Rattle.page.specs.Standing.{Stands, Ready}
 use Rattle.record.specs.Sound.{Sized, Sound}
@@ -93,7 +94,8 @@ module _ (lim : ℕ) (short : lim ≤ 251) (x : Lent) (h : Sound lim (x .page) (
   obeyed-pauses (edits p n f) = no-pause 0 k (λ e. omega arith)
   obeyed-pauses (runs q w s f i j b) = run-pauses-exactly lim (lentEnv lim x) short q w (fit-sound lim (h .good) f) s k
 
-  read-pauses : (g : Gathered) → Typing lim x g → (t : Option Typed) → typed (g .line .bytes) ≡ t → Pausing k (λ n. obeyRead n (lentEnv lim x) (begun x (g .taken)) t)
+  read-pauses : (g : Gathered) → Typing lim x g → (t : Option Typed) → typed (g .line .bytes) ≡ t
+      → Pausing k (λ n. obeyRead n (lentEnv lim x) (begun x (g .taken)) (columnOf (g .line .bytes)) t)
   read-pauses g y none e = no-pause 5 k (λ e. omega arith)
   read-pauses g y (some t) e = obeyed-pauses (read-ways lim x short (h .good) (sound-fit h) g t y e)
 
@@ -101,7 +103,10 @@ module _ (lim : ℕ) (short : lim ≤ 251) (x : Lent) (h : Sound lim (x .page) (
   line-pauses z none e = no-pause 7 k (λ e. omega arith)
   line-pauses z (some g) e = by (g .line .long) refl where
     by : (b : Bool) → g .line .long ≡ b
-        → Pausing k (λ n. elim b [ true ↦ stops 5 (begun x (g .taken)) (x .page) | false ↦ obeyRead n (lentEnv lim x) (begun x (g .taken)) (typed (g .line .bytes)) ])
+        → Pausing k (λ n. elim b [
+          | true ↦ refusedLine lim (begun x (g .taken)) (x .page)
+          | false ↦ obeyRead n (lentEnv lim x) (begun x (g .taken)) (columnOf (g .line .bytes)) (typed (g .line .bytes))
+        ])
     by true l = no-pause 5 k (λ e. omega arith)
     by false l = read-pauses g (record { sound = z; line = e; short = l }) (typed (g .line .bytes)) refl
 

@@ -11,10 +11,11 @@ use lib.Dec.{eqb}
 use borrow.Author.Tests.{eqb-true, eqb-false, eq-eqb, ne-eqb}
 use Rattle.nibl.specs.Tree.{Typed}
 use Rattle.nibl.specs.Read.{typed}
+use Rattle.nibl.specs.Column.{columnOf}
 use Rattle.nibl.specs.Typing.{Gathered}
 use Rattle.nibl.specs.Page.{isGood, placesOf}
 use Rattle.nibl.specs.Meaning.{World, Env, withSession}
-use Rattle.nibl.specs.Calls.{Lent, Outcome, Ran, runFrom, stopAt, runOutcome, stops, outcome, pausing, firstRefusal, begun, lentEnv, obeyRead, obeyLine, takeLine, takeLineIn, continueFrom, continueRun, continueRunIn, limit}
+use Rattle.nibl.specs.Calls.{Lent, Outcome, Ran, runFrom, stopAt, runOutcome, stops, refusedLine, outcome, pausing, firstRefusal, begun, lentEnv, obeyRead, obeyLine, takeLine, takeLineIn, continueFrom, continueRun, continueRunIn, limit}
 use Rattle.nibl.specs.Record.{withPaused, pausedAt}
 use Rattle.page.proofs.Walk.{by-cases}
 use Rattle.demands.specs.Lent.{budgeted, gatheredLine, Typing, InRange}
@@ -134,7 +135,8 @@ module _ (lim : ℕ) (short : lim ≤ 251) (x : Lent) (h : Sound lim (x .page) (
         ap (λ (k : Ran). runOutcome k (x .page)) same
 
   read-resumes : (g : Gathered) → Typing lim x g → (t : Option Typed) → typed (g .line .bytes) ≡ t
-      → Resumes lim x b (obeyRead a (lentEnv lim x) (begun x (g .taken)) t) (obeyRead (a + b) (lentEnv lim x) (begun x (g .taken)) t)
+      → Resumes lim x b (obeyRead a (lentEnv lim x) (begun x (g .taken)) (columnOf (g .line .bytes)) t)
+      (obeyRead (a + b) (lentEnv lim x) (begun x (g .taken)) (columnOf (g .line .bytes)) t)
   read-resumes g y none e = no-pause _ (λ e. omega arith)
   read-resumes g y (some t) e = obeyed-resumes (read-ways lim x short (h .good) (sound-fit h) g t y e)
 
@@ -142,7 +144,11 @@ module _ (lim : ℕ) (short : lim ≤ 251) (x : Lent) (h : Sound lim (x .page) (
   line-resumes i none e = no-pause _ (λ e. omega arith)
   line-resumes i (some g) e = by (g .line .long) refl where
     at : Bool → ℕ → Outcome
-    at c n = elim c [ true ↦ stops 5 (begun x (g .taken)) (x .page) | false ↦ obeyRead n (lentEnv lim x) (begun x (g .taken)) (typed (g .line .bytes)) ]
+    at c n =
+        elim c [
+          | true ↦ refusedLine lim (begun x (g .taken)) (x .page)
+          | false ↦ obeyRead n (lentEnv lim x) (begun x (g .taken)) (columnOf (g .line .bytes)) (typed (g .line .bytes))
+        ]
 
     by : (c : Bool) → g .line .long ≡ c → Resumes lim x b (at c a) (at c (a + b))
     by true l = no-pause _ (λ e. omega arith)

@@ -5,28 +5,29 @@ use mathlib.Core.Bool.{Bool, true, false}
 use mathlib.Core.Option.{Option, none, some}
 use Rattle.nibl.specs.Tree.{Typed}
 use Rattle.nibl.specs.Read.{typed}
+use Rattle.nibl.specs.Column.{columnOf}
 use Rattle.nibl.specs.Typing.{Gathered}
-use Rattle.nibl.specs.Calls.{Lent, Outcome, stops, lentWorld, begun, lentEnv, firstRefusal, obey, obeyRead, obeyLine, takeLineIn, continueFrom, continueRunIn}
+use Rattle.nibl.specs.Calls.{Lent, Outcome, stops, refusedLine, lentWorld, begun, lentEnv, firstRefusal, obey, obeyRead, obeyLine, takeLineIn, continueFrom, continueRunIn}
 use Rattle.demands.specs.Lent.{gatheredLine, Typing}
 
 pub data Takes (lim : ℕ) (x : Lent) : Outcome → Type 0 where
   refused : {n : ℕ} → firstRefusal lim x ≡ suc n → Takes lim x (stops (suc n) (lentWorld x) (x .page))
   noCR : firstRefusal lim x ≡ 0 → gatheredLine lim x ≡ none → Takes lim x (stops 7 (lentWorld x) (x .page))
-  overlong : (g : Gathered) → firstRefusal lim x ≡ 0 → gatheredLine lim x ≡ some g → g .line .long ≡ true → Takes lim x (stops 5 (begun x (g .taken)) (x .page))
-  unread : (g : Gathered) → Typing lim x g → typed (g .line .bytes) ≡ none → Takes lim x (stops 5 (begun x (g .taken)) (x .page))
+  overlong : (g : Gathered) → firstRefusal lim x ≡ 0 → gatheredLine lim x ≡ some g → g .line .long ≡ true → Takes lim x (refusedLine lim (begun x (g .taken)) (x .page))
+  unread : (g : Gathered) → Typing lim x g → typed (g .line .bytes) ≡ none → Takes lim x (refusedLine (columnOf (g .line .bytes)) (begun x (g .taken)) (x .page))
   reads : (g : Gathered) (t : Typed) → Typing lim x g → typed (g .line .bytes) ≡ some t
       → Takes lim x (obey (x .call .budget) (lentEnv lim x) (begun x (g .taken)) t)
 
 module _ (lim : ℕ) (x : Lent) where
   by-reading : (g : Gathered) → Typing lim x g → (o : Option Typed) → typed (g .line .bytes) ≡ o
-      → Takes lim x (obeyRead (x .call .budget) (lentEnv lim x) (begun x (g .taken)) o)
+      → Takes lim x (obeyRead (x .call .budget) (lentEnv lim x) (begun x (g .taken)) (columnOf (g .line .bytes)) o)
   by-reading g h none r = unread g h r
   by-reading g h (some t) r = reads g t h r
 
   by-length : (g : Gathered) → firstRefusal lim x ≡ 0 → gatheredLine lim x ≡ some g → (b : Bool) → g .line .long ≡ b
       → Takes lim x (elim b [
-        | true ↦ stops 5 (begun x (g .taken)) (x .page)
-        | false ↦ obeyRead (x .call .budget) (lentEnv lim x) (begun x (g .taken)) (typed (g .line .bytes))
+        | true ↦ refusedLine lim (begun x (g .taken)) (x .page)
+        | false ↦ obeyRead (x .call .budget) (lentEnv lim x) (begun x (g .taken)) (columnOf (g .line .bytes)) (typed (g .line .bytes))
       ])
   by-length g z l true h = overlong g z l h
   by-length g z l false h = by-reading g (record { sound = z; line = l; short = h }) (typed (g .line .bytes)) refl

@@ -8,7 +8,7 @@ use Rattle.nibl.specs.Values.{digits}
 use Rattle.nibl.specs.Page.{Stored, recordsOf, usedBy, used}
 use Rattle.nibl.specs.Meaning.{World, Env, withSession, withMemory, withOutput, withInpos}
 use Rattle.nibl.specs.Record.{place, mark, nowhere, withVar, withFlags, withGosubs, withDos, withFors, withPaused, unpaused, stackless, cleared}
-use Rattle.nibl.specs.Calls.{Lent, Outcome, Ran, ran, stepped, runOutcome, lentAll, leftAll, answerOf, noLine, stops, envAt, begun, lentEnv, listed, limit}
+use Rattle.nibl.specs.Calls.{Lent, Outcome, Ran, ran, stepped, runOutcome, lentAll, leftAll, answerOf, noLine, stops, refusedLine, envAt, begun, lentEnv, listed, limit}
 use Rattle.nibl.specs.declared.PlaceStack.{PlaceStack}
 use Rattle.nibl.specs.declared.ForStack.{ForStack}
 use Rattle.nibl.specs.declared.Session.{Session}
@@ -26,9 +26,9 @@ pub what-is-left : (a : Answer) (s : Session) (page memory output : List ℕ)
     → leftAll a s page memory output ≡ record { answer = a; session = s; page = page; memory = memory; output = output }
 what-is-left a s page memory output = refl
 
-pub what-is-answered : (n line steps inpos outpos : ℕ)
-    → answerOf n line steps inpos outpos ≡ record { stop = n; line = line; steps = steps; inpos = inpos; outpos = outpos }
-what-is-answered n line steps inpos outpos = refl
+pub what-is-answered : (n line steps inpos outpos column : ℕ)
+    → answerOf n line steps inpos outpos column ≡ record { stop = n; line = line; steps = steps; inpos = inpos; outpos = outpos; column = column }
+what-is-answered n line steps inpos outpos column = refl
 
 module _ (x : Lent) where
   -- a typed statement sees the page, the input and the sense byte that are lent, keeps 72 bytes of a line, and is ended by the immediate mark
@@ -72,16 +72,27 @@ what-a-programs-statement-sees e p = refl
 pub a-saved-place : (p : ℕ) → place p .0 ≡ p
 a-saved-place p = refl
 
--- a stop that no program statement gave leaves the world as it is, with no line and no steps
+-- a stop that no program statement gave leaves the world as it is, with no line, no steps and no column
 pub what-a-stop-leaves : (n : ℕ) (w : World) (page : List ℕ)
     → stops n w page ≡ record {
-      answer = record { stop = n; line = noLine; steps = 0; inpos = w .inpos; outpos = w .outpos };
+      answer = record { stop = n; line = noLine; steps = 0; inpos = w .inpos; outpos = w .outpos; column = 0 };
       session = w .session;
       page = page;
       memory = w .memory;
       output = w .output;
     }
 what-a-stop-leaves n w page = refl
+
+-- a refused line does so too, with its column
+pub what-a-refused-line-leaves : (column : ℕ) (w : World) (page : List ℕ)
+    → refusedLine column w page ≡ record {
+      answer = record { stop = 5; line = noLine; steps = 0; inpos = w .inpos; outpos = w .outpos; column = column };
+      session = w .session;
+      page = page;
+      memory = w .memory;
+      output = w .output;
+    }
+what-a-refused-line-leaves column w page = refl
 
 -- a run of no step yet, and one of a step more, by its line; the answer's stop is the run's, and its steps are the number of these lines
 pub a-run-not-begun : (n q : ℕ) (w : World) → ran n q w ≡ record { stop = n; lines = []; at = q; world = w }

@@ -9,6 +9,7 @@ use lib.Seq.{sets}
 use lib.Dec.{eqb}
 use Rattle.nibl.specs.Bytes.{if_then_else_}
 use Rattle.nibl.specs.Typing.{Gathered, gather}
+use Rattle.nibl.specs.Column.{columnOf}
 use Rattle.nibl.specs.Stack.{popOf}
 use Rattle.nibl.specs.Tree.{Typed, blank, new, clear, run, delete, list, store, immediate}
 use Rattle.nibl.specs.Page.{Stored, recordsOf, programBytes, used}
@@ -41,13 +42,13 @@ pub data Rising : ℕ → List Stored → Type 0 where
   alone : {low : ℕ} → Rising low []
   rises : {low : ℕ} {r : Stored} {rs : List Stored} → low ≤ r .line → Rising (suc (r .line)) rs → Rising low (r ∷ rs)
 
--- a stop with no line and no steps, after so many bytes of the input; the output position as it came
+-- a stop with no line, no steps and no column, after so many bytes of the input; the output position as it came
 abbrev pub answered : Lent → ℕ → ℕ → Answer
-answered x n taken = answerOf n noLine 0 (x .call .inpos + taken) (x .call .outpos)
+answered x n taken = answerOf n noLine 0 (x .call .inpos + taken) (x .call .outpos) 0
 
 -- everything back as it came, the positions too
 abbrev pub unchanged : Lent → ℕ → Outcome
-unchanged x n = leftAll (answerOf n noLine 0 (x .call .inpos) (x .call .outpos)) (x .session) (x .page) (x .memory) (x .output)
+unchanged x n = leftAll (answerOf n noLine 0 (x .call .inpos) (x .call .outpos) 0) (x .session) (x .page) (x .memory) (x .output)
 
 -- both calls give all back so, with the stop n
 abbrev pub BothUnchanged : Lent → ℕ → Type 0
@@ -57,11 +58,24 @@ BothUnchanged x n = (takeLine x ≡ unchanged x n) × (continueRun x ≡ unchang
 abbrev pub lineTaken : Lent → ℕ → ℕ → Outcome
 lineTaken x n taken = leftAll (answered x n taken) (unpaused (x .session)) (x .page) (x .memory) (x .output)
 
+-- the same with a column
+abbrev pub lineTakenAt : Lent → ℕ → ℕ → ℕ → Outcome
+lineTakenAt x n taken column =
+    leftAll (answerOf n noLine 0 (x .call .inpos + taken) (x .call .outpos) column) (unpaused (x .session)) (x .page) (x .memory) (x .output)
+
+-- the column of a line that is refused with 5: "72 for an over-long line"
+abbrev pub spotOf : Gathered → ℕ
+spotOf g = if g .line .long then limit else columnOf (g .line .bytes)
+
+-- "and 0 for every other stop"
+abbrev pub columnAt : ℕ → Gathered → ℕ
+columnAt n g = if eqb n 5 then spotOf g else 0
+
 -- "2, 3 and 5 take the line and end a pause", and change nothing else
 pub record TakesLine (x : Lent) (n : ℕ) (o : Outcome) : Type 0 where
   pub gathered : Gathered
   pub line : gatheredLine limit x ≡ some gathered
-  pub leaves : o ≡ lineTaken x n (gathered .taken)
+  pub leaves : o ≡ lineTakenAt x n (gathered .taken) (columnAt n gathered)
 
 -- the record as CLEAR leaves it: the pause ended, variables zero, stacks empty
 abbrev pub lineCleared : Lent → ℕ → Outcome

@@ -50,7 +50,7 @@ lastLF (r ∷ rs) = 10 ∷ []
 
 -- LIST's outcome: the listing written whole, the line taken, the pause ended, nothing else changed
 pub record ListsWhole (x : Lent) (g : Gathered) (o : Outcome) : Type 0 where
-  pub answer : o .answer ≡ answerOf 0 noLine 0 (x .call .inpos + g .taken) (x .call .outpos + listingRoom (recordsOf (x .page)))
+  pub answer : o .answer ≡ answerOf 0 noLine 0 (x .call .inpos + g .taken) (x .call .outpos + listingRoom (recordsOf (x .page))) 0
   pub session : o .session ≡ unpaused (x .session)
   pub page : o .page ≡ x .page
   pub memory : o .memory ≡ x .memory

@@ -8,7 +8,7 @@ use Rattle.nibl.specs.Calls.{Outcome}
 use Rattle.nibl.specs.declared.Session.{Session}
 use Rattle.page.specs.declared.Edited.{Edited}
 use Rattle.page.specs.Listing.{Shown}
-use Rattle.ending.specs.Ends.{endedIn, stopped, editEnd, listEnd}
+use Rattle.ending.specs.Ends.{endedIn, stopped, refused, editEnd, listEnd}
 use Rattle.ending.specs.declared.Ended.{Ended}
 
 pub end-determined : (x : Outcome) (e e′ : Ended) (p p′ m m′ o o′ : List ℕ) → endedIn e p m o ≡ x → endedIn e′ p′ m′ o′ ≡ x
@@ -21,6 +21,9 @@ end-determined x e e′ p p′ m m′ o o′ u v =
 
 pub stop-determined : (n : ℕ) (s : Session) (inpos outpos : ℕ) (a b : Ended) → a ≡ stopped n s inpos outpos → b ≡ stopped n s inpos outpos → a ≡ b
 stop-determined n s inpos outpos = determined (stopped n s inpos outpos)
+
+pub refused-determined : (c : ℕ) (s : Session) (inpos outpos : ℕ) (a b : Ended) → a ≡ refused c s inpos outpos → b ≡ refused c s inpos outpos → a ≡ b
+refused-determined c s inpos outpos = determined (refused c s inpos outpos)
 
 pub edit-determined : (d : Edited) (s : Session) (inpos outpos : ℕ) (a b : Ended) → a ≡ editEnd d s inpos outpos → b ≡ editEnd d s inpos outpos → a ≡ b
 edit-determined d s inpos outpos = determined (editEnd d s inpos outpos)

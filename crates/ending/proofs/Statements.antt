@@ -9,6 +9,7 @@ use lib.ListN.{length, take}
 use lib.Seq.{length-take-le}
 use Rattle.nibl.specs.Tree.{Stmt, Typed, immediate}
 use Rattle.nibl.specs.Read.{typed}
+use Rattle.nibl.specs.Column.{columnOf}
 use Rattle.nibl.specs.Page.{placesOf}
 use Rattle.nibl.specs.Record.{place, mark, nowhere, positionOf, partsOf, sessionOf}
 use Rattle.nibl.specs.Meaning.{World, Env, go, Done, done, exec}
@@ -58,11 +59,11 @@ module _ {reply replies values ops page text : List ℕ} {n budget : ℕ} {s : S
       ∙ ap (λ (o : List ℕ). runOps env o world []) (one .codes)
       ∙ compiled env (one .tree) world (typed-fine text (one .tree) (one .reads))
 
-  pub obeyed : {d : Done} → d ≡ exec env (one .tree) world → afterImmediate budget env d ≡ obeyRead budget env world (typed text)
+  pub obeyed : {d : Done} → d ≡ exec env (one .tree) world → afterImmediate budget env d ≡ obeyRead budget env world (columnOf text) (typed text)
   unfolding obey
   obeyed e =
       ap (afterImmediate budget env) e
-      ∙ sym (ap (obeyRead budget env world) (one .reads)
+      ∙ sym (ap (obeyRead budget env world (columnOf text)) (one .reads)
       ∙ ap (λ (b : Bool). elim b [ true ↦ stops 3 world page | false ↦ afterImmediate budget env (exec env (one .tree) world) ]) (one .free))
 
   goes : Goes page (exec env (one .tree) world)

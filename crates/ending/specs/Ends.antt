@@ -20,7 +20,11 @@ worldAt s memory output inpos outpos = record { session = s; memory = memory; ou
 
 -- a stop that no program statement gave
 abbrev pub stopped : ℕ → Session → ℕ → ℕ → Ended
-stopped n s inpos outpos = record { answer = answerOf n noLine 0 inpos outpos; session = s }
+stopped n s inpos outpos = record { answer = answerOf n noLine 0 inpos outpos 0; session = s }
+
+-- a line that is refused
+abbrev pub refused : ℕ → Session → ℕ → ℕ → Ended
+refused column s inpos outpos = record { answer = answerOf 5 noLine 0 inpos outpos column; session = s }
 
 -- an edit clears the stacks, unless it changed nothing: 2, or a line that was not there
 abbrev pub editEnd : Edited → Session → ℕ → ℕ → Ended
@@ -36,6 +40,6 @@ listEnd s inpos l = stopped (l .stop) s inpos (l .at)
 abbrev pub ranEnd : Ran → List ℕ → Ended
 ranEnd r vars =
     record {
-      answer = answerOf (r .stop) (r .line) (r .steps) (r .parts .inpos) (r .parts .outpos);
+      answer = answerOf (r .stop) (r .line) (r .steps) (r .parts .inpos) (r .parts .outpos) 0;
       session = sessionOf (r .parts) vars (r .paused);
     }

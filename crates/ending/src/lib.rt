@@ -5,11 +5,12 @@ ghost use lib.ListN.{length};
 ghost use Rattle.nibl.specs.Page.{recordsOf};
 ghost use Rattle.nibl.specs.Record.{place, mark, positionOf};
 ghost use Rattle.nibl.specs.Read.{typed as readingOf};
+ghost use Rattle.nibl.specs.Column.{columnOf};
 ghost use Rattle.nibl.specs.Calls.{runFrom, runOutcome, obeyRead};
 ghost use Rattle.effect.specs.Worlds.{envWith};
 ghost use Rattle.page.specs.Standing.{Stands};
 ghost use Rattle.page.specs.Listing.{listing};
-ghost use Rattle.ending.specs.Ends.{endedIn, worldAt, stopped, editEnd, listEnd, ranEnd};
+ghost use Rattle.ending.specs.Ends.{endedIn, worldAt, stopped, refused, editEnd, listEnd, ranEnd};
 ghost use Rattle.ending.specs.Lends.{Lists, Accepted, IsStatement};
 use nibl::Answer;
 use nibl::Call;
@@ -30,12 +31,22 @@ pub struct Ended {
     pub session: Session,
 }
 
-// A stop that no program statement gave: it has no line, and no steps.
+// A stop that no program statement gave: it has no line, no steps and no column.
 pub fn stopped(stop: u8, session: Session, inpos: usize, outpos: usize) -> Ended
     ensures { λ r. ⌜ r ≡ stopped stop session inpos outpos ⌝ }
 {
     Ended {
-        answer: Answer::of(stop, NO_LINE, 0, inpos, outpos),
+        answer: Answer::of(stop, NO_LINE, 0, inpos, outpos, 0),
+        session: session,
+    }
+}
+
+// A refused line: 5, and its column.
+pub fn refused(column: u16, session: Session, inpos: usize, outpos: usize) -> Ended
+    ensures { λ r. ⌜ r ≡ refused column session inpos outpos ⌝ }
+{
+    Ended {
+        answer: Answer::of(5, NO_LINE, 0, inpos, outpos, column),
         session: session,
     }
 }
@@ -75,7 +86,7 @@ fn ran(ran: Ran, vars: [u16; 26]) -> Ended
     ensures { λ r. ⌜ r ≡ ranEnd ran vars ⌝ }
 {
     let parts = ran.parts;
-    let answer = Answer::of(ran.stop, ran.line, ran.steps, parts.inpos, parts.outpos);
+    let answer = Answer::of(ran.stop, ran.line, ran.steps, parts.inpos, parts.outpos, 0);
     Ended {
         answer: answer,
         session: parts.session(vars, ran.paused),
@@ -137,7 +148,7 @@ pub fn immediate<'a>(
     ops: &mut [u32],
 ) -> Ended
     requires { ⌜ Lists (now reply) (now replies) (now values) (now ops) × Accepted (length (now reply)) (now page) (call .budget) session × IsStatement (now typed) n (now ops) ⌝ }
-    ensures { λ r. ⌜ endedIn r (now (page .entry)) (now (memory .exit)) (now (output .exit)) ≡ obeyRead (call .budget) (envWith (length (now (reply .entry))) (now (page .entry)) (now (input .entry)) (call .sense) (place mark)) (worldAt session (now (memory .entry)) (now (output .entry)) (call .inpos) (call .outpos)) (readingOf (now (typed .entry))) ⌝ }
+    ensures { λ r. ⌜ endedIn r (now (page .entry)) (now (memory .exit)) (now (output .exit)) ≡ obeyRead (call .budget) (envWith (length (now (reply .entry))) (now (page .entry)) (now (input .entry)) (call .sense) (place mark)) (worldAt session (now (memory .entry)) (now (output .entry)) (call .inpos) (call .outpos)) (columnOf (now (typed .entry))) (readingOf (now (typed .entry))) ⌝ }
 {
     let mut vars = session.vars;
     let parts = session.parts(call.inpos, call.outpos);

@@ -9,6 +9,7 @@ use Rattle.nibl.specs.Bytes.{if_then_else_, notCR, front, byte, byteCR, 
 use Rattle.nibl.specs.Tree.{Stmt, letVar, letStat, letByte, letCopy, letText, goto, gosub, until, return, doLoop, remark, end, print, ifThen, for, next, input, inputText}
 use Rattle.nibl.specs.Tree.{Member, Typed, blank, new, clear, run, delete, list, store, immediate}
 use Rattle.nibl.specs.Read.{Found, nothing, found, member, typed}
+use Rattle.nibl.specs.Column.{columnOf}
 use Rattle.nibl.specs.Values.{digits}
 use Rattle.nibl.specs.Typing.{Gathered, gather}
 use Rattle.nibl.specs.Record.{mark, pausedAt, withPaused, unpaused, stackless, cleared}
@@ -47,9 +48,9 @@ withBudget k c = record { inpos = c .inpos; outpos = c .outpos; sense = c .sense
 abbrev pub withPositions : ℕ → ℕ → Call → Call
 withPositions i o c = record { inpos = i; outpos = o; sense = c .sense; budget = c .budget }
 
--- an answer: the stop, its line, the steps, and both positions
-abbrev pub answerOf : ℕ → ℕ → ℕ → ℕ → ℕ → Answer
-answerOf n line steps inpos outpos = record { stop = n; line = line; steps = steps; inpos = inpos; outpos = outpos }
+-- an answer: the stop, its line, the steps, both positions, and the column of a refused line
+abbrev pub answerOf : ℕ → ℕ → ℕ → ℕ → ℕ → ℕ → Answer
+answerOf n line steps inpos outpos column = record { stop = n; line = line; steps = steps; inpos = inpos; outpos = outpos; column = column }
 
 -- How a run ended: the stop, the lines of the members it ran, a position of the page, and the world then. The position is where
 -- the run would go on, if its stop is 0 or 14; after the stop of a statement it is the place that ends that statement.
@@ -103,9 +104,9 @@ runFrom zero e q w = elim (textFrom (e .page) q) [ none ↦ ran 0 q w | some a �
 runFrom (suc k) e q w =
     elim (textFrom (e .page) q) [ none ↦ ran 0 q w | some a ↦ step e a w (member (lineFrom (e .page) a)) (runFrom k e) ]
 
--- Outcomes
+-- Outcomes. The column is "0 for every other stop" than that of a refused line
 abbrev pub outcome : ℕ → ℕ → ℕ → World → List ℕ → Outcome
-outcome n l steps w page = leftAll (answerOf n l steps (w .inpos) (w .outpos)) (w .session) page (w .memory) (w .output)
+outcome n l steps w page = leftAll (answerOf n l steps (w .inpos) (w .outpos) 0) (w .session) page (w .memory) (w .output)
 
 -- the line of an answer that has none: no line has this number
 abbrev pub noLine : ℕ
@@ -114,6 +115,10 @@ noLine = 65535
 -- a stop that no program statement gave
 abbrev pub stops : ℕ → World → List ℕ → Outcome
 stops n w page = outcome n noLine 0 w page
+
+-- "A dealer sees 5 .. give the column with it"
+abbrev pub refusedLine : ℕ → World → List ℕ → Outcome
+refusedLine column w page = leftAll (answerOf 5 noLine 0 (w .inpos) (w .outpos) column) (w .session) page (w .memory) (w .output)
 
 -- the line of the last statement that ran: "there is none for 0, for 14"
 abbrev pub stopAt : ℕ → List ℕ → ℕ
@@ -207,16 +212,18 @@ obey budget e w (list n) = afterImmediate budget e (listFrom n (recordsOf (e .pa
 obey budget e w (store n t ms) = edited (e .page) w (with (record { line = n; text = t }) (recordsOf (e .page)))
 obey budget e w (immediate q) = elim (needsProgram q) [ true ↦ stops 3 w (e .page) | false ↦ afterImmediate budget e (exec e q w) ]
 
-abbrev pub obeyRead : ℕ → Env → World → Option Typed → Outcome
-obeyRead budget e w none = stops 5 w (e .page)
-obeyRead budget e w (some t) = obey budget e w t
+-- the column is that of the line, for where it has no reading
+abbrev pub obeyRead : ℕ → Env → World → ℕ → Option Typed → Outcome
+obeyRead budget e w column none = refusedLine column w (e .page)
+obeyRead budget e w column (some t) = obey budget e w t
 
+-- the column "is 72 for an over-long line"
 abbrev pub obeyLine : ℕ → Lent → Option Gathered → Outcome
 obeyLine lim x none = stops 7 (lentWorld x) (x .page)
 obeyLine lim x (some g) =
     elim (g .line .long) [
-      | true ↦ stops 5 (begun x (g .taken)) (x .page)
-      | false ↦ obeyRead (x .call .budget) (lentEnv lim x) (begun x (g .taken)) (typed (g .line .bytes))
+      | true ↦ refusedLine lim (begun x (g .taken)) (x .page)
+      | false ↦ obeyRead (x .call .budget) (lentEnv lim x) (begun x (g .taken)) (columnOf (g .line .bytes)) (typed (g .line .bytes))
     ]
 
 -- "Two calls exist: take one typed line, and continue a paused run"

@@ -471,7 +471,8 @@ impl Call {
     }
 }
 
-// What a call answers. The line is that of the program statement that gave the stop, or NO_LINE.
+// What a call answers. The line is that of the program statement that gave the stop, or NO_LINE. The column is that of a refused
+// line: of its bytes so many could still be the front of a line with a reading.
 #[repr(C)]
 pub struct Answer {
     pub stop: u8,
@@ -479,12 +480,13 @@ pub struct Answer {
     pub steps: u16,
     pub inpos: usize,
     pub outpos: usize,
+    pub column: u16,
 }
 
 impl Answer {
     // The one function that makes an answer.
-    pub fn of(stop: u8, line: u16, steps: u16, inpos: usize, outpos: usize) -> Answer
-        ensures { λ r. ⌜ r ≡ answerOf stop line steps inpos outpos ⌝ }
+    pub fn of(stop: u8, line: u16, steps: u16, inpos: usize, outpos: usize, column: u16) -> Answer
+        ensures { λ r. ⌜ r ≡ answerOf stop line steps inpos outpos column ⌝ }
     {
         Answer {
             stop: stop,
@@ -492,6 +494,7 @@ impl Answer {
             steps: steps,
             inpos: inpos,
             outpos: outpos,
+            column: column,
         }
     }
 }

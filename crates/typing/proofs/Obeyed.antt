@@ -9,6 +9,7 @@ use lib.ListN.{length, take, drop, replicate, length-drop}
 use lib.Dec.{eqb}
 use Rattle.nibl.specs.Tree.{Stmt, immediate}
 use Rattle.nibl.specs.Read.{typed}
+use Rattle.nibl.specs.Column.{columnOf}
 use Rattle.nibl.specs.Page.{recordsOf, placesOf}
 use Rattle.nibl.specs.Record.{cleared}
 use Rattle.nibl.specs.Meaning.{World, Env}
@@ -16,6 +17,7 @@ use Rattle.nibl.specs.Calls.{Outcome, stops, needsProgram, runFrom, runOutcome,
 use Rattle.nibl.specs.Calls as calls
 use Rattle.nibl.specs.declared.Session.{Session}
 use Rattle.nibl.specs.declared.LineNumber.{LineNumber}
+use Rattle.nibl.proofs.Spot.{column-exact}
 use Rattle.record.proofs.Fitted.{fit-vars, fit-cleared}
 use Rattle.word.specs.declared.Cursor.{Cursor}
 use Rattle.line.specs.declared.LineRead.{LineRead}
@@ -29,7 +31,7 @@ use Rattle.page.specs.Listing.{Shown, listing, shownIn}
 use Rattle.page.proofs.Walk.{by-cases}
 use Rattle.page.proofs.Good.{store-good, delete-good, new-is}
 use Rattle.page.proofs.Listings.{list-is}
-use Rattle.ending.specs.Ends.{endedIn, worldAt, stopped, editEnd, listEnd}
+use Rattle.ending.specs.Ends.{endedIn, worldAt, stopped, refused, editEnd, listEnd}
 use Rattle.ending.specs.Lends.{Accepted, IsStatement}
 use Rattle.typing.specs.ReadAs.{ReadAs}
 use Rattle.typing.proofs.Meant.{Means, told, no-reading, is-blank, is-new, is-clear, is-run, is-delete, is-list, is-stored, is-immediate, no-room}
@@ -67,7 +69,7 @@ module _ (g : Given) where
 
   -- what the definition does
   abbrev obeyed : Outcome
-  obeyed = obeyRead (g .budget) (g .env) (worldWith (g .session)) (typed (g .text))
+  obeyed = obeyRead (g .budget) (g .env) (worldWith (g .session)) (columnOf (g .text)) (typed (g .text))
 
   -- how the arms end
   abbrev stoppedWith : ℕ → Session → Outcome
@@ -82,8 +84,13 @@ module _ (g : Given) where
   meant : {r : LineRead} → g .kind ≡ r → Means (length (g .text)) r (typed (g .text))
   meant f = told (g .read .kind-is) f
 
-  pub none-read : g .kind ≡ line.NoReading → stoppedWith 5 (g .session) ≡ obeyed
-  none-read f = rw (no-reading (meant f))
+  -- a column found
+  pub none-read : {c : ℕ} → g .kind ≡ line.NoReading → c ≡ columnOf (g .text) → endedIn (refused c (g .session) (g .inpos) (g .outpos)) (g .env .page) (g .memory) (g .output) ≡ obeyed
+  none-read f e = rw (no-reading (meant f), e)
+
+  -- a column is within its line
+  pub column-small : {c : ℕ} → c ≡ columnOf (g .text) → c ≤ 65535
+  column-small e = omega (arith, e, column-exact (g .text) .within, g .read .short)
 
   pub no-room-read : g .kind ≡ line.NoRoom → ⊥
   no-room-read f = no-room (length (g .text)) (typed (g .text)) (sym f ∙ g .read .kind-is)

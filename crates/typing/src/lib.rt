@@ -5,6 +5,7 @@ ghost use lib.ListN.{length, drop};
 ghost use Rattle.nibl.specs.Typing.{gather as gathered};
 ghost use Rattle.nibl.specs.Record.{place, mark, unpaused};
 ghost use Rattle.nibl.specs.Read.{typed as readingOf};
+ghost use Rattle.nibl.specs.Column.{columnOf};
 ghost use Rattle.nibl.specs.Calls.{lentAll, obeyRead, obeyLine};
 ghost use Rattle.effect.specs.Worlds.{envWith};
 ghost use Rattle.line.specs.Answers.{kindOf, lineOps};
@@ -35,7 +36,7 @@ fn obey(
     ops: &mut [u32],
 ) -> Ended
     requires { ⌜ Lists (now reply) (now replies) (now values) (now ops) × Accepted (length (now reply)) (now page) (call .budget) session × ReadAs (now typed) kind (now ops) ⌝ }
-    ensures { λ r. ⌜ endedIn r (now (page .exit)) (now (memory .exit)) (now (output .exit)) ≡ obeyRead (call .budget) (envWith (length (now (reply .entry))) (now (page .entry)) (now (input .entry)) (call .sense) (place mark)) (worldAt session (now (memory .entry)) (now (output .entry)) (call .inpos) (call .outpos)) (readingOf (now (typed .entry))) ⌝ }
+    ensures { λ r. ⌜ endedIn r (now (page .exit)) (now (memory .exit)) (now (output .exit)) ≡ obeyRead (call .budget) (envWith (length (now (reply .entry))) (now (page .entry)) (now (input .entry)) (call .sense) (place mark)) (worldAt session (now (memory .entry)) (now (output .entry)) (call .inpos) (call .outpos)) (columnOf (now (typed .entry))) (readingOf (now (typed .entry))) ⌝ }
 {
     let inpos = call.inpos;
     let outpos = call.outpos;
@@ -92,7 +93,10 @@ fn obey(
                 ops,
             )
         }
-        LineRead::NoReading => ending::stopped(5, session, inpos, outpos),
+        LineRead::NoReading => {
+            let column = column::column_of(typed);
+            ending::refused(column as u16, session, inpos, outpos)
+        }
         LineRead::NoRoom => ending::stopped(5, session, inpos, outpos),
     }
 }
@@ -108,7 +112,7 @@ fn read_typed<'a>(page: &'a [u8], typed: &'a [u8], ops: &mut [u32]) -> LineRead
     line::read_line(text, ops)
 }
 
-// A typed line past the first refusals: 7 where no CR is left, then 5 for one that is over-long.
+// A typed line past the first refusals: 7 where no CR is left, then 5 for one that is over-long, with the limit as its column.
 pub fn typed_line(
     rec: Session,
     page: &mut [u8],
@@ -128,7 +132,12 @@ pub fn typed_line(
     let g = letter::gather(input, call.inpos, line);
     match g {
         Gathering::NoCr => ending::stopped(7, rec, call.inpos, call.outpos),
-        Gathering::TooLong(at) => ending::stopped(5, rec.unpaused(), at, call.outpos),
+        Gathering::TooLong(at) => ending::refused(
+            line.len() as u16,
+            rec.unpaused(),
+            at,
+            call.outpos,
+        ),
         Gathering::Line(at, n) => {
             let kind = read_typed(page, &line[..n], ops);
             obey(

@@ -85,6 +85,7 @@ impl Trial {
             ("stop", answer.stop.number() == left.answer.stop.number()),
             ("line", answer.line == left.answer.line),
             ("steps", answer.steps == u32::from(left.answer.steps)),
+            ("column", answer.column == u32::from(left.answer.column)),
             (
                 "input position",
                 is_position(answer.input_position, self.numbers.inpos, left.answer.inpos),

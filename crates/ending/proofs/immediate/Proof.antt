@@ -6,6 +6,7 @@ use native.Mathlib.Omega.{arith}
 use lib.ListN.{length, take}
 use lib.Seq.{length-take-le}
 use Rattle.nibl.specs.Read.{typed}
+use Rattle.nibl.specs.Column.{columnOf}
 use Rattle.nibl.specs.Record.{place, mark, positionOf, partsOf, sessionOf}
 use Rattle.nibl.specs.Meaning.{World, Env, Done, done, exec}
 use Rattle.nibl.specs.Calls.{Outcome, runFrom, runOutcome, afterImmediate, obeyRead}
@@ -68,7 +69,7 @@ module _ (r : tie.After-run-ops) where
 
   -- the call's end, by the way that the statement went
   ends : {w : Way} {x : Outcome} → r .run-ops .result .way ≡ w → x ≡ afterImmediate (start .args .call .budget) env (done (wayOf w) after)
-      → x ≡ obeyRead (start .args .call .budget) env world (typed (start .args .typed .now))
+      → x ≡ obeyRead (start .args .call .budget) env world (columnOf (start .args .typed .now)) (typed (start .args .typed .now))
   ends t h =
       let a = start .args in
       h ∙ ap (λ (w : Way). afterImmediate (a .call .budget) env (done (wayOf w) after)) (sym t)

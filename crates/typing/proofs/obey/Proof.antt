@@ -6,7 +6,7 @@ use lib.ListN.{length}
 use Rattle.nibl.specs.Record.{place, mark}
 use Rattle.effect.specs.Worlds.{envWith}
 use Rattle.page.specs.Standing.{Bytes}
-use Rattle.typing.proofs.Obeyed.{Given, accepted-cleared, none-read, no-room-read, blank-read, clear-read, run-read, list-read, new-read, delete-read, stored-inside, store-read, needing-read, statement-read}
+use Rattle.typing.proofs.Obeyed.{Given, accepted-cleared, none-read, column-small, no-room-read, blank-read, clear-read, run-read, list-read, new-read, delete-read, stored-inside, store-read, needing-read, statement-read}
 use borrow.Author.Needs.{needs}
 use Rattle.typing.proofs.obey.Statement.{statement}
 use Rattle.typing.proofs.obey.Tie as tie
@@ -80,11 +80,17 @@ returns-8 c =
     let m = r .before .before .before .before .before .before .before .before in
     run-read (given (m .before .before .before)) (m .cleared2 .result) _ (m .before .enum-told4 .given .1) (m .cleared2 .ensures) (r .run-from .ensures)
 
+column-of-requires : tie.Need-column-of-requires
+column-of-requires c κs = given (c .before .before) .read .short
+
+cast-refused : tie.Need-cast-refused
+cast-refused c = omega (arith, column-small (given (c .before .before .before)) (c .column-of .ensures))
+
 returns-10 : tie.Need-returns-10
-returns-10 c = rw (c .stopped4 .ensures) (none-read (given (c .before .before .before)) (c .before .enum-told5 .given .1))
+returns-10 c = rw (c .refused .ensures) (none-read (given (c .before .before .before .before)) (c .before .before .enum-told5 .given .1) (c .before .column-of .ensures))
 
 returns-11 : tie.Need-returns-11
 returns-11 c = absurd (no-room-read (given (c .before .before .before)) (c .before .enum-told6 .given .1))
 
 pub obey-spec : {M : Type 1} → statement M
-obey-spec = tie.close (tie.spec (λ c. search needs) (λ c κs. search needs) (λ c. search needs) (λ c κs. search needs) (λ c κs. search needs) (λ c. search needs) (λ c κs. search needs) (λ c κs. search needs) (λ c. search needs) sub-store-line part-store-line-start (λ c. search needs) (λ c κs. search needs) (λ c κs. search needs) (λ c. search needs) (λ c κs. search needs) (λ c κs. search needs) (λ c. search needs) (λ c κs. search needs) (λ c. search needs) (λ c κs. search needs) run-from-requires (λ c. search needs) (λ c κs. search needs) returns immediate-requires (λ c. search needs) (λ c κs. search needs) (λ c. search needs) (λ c κs. search needs) returns-2 (λ c. search needs) returns-3 (λ c. search needs) returns-4 (λ c. search needs) returns-5 returns-6 (λ c. search needs) (λ c. search needs) returns-7 (λ c. search needs) (λ c. search needs) (λ c. search needs) (λ c. search needs) (λ c. search needs) (λ c. search needs) (λ c. search needs) returns-8 (λ c. search needs) (λ c. search needs) (λ c. search needs) (λ c. search needs) (λ c. search needs) (λ c. search needs) (λ c. search needs) (λ c. search needs) returns-10 returns-11)
+obey-spec = tie.close (tie.spec (λ c. search needs) (λ c κs. search needs) (λ c. search needs) (λ c κs. search needs) (λ c κs. search needs) (λ c. search needs) (λ c κs. search needs) (λ c κs. search needs) (λ c. search needs) sub-store-line part-store-line-start (λ c. search needs) (λ c κs. search needs) (λ c κs. search needs) (λ c. search needs) (λ c κs. search needs) (λ c κs. search needs) (λ c. search needs) (λ c κs. search needs) (λ c. search needs) (λ c κs. search needs) run-from-requires (λ c. search needs) (λ c κs. search needs) returns immediate-requires (λ c. search needs) column-of-requires cast-refused (λ c κs. search needs) (λ c. search needs) (λ c κs. search needs) returns-2 (λ c. search needs) returns-3 (λ c. search needs) returns-4 (λ c. search needs) returns-5 returns-6 (λ c. search needs) (λ c. search needs) returns-7 (λ c. search needs) (λ c. search needs) (λ c. search needs) (λ c. search needs) (λ c. search needs) (λ c. search needs) (λ c. search needs) returns-8 (λ c. search needs) (λ c. search needs) (λ c. search needs) (λ c. search needs) (λ c. search needs) (λ c. search needs) (λ c. search needs) (λ c. search needs) returns-10 returns-11)

@@ -11,15 +11,16 @@ use Rattle.nibl.specs.Page.{placesOf}
 use Rattle.record.specs.Fit.{Fit}
 use Rattle.nibl.specs.Typing.{Gathered, gather}
 use Rattle.nibl.specs.Read.{typed}
+use Rattle.nibl.specs.Column.{columnOf}
 use Rattle.nibl.specs.Record.{place, mark, unpaused}
-use Rattle.nibl.specs.Calls.{Lent, Outcome, lentAll, stops, begun, lentEnv, withPositions, obeyRead, obeyLine}
+use Rattle.nibl.specs.Calls.{Lent, Outcome, lentAll, refusedLine, begun, lentEnv, withPositions, obeyRead, obeyLine}
 use Rattle.nibl.specs.declared.Session.{Session}
 use Rattle.nibl.specs.declared.Call.{Call}
 use Rattle.letter.specs.declared.Gathering.{Gathering}
 use Rattle.letter.specs.declared.Gathering.the-variants as gathering
 use Rattle.letter.specs.Slots.{answer, held}
 use Rattle.effect.specs.Worlds.{envWith}
-use Rattle.ending.specs.Ends.{endedIn, worldAt, stopped}
+use Rattle.ending.specs.Ends.{endedIn, worldAt, stopped, refused}
 use Rattle.ending.specs.Lends.{Lists, Accepted}
 use Rattle.typing.specs.ReadAs.{ReadAs}
 use Rattle.ending.specs.declared.Ended.{Ended}
@@ -33,19 +34,19 @@ ends-none : (x : Lent) (lim : ℕ) {at : ℕ} {o : Option Gathered} → Hears at
 ends-none x lim noCr = refl
 
 ends-long : (x : Lent) (lim : ℕ) {next : ℕ} {o : Option Gathered} → Hears (x .call .inpos) (gathering.TooLong next) o
-    → endedIn (stopped 5 (unpaused (x .session)) next (x .call .outpos)) (x .page) (x .memory) (x .output) ≡ obeyLine lim x o
+    → endedIn (refused lim (unpaused (x .session)) next (x .call .outpos)) (x .page) (x .memory) (x .output) ≡ obeyLine lim x o
 ends-long x lim (tooLong {g} e) =
-    sym (ap (λ (b : Bool). elim b [ true ↦ stops 5 (begun x (g .taken)) (x .page) | false ↦ obeyRead (x .call .budget) (lentEnv lim x) (begun x (g .taken)) (typed (g .line .bytes)) ]) e)
+    sym (ap (λ (b : Bool). elim b [ true ↦ refusedLine lim (begun x (g .taken)) (x .page) | false ↦ obeyRead (x .call .budget) (lentEnv lim x) (begun x (g .taken)) (columnOf (g .line .bytes)) (typed (g .line .bytes)) ]) e)
 
 -- and the line in its slots
 ends-line : (x : Lent) (lim : ℕ) {next n : ℕ} {slots : List ℕ} {o : Option Gathered} → Holds (x .call .inpos) next n slots o
-    → obeyRead (x .call .budget) (lentEnv lim x) (worldAt (unpaused (x .session)) (x .memory) (x .output) next (x .call .outpos)) (typed (take n slots)) ≡ obeyLine lim x o
+    → obeyRead (x .call .budget) (lentEnv lim x) (worldAt (unpaused (x .session)) (x .memory) (x .output) next (x .call .outpos)) (columnOf (take n slots)) (typed (take n slots)) ≡ obeyLine lim x o
 ends-line x lim {n = n} {slots = slots} h =
     let g = h .got in
-    ap (λ (k : ℕ). obeyRead (x .call .budget) (lentEnv lim x) (worldAt (unpaused (x .session)) (x .memory) (x .output) k (x .call .outpos)) (typed (take n slots))) (h .past)
-    ∙ ap (λ (bs : List ℕ). obeyRead (x .call .budget) (lentEnv lim x) (begun x (g .taken)) (typed bs)) (h .bytes)
+    ap (λ (k : ℕ). obeyRead (x .call .budget) (lentEnv lim x) (worldAt (unpaused (x .session)) (x .memory) (x .output) k (x .call .outpos)) (columnOf (take n slots)) (typed (take n slots))) (h .past)
+    ∙ ap (λ (bs : List ℕ). obeyRead (x .call .budget) (lentEnv lim x) (begun x (g .taken)) (columnOf bs) (typed bs)) (h .bytes)
     ∙ sym (ap (obeyLine lim x) (h .there)
-    ∙ ap (λ (b : Bool). elim b [ true ↦ stops 5 (begun x (g .taken)) (x .page) | false ↦ obeyRead (x .call .budget) (lentEnv lim x) (begun x (g .taken)) (typed (g .line .bytes)) ]) (h .whole))
+    ∙ ap (λ (b : Bool). elim b [ true ↦ refusedLine lim (begun x (g .taken)) (x .page) | false ↦ obeyRead (x .call .budget) (lentEnv lim x) (begun x (g .taken)) (columnOf (g .line .bytes)) (typed (g .line .bytes)) ]) (h .whole))
 
 -- past gathering: what was lent, and the line in its slots
 module _ (r : tie.After-gather) where
@@ -129,12 +130,22 @@ returns c =
     let a = start r .args in
     ap (λ (e : Ended). endedIn e (a .page .now) (a .memory .now) (a .output .now)) (c .stopped .ensures) ∙ ends-none (all r) (lim r) (hears r (c .before .enum-told .given .1))
 
+cast-refused : tie.Need-cast-refused
+cast-refused c =
+    let r = c .before .before .before .before .before in
+    let l = as-long r in
+    let q = start r .pre .0 .short in
+    omega arith
+
 returns-2 : tie.Need-returns-2
 returns-2 c =
     let r = c .before .before .before .before .before .before .before in
     let a = start r .args in
+    let at = c .before .before .before .g .given .0 .0 in
     ap (λ (e : Ended). endedIn e (a .page .now) (a .memory .now) (a .output .now))
-    (c .stopped2 .ensures ∙ ap (λ (x : Session). stopped 5 x (c .before .before .before .g .given .0 .0) (a .call .outpos)) (c .before .unpaused .ensures))
+    (c .refused .ensures
+    ∙ ap (λ (x : Session). refused (length (slots r)) x at (a .call .outpos)) (c .before .unpaused .ensures)
+    ∙ ap (λ (n : ℕ). refused n (unpaused (a .rec)) at (a .call .outpos)) (as-long r))
     ∙ ends-long (all r) (lim r) (hears r (c .before .before .before .g .given .1))
 
 same-length-6 : tie.Need-same-length-6
@@ -150,8 +161,8 @@ returns-3 c =
     let x = c .before .before .before .before .before .before .before .before .before .before .before .before .before .before .before .before .before .before .before .before .before .before .before .before .unpaused2 in
     let t : List ℕ = take (c .before .before .before .before .before .before .before .before .before .before .before .before .before .before .before .before .before .before .before .before .before .before .before .before .before .before .before .before .before .before .before .before .g2 .given .0 .1 .0) (slots r) in
     c .before .before .before .before .before .before .before .before .before .before .before .before .before .before .obey .ensures
-    ∙ ap (λ (k : Call). obeyRead (k .budget) (envWith (lim r) (a .page .now) (a .input .now) (k .sense) (place mark)) (worldAt (x .result) (a .memory .now) (a .output .now) (k .inpos) (k .outpos)) (typed t)) (c .before .before .before .before .before .before .before .before .before .before .before .before .before .before .before .before .before .before .before .before .at .ensures)
-    ∙ ap (λ (s : Session). obeyRead (a .call .budget) (lentEnv (lim r) (all r)) (worldAt s (a .memory .now) (a .output .now) (c .before .before .before .before .before .before .before .before .before .before .before .before .before .before .before .before .before .before .before .before .before .before .before .before .before .before .before .before .before .before .before .before .g2 .given .0 .0) (a .call .outpos)) (typed t)) (x .ensures)
+    ∙ ap (λ (k : Call). obeyRead (k .budget) (envWith (lim r) (a .page .now) (a .input .now) (k .sense) (place mark)) (worldAt (x .result) (a .memory .now) (a .output .now) (k .inpos) (k .outpos)) (columnOf t) (typed t)) (c .before .before .before .before .before .before .before .before .before .before .before .before .before .before .before .before .before .before .before .before .at .ensures)
+    ∙ ap (λ (s : Session). obeyRead (a .call .budget) (lentEnv (lim r) (all r)) (worldAt s (a .memory .now) (a .output .now) (c .before .before .before .before .before .before .before .before .before .before .before .before .before .before .before .before .before .before .before .before .before .before .before .before .before .before .before .before .before .before .before .before .g2 .given .0 .0) (a .call .outpos)) (columnOf t) (typed t)) (x .ensures)
     ∙ ends-line (all r) (lim r) (kept r (c .before .before .before .before .before .before .before .before .before .before .before .before .before .before .before .before .before .before .before .before .before .before .before .before .before .before .before .before .before .before .before .before .g2 .given .1))
 
 pub typed-line-spec : {M : Type 1} → statement M
@@ -162,6 +173,7 @@ typed-line-spec =
     (λ c. search needs)
     (λ c κs. search needs)
     (λ c. search needs)
+    cast-refused
     (λ c κs. search needs)
     (λ c κs. search needs)
     (λ c. search needs)
