@@ -3,4 +3,5 @@ pub mod PageKept
 pub mod Unread
 pub mod RunTogether
 pub mod Together
+pub mod Spots
 pub mod Columns

@@ -1,3 +1,4 @@
 pub mod Kept
 pub mod OneWord
 pub mod Together
+pub mod Spots

@@ -11,7 +11,6 @@ pub mod Statements
 pub mod Complete
 pub mod Desk
 pub mod GaveUp
-pub mod Spots
 pub mod Taken
 pub mod Spot
 pub mod Ends
