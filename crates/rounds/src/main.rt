@@ -255,7 +255,8 @@ fn full() -> Session {
     }
 }
 
-// A typed line: its stop, how far the input was taken, how many places are left, and the page's byte that the line changes.
+// A typed line: its stop and column, how far the input was taken, how many places are left, and the page's byte that the line
+// changes.
 fn take(page: &mut [u8], session: Session, input: &[u8]) -> u16
     ensures { λ _. ⌜ length (now (page .exit)) ≡ length (now (page .entry)) ⌝ }
 {
@@ -270,7 +271,8 @@ fn take(page: &mut [u8], session: Session, input: &[u8]) -> u16
     let ended = calls::take_line(session, page, &mut memory, input, &mut output, call);
     let answer = ended.answer;
     let left = ended.session;
-    let sum = add(add(answer.stop as u16, answer.inpos), left.gosubs.depth);
+    let spot = std::num::wrapping_add_u16(answer.stop as u16, answer.column);
+    let sum = add(add(spot, answer.inpos), left.gosubs.depth);
     if CHANGED < page.len() {
         return add(sum, wide(page[CHANGED]));
     }
@@ -298,6 +300,12 @@ fn typed(page: &mut [u8], session: Session) -> u16
     )
 }
 
+// A line that is typed on an empty page.
+fn alone(line: &[u8]) -> u16 {
+    let mut page = [nibl::END_MARK; 128];
+    take(&mut page, Session::fresh(), line)
+}
+
 fn round(work: u16, bytes: &mut [u8], ops: &mut [u32]) -> u16
     ensures { λ _. ⌜ length (now (bytes .exit)) ≡ length (now (bytes .entry)) ⌝ }
 {
@@ -310,6 +318,7 @@ fn round(work: u16, bytes: &mut [u8], ops: &mut [u32]) -> u16
         9 | 12 | 13 => steps(bytes, Session::fresh()),
         10 => typed(bytes, Session::fresh()),
         11 => typed(bytes, full()),
+        14 => alone(bytes),
         _ => 0,
     }
 }

@@ -3,8 +3,8 @@
 //!     rounds <INPUT               the work; writes the sum of what the rounds found
 //!     rounds input WORK ROUNDS    writes such an input
 //!
-//! The input has the work's number, the number of rounds (at most 32,767), LF, and the bytes to work on. A WORK with a "t"
-//! behind its number is the same work on texts whose words are written together.
+//! The input has the work's number, the number of rounds (at most 32,767), LF, and the bytes to work on. A WORK with a letter
+//! behind its number is the same work on other bytes.
 
 #![forbid(unsafe_code)]
 
@@ -249,11 +249,10 @@ fn full() -> Record {
     }
 }
 
-/// The middle line of a full page is typed anew, with the other one of two digits: the page stays as full as it was.
-/// The stop, how far the input was taken, how many places are left, and the page's byte that the line changes.
-fn typed(page: &mut [u8], mut record: Record) -> u16 {
+/// A typed line: the stop, the column, how far the input was taken, and how many places are left.
+fn take(page: &mut [u8], mut record: Record, input: &[u8]) -> u16 {
     let lent = Lent {
-        input: LINES[usize::from(page[CHANGED] == b'3')].as_bytes(),
+        input,
         page,
         memory: &mut [0],
         output: &mut [0],
@@ -265,12 +264,36 @@ fn typed(page: &mut [u8], mut record: Record) -> u16 {
     let answer = take_line(&mut record, lent);
     let found = [
         answer.stop as usize,
+        answer.column as usize,
         answer.input_position as usize,
         record.gosubs.depth,
-        page[CHANGED].into(),
     ];
     found.into_iter().fold(0, add)
 }
+
+/// The middle line of a full page is typed anew, with the other one of two digits: the page stays as full as it was. Its sum
+/// has the page's byte that the line changes.
+fn typed(page: &mut [u8], record: Record) -> u16 {
+    let line = LINES[usize::from(page[CHANGED] == b'3')];
+    let sum = take(page, record, line.as_bytes());
+    add(sum, page[CHANGED])
+}
+
+/// A line that is typed on an empty page.
+fn alone(line: &[u8]) -> u16 {
+    take(&mut [END_MARK[0]; 128], Record::default(), line)
+}
+
+/// Lines for it: two that are refused, whose spots take long to find, and some that are not.
+const ALONE: [(&str, &str); 7] = [
+    ("14a", "A=B AND C AND D AND E AND F AND G AND H AND I AND J AND K AND L AND M AN\r"),
+    ("14b", "A \"A STRING WHERE NONE MAY STAND, AS LONG AS A LINE CAN BE MADE BY DIGITS\"\r"),
+    ("14c", "PRIMT A\r"),
+    ("14d", "A=A+1\r"),
+    ("14e", "PRINT;A\r"),
+    ("14f", "LIST 10\r"),
+    ("14g", "10 IF A>B GOTO 10\r"),
+];
 
 /// What a piece of work works on.
 fn input(work: &str) -> Option<Vec<u8>> {
@@ -282,7 +305,10 @@ fn input(work: &str) -> Option<Vec<u8>> {
         "9" => Some(assigning()),
         "12" => Some(nested()),
         "13" => Some(calling()),
-        _ => None,
+        _ => {
+            let (_, line) = ALONE.iter().find(|(name, _)| *name == work)?;
+            Some(line.as_bytes().to_vec())
+        }
     }
 }
 
@@ -331,6 +357,7 @@ fn run(input: &[u8]) -> Option<u16> {
         "9" | "12" | "13" => Some(repeat(rounds, || steps(black_box(page)))),
         "10" => Some(repeat(rounds, || typed(black_box(page), Record::default()))),
         "11" => Some(repeat(rounds, || typed(black_box(page), full()))),
+        "14" => Some(repeat(rounds, || alone(black_box(bytes)))),
         _ => None,
     }
 }
@@ -340,7 +367,7 @@ fn main() -> io::Result<()> {
     if let [order, work, rounds] = arguments.as_slice() {
         assert_eq!(order, "input");
         let bytes = input(work).expect("a known work");
-        let number = work.trim_end_matches('t');
+        let number = work.trim_end_matches(|end: char| end.is_ascii_lowercase());
         io::stdout().write_all(format!("{number} {rounds}\n").as_bytes())?;
         return io::stdout().write_all(&bytes);
     }
