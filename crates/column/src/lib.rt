@@ -1,0 +1,2 @@
+// The column of a refused line.
+mod rules;
