@@ -9,15 +9,16 @@ use borrow.Author.Tests.{leb-true, le-leb, ne-eqb, eqb-false}
 use denote.Enum.Declared.{tagOf}
 use types.Run.{OneOf, miss}
 use lib.ListN.{length, take, drop}
-use lib.Seq.{sets}
+use lib.Seq.{sets, slice}
 use lib.Dec.{leb, eqb}
 use Rattle.nibl.specs.Bytes.{if_then_else_, isSpace, all}
-use Rattle.nibl.specs.Words.{keywords, commands, command}
+use Rattle.nibl.specs.Words.{Token, variable, hex, string, sign, keywords, commands, command}
 use Rattle.nibl.specs.Tree.{Stmt, Member, Typed, new, clear, run, delete, list, immediate}
-use Rattle.nibl.specs.Read.{Step, atEnd, Found, nothing, found, Reader, andThen, ifKey, orElse, onStep, stepIn, choose, decimalOf, signOf, aSign, aDecimal, _>>=_, statement, endsMember, member, unread, reading, alone, storing, numbered, aloneStatement, commandCases, unnumbered, typed}
+use Rattle.nibl.specs.Read.{Step, atEnd, got, Found, nothing, found, Reader, andThen, ifKey, orElse, onStep, choose, decimalOf, signOf, aSign, aDecimal, _>>=_, statement, endsMember, member, unread, reading, alone, storing, numbered, aloneStatement, commandCases, unnumbered, typed}
 use Rattle.nibl.specs.Calls.{needsProgram}
-use Rattle.nibl.proofs.Words.{if-split, and-left, and-right, all-true, true-all, ended-sound, ended-complete}
+use Rattle.nibl.proofs.Words.{if-split, and-left, and-right, all-true, true-all, word-sound, ended-sound, ended-complete}
 use Rattle.nibl.proofs.Lines.{typed-other}
+use Rattle.nibl.proofs.Whole.{uncommanded}
 use Rattle.word.specs.declared.Cursor.{Cursor}
 use Rattle.word.specs.declared.Word.{Word}
 use Rattle.word.specs.declared.Word.the-variants.{Variable, Decimal, Hex, Text, Sign, End, Wrong}
@@ -43,13 +44,13 @@ unended text (Hex v c) n e = let z : _≡_ {A = ℕ} 0 1 = cc in omega arith
 unended text (Text i j c) n e = let z : _≡_ {A = ℕ} 0 1 = cc in omega arith
 unended text (Sign k c) n e = let z : _≡_ {A = ℕ} 0 1 = cc in omega arith
 unended text End n e = n refl
-unended text Wrong n e = let z : _≡_ {A = ℕ} 0 1 = cc in omega arith
+unended text (Wrong c) n e = let z : _≡_ {A = ℕ} 0 1 = cc in omega arith
 
 module _ {text : List ℕ} {at : ℕ} where
-  pub blank-end : {w : Word} → w ≡ End → WordIs (stepIn keywords) text at w → all isSpace (drop at text) ≡ true
+  pub blank-end : {w : Word} → w ≡ End → WordIs keywords text at w → all isSpace (drop at text) ≡ true
   blank-end e h = all-true (ended-sound keywords (drop at text) (sym (h .same) ∙ ap (foundStep text) e))
 
-  pub unblank : (w : Word) → (w ≡ End → ⊥) → WordIs (stepIn keywords) text at w → all isSpace (drop at text) ≡ false
+  pub unblank : (w : Word) → (w ≡ End → ⊥) → WordIs keywords text at w → all isSpace (drop at text) ≡ false
   unblank w n h = go (all isSpace (drop at text)) refl
     where
       go : (b : Bool) → all isSpace (drop at text) ≡ b → b ≡ false
@@ -79,17 +80,17 @@ undecimal text (Hex v c) n = refl
 undecimal text (Text i j c) n = refl
 undecimal text (Sign k c) n = refl
 undecimal text End n = refl
-undecimal text Wrong n = refl
+undecimal text (Wrong c) n = refl
 
 module _ {text : List ℕ} {at : ℕ} where
-  decimal-step : {w : Word} → WordIs (stepIn keywords) text at w → aDecimal (drop at text) ≡ onStep (foundStep text w) decimalOf
+  decimal-step : {w : Word} → WordIs keywords text at w → aDecimal (drop at text) ≡ onStep (foundStep text w) decimalOf
   unfolding aDecimal
   decimal-step h = ap (λ (s : Step). onStep s decimalOf) (sym (h .same))
 
-  pub decimal-found : {w : Word} {n : ℕ} {c : Cursor} → w ≡ Decimal n c → WordIs (stepIn keywords) text at w → aDecimal (drop at text) ≡ found n (drop (c .at) text)
+  pub decimal-found : {w : Word} {n : ℕ} {c : Cursor} → w ≡ Decimal n c → WordIs keywords text at w → aDecimal (drop at text) ≡ found n (drop (c .at) text)
   decimal-found e h = decimal-step h ∙ ap (λ (q : Word). onStep (foundStep text q) decimalOf) e
 
-  pub no-decimal : (ks : List ℕ) (w : Word) → (OneOf ks 1 → ⊥) → OneOf ks (tagOf the-type w) → WordIs (stepIn keywords) text at w → aDecimal (drop at text) ≡ nothing
+  pub no-decimal : (ks : List ℕ) (w : Word) → (OneOf ks 1 → ⊥) → OneOf ks (tagOf the-type w) → WordIs keywords text at w → aDecimal (drop at text) ≡ nothing
   no-decimal ks w n k h = decimal-step h ∙ undecimal text w (λ v c e. n (subst (λ (q : Word). OneOf ks (tagOf the-type q)) e k))
 
 -- What follows LIST
@@ -242,9 +243,9 @@ no-sign text (Hex v c) n = refl
 no-sign text (Text i j c) n = refl
 no-sign text (Sign k c) n = absurd (n k c refl)
 no-sign text End n = refl
-no-sign text Wrong n = refl
+no-sign text (Wrong c) n = refl
 
-module _ (text : List ℕ) (w : Word) (h : WordIs (stepIn commands) text 0 w) where
+module _ (text : List ℕ) (w : Word) (h : WordIs commands text 0 w) where
   command-step : {f : Found ℕ} → onStep (foundStep text w) signOf ≡ f → unnumbered text ≡ orElse f (choose commandCases (λ t. aloneStatement text)) aloneStatement text
   command-step e = ap (λ (f : Found ℕ). orElse f (choose commandCases (λ t. aloneStatement text)) aloneStatement text) (ap (λ (s : Step). onStep s signOf) (sym (h .same)) ∙ e)
 
@@ -292,3 +293,16 @@ typed-number s b e = typed-other s b ∙ ap (λ (f : Found ℕ). orElse f number
 
 pub typed-none : (s : List ℕ) → all isSpace s ≡ false → aDecimal s ≡ nothing → typed s ≡ unnumbered s
 typed-none s b e = typed-other s b ∙ ap (λ (f : Found ℕ). orElse f numbered unnumbered s) e
+
+-- a word of the keywords' rule, which is no constant
+a-word : (text : List ℕ) (w : Word) → OneOf (0 ∷ 2 ∷ 3 ∷ 4 ∷ []) (tagOf the-type w) → (t : Token) × (u : List ℕ) × (foundStep text w ≡ got t u)
+a-word text (Variable v c) k = (variable v, drop (c .at) text, refl)
+a-word text (Decimal n c) k = absurd (miss (0 ∷ 2 ∷ 3 ∷ 4 ∷ []) 1 tt k)
+a-word text (Hex n c) k = (hex n, drop (c .at) text, refl)
+a-word text (Text i j c) k = (string (slice i j text), drop (c .at) text, refl)
+a-word text (Sign n c) k = (sign n, drop (c .at) text, refl)
+a-word text End k = absurd (miss (0 ∷ 2 ∷ 3 ∷ 4 ∷ []) 5 tt k)
+a-word text (Wrong c) k = absurd (miss (0 ∷ 2 ∷ 3 ∷ 4 ∷ []) 6 tt k)
+
+pub unnumbered-word : (text : List ℕ) (w : Word) → OneOf (0 ∷ 2 ∷ 3 ∷ 4 ∷ []) (tagOf the-type w) → WordIs keywords text 0 w → unnumbered text ≡ aloneStatement text
+unnumbered-word text w k h = let (t, u, e) = a-word text w k in uncommanded (word-sound keywords text u t (sym (h .same) ∙ e))

@@ -256,7 +256,9 @@ pub fn read_line(text: &[u8], ops: &mut [u32]) -> LineRead
             LineRead::Blank
         }
         Word::Decimal(n, c) => numbered_line(text, LineNumber(n), c, ops),
-        _ => unnumbered_line(text, ops),
+        // where a command stands no keyword begins, so it is looked for only where no word stands
+        Word::Wrong(_) => unnumbered_line(text, ops),
+        _ => immediate(text, ops),
     }
 }
 

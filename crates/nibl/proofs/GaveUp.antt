@@ -98,6 +98,18 @@ most-least [] s = omega arith
 most-least (w ∷ ws) s =
     if-split (λ k. 1 ≤ k) (leb (common w s) (mostCommon ws s)) (λ _. most-least ws s) (λ e. omega (arith, leb-false (common w s) (mostCommon ws s) e, most-least ws s))
 
+common-short : (w s : List ℕ) → common w s ≤ length s
+unfolding common
+common-short [] s = omega arith
+common-short (c ∷ w) [] = omega arith
+common-short (c ∷ w) (b ∷ s) = if-split (λ k. k ≤ suc (length s)) (eqb c b) (λ _. omega (arith, common-short w s)) (λ _. omega arith)
+
+pub most-short : (table : List (List ℕ)) (s : List ℕ) → 1 ≤ length s → mostCommon table s ≤ length s
+unfolding mostCommon
+most-short [] s h = h
+most-short (w ∷ ws) s h =
+    if-split (λ k. k ≤ length s) (leb (common w s) (mostCommon ws s)) (λ _. most-short ws s h) (λ _. common-short w s)
+
 -- a spelling that parts from the text before the n-th byte begins the one text if it begins the other
 both-begin : (w s : List ℕ) (n : ℕ) → common w s < n → n ≤ length s → (t : List ℕ) → begins w (front isCapital (take n s ++ t)) ≡ true
     → begins w (front isCapital s) ≡ true

@@ -244,7 +244,8 @@ no-command d (pair {a} {b} {k} h) e = of-pairs (λ x y n. choose commandCases d 
 no-command d (symbol {b} h n) e =
     rw (no-symbol (λ x. eqb x 128) b refl h, no-symbol (λ x. eqb x 129) b refl h, no-symbol (λ x. eqb x 130) b refl h, no-symbol (λ x. eqb x 131) b refl h)
 
-uncommanded : {s u : List ℕ} {w : Token} → W s w u → unnumbered s ≡ aloneStatement s
+-- so where a word stands the line is no command
+pub uncommanded : {s u : List ℕ} {w : Token} → W s w u → unnumbered s ≡ aloneStatement s
 uncommanded {s} w = go (it (command-same s))
   where
     go : {f : Found ℕ} → Ok (λ k t. C s (sign k) t) f → orElse f (choose commandCases (λ t. aloneStatement s)) aloneStatement s ≡ aloneStatement s

@@ -46,17 +46,17 @@ no-sign text (Hex v p) k = (refl, λ i. let z : _≡_ {A = ℕ} 0 1 = cc in omeg
 no-sign text (Text a b p) k = (refl, λ i. let z : _≡_ {A = ℕ} 0 1 = cc in omega arith)
 no-sign text (Sign v p) k = absurd (miss (0 ∷ 1 ∷ 2 ∷ 3 ∷ 6 ∷ []) 4 tt k)
 no-sign text End k = absurd (miss (0 ∷ 1 ∷ 2 ∷ 3 ∷ 6 ∷ []) 5 tt k)
-no-sign text Wrong k = (refl, λ i. let z : _≡_ {A = ℕ} 0 1 = cc in omega arith)
+no-sign text (Wrong p) k = (refl, λ i. let z : _≡_ {A = ℕ} 0 1 = cc in omega arith)
 
 module _ {text : List ℕ} {r : Made} {c : Cursor} {n : ℕ} (e : r ≡ Next c n) where
-  pub end-last : WordIs (stepIn keywords) text (c .at) End → EndsIs text r (member.Member n 0)
+  pub end-last : WordIs keywords text (c .at) End → EndsIs text r (member.Member n 0)
   end-last h = rw e (ends {c = c} 0 [] (λ q. rw (all-true (ended-sound keywords (drop (c .at) text) (sym (h .same))))))
 
-  sign-of : (w : Word) → WordIs (stepIn keywords) text (c .at) w → aSign (drop (c .at) text) ≡ onStep (foundStep text w) signOf
+  sign-of : (w : Word) → WordIs keywords text (c .at) w → aSign (drop (c .at) text) ≡ onStep (foundStep text w) signOf
   unfolding aSign
   sign-of w h = ap (λ (s : Step). onStep s signOf) (sym (h .same))
 
-  pub end-colon : {k l : ℕ} {p : Cursor} → k ≡ 58 → l ≡ length text - p .at + 1 → WordIs (stepIn keywords) text (c .at) (Sign k p) → EndsIs text r (member.Member n l)
+  pub end-colon : {k l : ℕ} {p : Cursor} → k ≡ 58 → l ≡ length text - p .at + 1 → WordIs keywords text (c .at) (Sign k p) → EndsIs text r (member.Member n l)
   end-colon {k} {l} {p} f g h =
       let s = drop (c .at) text in
       let size : suc (length (drop (p .at) text)) ≡ l = omega (arith, length-drop (p .at) text) in
@@ -64,13 +64,13 @@ module _ {text : List ℕ} {r : Made} {c : Cursor} {n : ℕ} (e : r ≡ Next c n
       rw e (ends {c = c} l (drop (p .at) text) (λ q. at-colon q s u ∙ if-there ":" _ fail s (sign-of (Sign k p) h ∙ ap (λ j. found j (drop (p .at) text)) f)
       ∙ ap (λ j. found (record { statement = q; left = j }) (drop (p .at) text)) size))
 
-  pub end-other : {k : ℕ} {p : Cursor} → (k ≡ 58 → ⊥) → WordIs (stepIn keywords) text (c .at) (Sign k p) → EndsIs text r member.NoReading
+  pub end-other : {k : ℕ} {p : Cursor} → (k ≡ 58 → ⊥) → WordIs keywords text (c .at) (Sign k p) → EndsIs text r member.NoReading
   end-other {k} {p} f h =
       let s = drop (c .at) text in
       let u = unspaced s (λ i. let w = h .same in let z : _≡_ {A = ℕ} 0 1 = cc in omega arith) in
       rw e (refused {c = c} (λ q. at-colon q s u ∙ if-other ":" _ fail s (rw (sign-of (Sign k p) h) (another (ne-eqb k 58 f)))))
 
-  pub end-wrong : (w : Word) → WordIs (stepIn keywords) text (c .at) w → OneOf (0 ∷ 1 ∷ 2 ∷ 3 ∷ 6 ∷ []) (tagOf the-type w) → EndsIs text r member.NoReading
+  pub end-wrong : (w : Word) → WordIs keywords text (c .at) w → OneOf (0 ∷ 1 ∷ 2 ∷ 3 ∷ 6 ∷ []) (tagOf the-type w) → EndsIs text r member.NoReading
   end-wrong w h k =
       let s = drop (c .at) text in
       let d = no-sign text w k in

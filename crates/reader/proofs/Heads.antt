@@ -9,7 +9,7 @@ use types.Run.{OneOf, miss}
 use lib.ListN.{length, drop, length-append, length-drop}
 use lib.Dec.{leb}
 use Rattle.nibl.specs.Words.{Token, variable, decimal, hex, string, sign, keywords, Word, spaced, keyword, letter, decimalDigits, hexDigits, quoted, pair, symbol, firstKeyword}
-use Rattle.nibl.specs.Read.{Step, stepIn, nothing, Reader, onStep, byWord, variableOf, stringOf, signOf, aVariable, aString, aSign, fail}
+use Rattle.nibl.specs.Read.{Step, nothing, Reader, onStep, byWord, variableOf, stringOf, signOf, aVariable, aString, aSign, fail}
 use Rattle.nibl.proofs.Words.{word-sound, of-pairs, no-symbol}
 use Rattle.word.specs.declared.Cursor.{Cursor}
 use Rattle.word.specs.declared.Word.{Word as Read}
@@ -35,19 +35,19 @@ unkind text (word.Hex n p) k = aHex
 unkind text (word.Text i j p) k = absurd (miss (1 ∷ 2 ∷ 5 ∷ 6 ∷ []) 3 tt k)
 unkind text (word.Sign n p) k = absurd (miss (1 ∷ 2 ∷ 5 ∷ 6 ∷ []) 4 tt k)
 unkind text word.End k = textEnd
-unkind text word.Wrong k = noWord
+unkind text (word.Wrong p) k = noWord
 
 module _ {text : List ℕ} {r : Made} {c : Cursor} {o : ℕ} (e : r ≡ Next c o) where
-  pub kind-variable : {v : ℕ} {p : Cursor} → WordIs (stepIn keywords) text (c .at) (word.Variable v p) → KindIs text r (kind.Variable v (Next p o))
+  pub kind-variable : {v : ℕ} {p : Cursor} → WordIs keywords text (c .at) (word.Variable v p) → KindIs text r (kind.Variable v (Next p o))
   kind-variable h = rw e (heads (sym (h .same)) (h .inside .0) (h .inside .1))
 
-  pub kind-text : {i j : ℕ} {p : Cursor} → WordIs (stepIn keywords) text (c .at) (word.Text i j p) → KindIs text r (kind.Text i j (Next p o))
+  pub kind-text : {i j : ℕ} {p : Cursor} → WordIs keywords text (c .at) (word.Text i j p) → KindIs text r (kind.Text i j (Next p o))
   kind-text h = rw e (heads (sym (h .same)) (h .inside .0) (h .inside .1), h .inside .2, omega (arith, h .inside .1, h .inside .3))
 
-  pub kind-sign : {k : ℕ} {p : Cursor} → WordIs (stepIn keywords) text (c .at) (word.Sign k p) → KindIs text r (kind.Sign k (Next p o))
+  pub kind-sign : {k : ℕ} {p : Cursor} → WordIs keywords text (c .at) (word.Sign k p) → KindIs text r (kind.Sign k (Next p o))
   kind-sign h = rw e (heads (sym (h .same)) (h .inside .0) (h .inside .1))
 
-  pub kind-other : (w : Read) → WordIs (stepIn keywords) text (c .at) w → OneOf (1 ∷ 2 ∷ 5 ∷ 6 ∷ []) (tagOf word-type w) → KindIs text r kind.Other
+  pub kind-other : (w : Read) → WordIs keywords text (c .at) w → OneOf (1 ∷ 2 ∷ 5 ∷ 6 ∷ []) (tagOf word-type w) → KindIs text r kind.Other
   kind-other w h k = rw e (headless (rw (h .same) at (unkind text w k)))
 
 pub kind-none : {text : List ℕ} {r : Made} → r ≡ NoReading → KindIs text r kind.Other

@@ -44,7 +44,7 @@ pub stood-over : {A : Type 0} {F : Reader A} {a : A} {text : List ℕ} {r s : Ma
 stood-over (stood e l h) = over-here l h
 
 -- The word at a cursor
-module _ {text : List ℕ} {r : Made} {c : Cursor} {o : ℕ} (w : Word) (e : r ≡ Next c o) (h : WordIs (stepIn keywords) text (c .at) w) where
+module _ {text : List ℕ} {r : Made} {c : Cursor} {o : ℕ} (w : Word) (e : r ≡ Next c o) (h : WordIs keywords text (c .at) w) where
   by-step : {A : Type 0} (k : Token → Reader A) → onStep (stepIn keywords (drop (c .at) text)) k ≡ onStep (foundStep text w) k
   by-step k = ap (λ (s : Step). onStep s k) (sym (h .same))
 
@@ -63,7 +63,7 @@ no-sign text (Hex n p) k = refl
 no-sign text (Text i j p) k = refl
 no-sign text (Sign n p) k = absurd (miss (0 ∷ 1 ∷ 2 ∷ 3 ∷ 5 ∷ 6 ∷ []) 4 tt k)
 no-sign text End k = refl
-no-sign text Wrong k = refl
+no-sign text (Wrong p) k = refl
 
 no-factor : (text : List ℕ) (w : Word) → OneOf (3 ∷ 5 ∷ 6 ∷ []) (tagOf the-type w) → onStep (foundStep text w) (factorOf read) ≡ nothing
 no-factor text (Variable v p) k = absurd (miss (3 ∷ 5 ∷ 6 ∷ []) 0 tt k)
@@ -72,9 +72,9 @@ no-factor text (Hex n p) k = absurd (miss (3 ∷ 5 ∷ 6 ∷ []) 2 tt k)
 no-factor text (Text i j p) k = refl
 no-factor text (Sign n p) k = absurd (miss (3 ∷ 5 ∷ 6 ∷ []) 4 tt k)
 no-factor text End k = refl
-no-factor text Wrong k = refl
+no-factor text (Wrong p) k = refl
 
-module _ {text : List ℕ} {r : Made} {c : Cursor} {o : ℕ} (w : Word) (e : r ≡ Next c o) (h : WordIs (stepIn keywords) text (c .at) w) where
+module _ {text : List ℕ} {r : Made} {c : Cursor} {o : ℕ} (w : Word) (e : r ≡ Next c o) (h : WordIs keywords text (c .at) w) where
   pub sign-none : OneOf (0 ∷ 1 ∷ 2 ∷ 3 ∷ 5 ∷ 6 ∷ []) (tagOf the-type w) → SignIs text r signed.Other
   sign-none k = rw e (absent (sign-step w e h ∙ no-sign text w k))
 
@@ -82,26 +82,26 @@ module _ {text : List ℕ} {r : Made} {c : Cursor} {o : ℕ} (w : Word) (e : r �
   atom-none k = rw e (missing (absent (factor-step w e h ∙ no-factor text w k)))
 
 module _ {text : List ℕ} {r : Made} {c p : Cursor} {o : ℕ} (e : r ≡ Next c o) where
-  pub sign-found : {k : ℕ} → WordIs (stepIn keywords) text (c .at) (Sign k p) → SignIs text r (signed.By k (Next p o))
+  pub sign-found : {k : ℕ} → WordIs keywords text (c .at) (Sign k p) → SignIs text r (signed.By k (Next p o))
   sign-found h = rw e (stood (sign-step _ e h) (h .inside .0) (h .inside .1))
 
   atom-goes : {a : Atom} (R : Reader Expr) → read factor (drop (c .at) text) ≡ R (drop (p .at) text) → c .at < p .at → p .at ≤ length text
       → FormIs R (Next p o) a → AtomIs text r a
   atom-goes R f l h g = rw e (goes R (onto (λ x. f) (λ i. h)) (over-here l h) g)
 
-  pub atom-variable : {v u w : ℕ} → WordIs (stepIn keywords) text (c .at) (Variable v p) → u ≡ v → w ≡ op codeVariable u → AtomIs text r (atom.Whole w (Next p o))
+  pub atom-variable : {v u w : ℕ} → WordIs keywords text (c .at) (Variable v p) → u ≡ v → w ≡ op codeVariable u → AtomIs text r (atom.Whole w (Next p o))
   unfolding values
   atom-variable h d q = rw (q, d) (atom-goes (give (var _)) (factor-step _ e h) (h .inside .0) (h .inside .1) (whole (var _) refl refl))
 
-  pub atom-decimal : {v u w : ℕ} → WordIs (stepIn keywords) text (c .at) (Decimal v p) → u ≡ v → w ≡ op codeConstant u → AtomIs text r (atom.Whole w (Next p o))
+  pub atom-decimal : {v u w : ℕ} → WordIs keywords text (c .at) (Decimal v p) → u ≡ v → w ≡ op codeConstant u → AtomIs text r (atom.Whole w (Next p o))
   unfolding values
   atom-decimal h d q = rw (q, d) (atom-goes (give (const _)) (factor-step _ e h) (h .inside .0) (h .inside .1) (whole (const _) refl refl))
 
-  pub atom-hex : {v u w : ℕ} → WordIs (stepIn keywords) text (c .at) (Hex v p) → u ≡ v → w ≡ op codeConstant u → AtomIs text r (atom.Whole w (Next p o))
+  pub atom-hex : {v u w : ℕ} → WordIs keywords text (c .at) (Hex v p) → u ≡ v → w ≡ op codeConstant u → AtomIs text r (atom.Whole w (Next p o))
   unfolding values
   atom-hex h d q = rw (q, d) (atom-goes (give (const _)) (factor-step _ e h) (h .inside .0) (h .inside .1) (whole (const _) refl refl))
 
-  pub atom-sign : {k : ℕ} {a : Atom} → WordIs (stepIn keywords) text (c .at) (Sign k p) → FormIs (cases k) (Next p o) a → AtomIs text r a
+  pub atom-sign : {k : ℕ} {a : Atom} → WordIs keywords text (c .at) (Sign k p) → FormIs (cases k) (Next p o) a → AtomIs text r a
   atom-sign {k} h f = atom-goes (cases k) (factor-step _ e h) (h .inside .0) (h .inside .1) f
 
 pub halted : {A : Type 0} {F : Reader A} {text : List ℕ} {r : Made} → r ≡ NoReading → Absent F text r

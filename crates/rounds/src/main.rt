@@ -30,7 +30,7 @@ fn number(w: Word) -> u16 {
         Word::Text(from, to, next) => 0,
         Word::Sign(k, next) => k as u16,
         Word::End => 0,
-        Word::Wrong => 0,
+        Word::Wrong(here) => 0,
     }
 }
 
@@ -43,7 +43,7 @@ fn past(w: Word, stop: usize) -> usize {
         Word::Text(from, to, next) => next.at,
         Word::Sign(k, next) => next.at,
         Word::End => stop,
-        Word::Wrong => stop,
+        Word::Wrong(here) => stop,
     }
 }
 

@@ -10,9 +10,11 @@ use lib.Seq.{slice, drop-drop, take-all}
 use Rattle.nibl.specs.Bytes.{isCapital, starts, front, all}
 use Rattle.nibl.specs.Words.{indexIn}
 use Rattle.nibl.specs.Read.{signOr, letterStep, lettersStep}
+use Rattle.nibl.specs.GaveUp.{mostCommon}
 use Rattle.nibl.proofs.Keywords.{take-run, letters-down}
+use Rattle.nibl.proofs.GaveUp.{most-short}
 use Rattle.word.specs.declared.Word.the-variants.{Variable, Sign, Wrong}
-use Rattle.word.specs.Found.{WordIs, tableOf, keysOf, keyOf, keyIndex, lettersAt}
+use Rattle.word.specs.Found.{AnswerIs, tableOf, keysOf, keyOf, keyIndex, lettersAt, lettersLeft}
 use Rattle.word.proofs.Runs.{and-left, and-right, at-byte, between, parted, slice-front, run-cons, end-within}
 use Rattle.word.proofs.Keys.{table-short, signBy, index-key, none-over}
 
@@ -85,18 +87,24 @@ module _ (b : Bool) (text : List ℕ) (from : ℕ) (h : from < length text) (c :
         same = letters-down (tableOf b) here n (size text from) over one (f .run) (omega arith) ∙ ap (λ (m : ℕ). lettersStep (tableOf b) m here) left;
       }
 
-  pub letters-one : starts isCapital (drop (from + 1) text) ≡ false → WordIs (lettersAt (tableOf b)) text from (Variable (getD text from 0 - 65) (record { at = from + 1 }))
+  pub letters-one : starts isCapital (drop (from + 1) text) ≡ false → AnswerIs (lettersAt (tableOf b)) (lettersLeft (tableOf b)) text from (Variable (getD text from 0 - 65) (record { at = from + 1 }))
   letters-one e =
       let range = between 65 90 (getD text from 0) c in
       record {
         same = sym (letters-last (tableOf b) (drop from text) (size text from) (omega (arith, sized, stays isCapital (drop (from + 1) text) e)) ∙ rw (at-byte text from h) (rw e refl));
         inside = (omega arith, omega arith, omega arith);
+        stopped = tt;
       }
 
   pub letters-wrong : starts isCapital (drop (from + 1) text) ≡ true → {to : ℕ} → Tried (tableOf b) text from to → to - from ≤ 1
-      → WordIs (lettersAt (tableOf b)) text from Wrong
-  letters-wrong e {to} t l =
-      record { same = sym (t .same ∙ letters-last (tableOf b) (drop from text) (to - from) l ∙ rw (at-byte text from h) (rw e refl)); inside = tt }
+      → {p : ℕ} → p ≡ from + mostCommon (tableOf b) (drop from text) → AnswerIs (lettersAt (tableOf b)) (lettersLeft (tableOf b)) text from (Wrong (record { at = p }))
+  letters-wrong e {to} t l {p} f =
+      let size = length-drop from text in
+      record {
+        same = sym (t .same ∙ letters-last (tableOf b) (drop from text) (to - from) l ∙ rw (at-byte text from h) (rw e refl));
+        inside = tt;
+        stopped = omega (arith, most-short (tableOf b) (drop from text) (omega arith));
+      }
 
   -- the keywords that end at `to`, by the number of their key
   module _ {to : ℕ} (t : Tried (tableOf b) text from to) (m : 1 < to - from) {q k : ℕ} (f : q ≡ keyOf (slice from to text)) (g : k ≡ keyIndex 128 (keysOf b) q) where
@@ -118,10 +126,10 @@ module _ (b : Bool) (text : List ℕ) (from : ℕ) (h : from < length text) (c :
     pub tried-on : k ≡ 0 → Tried (tableOf b) text from (to - 1)
     tried-on z = record { some = omega arith; run = omega (arith, t .run); most = omega (arith, t .most); same = named ∙ rw (eq-eqb k 0 z) refl }
 
-    pub letters-sign : (k ≡ 0 → ⊥) → WordIs (lettersAt (tableOf b)) text from (Sign k (record { at = to }))
+    pub letters-sign : (k ≡ 0 → ⊥) → AnswerIs (lettersAt (tableOf b)) (lettersLeft (tableOf b)) text from (Sign k (record { at = to }))
     letters-sign z =
         let high = end-within isCapital text from (omega arith) in
-        record { same = sym (named ∙ rw (ne-eqb k 0 z) refl); inside = (t .some, omega (arith, t .run)) }
+        record { same = sym (named ∙ rw (ne-eqb k 0 z) refl); inside = (t .some, omega (arith, t .run)); stopped = tt }
 
 -- where the letters that are looked at end
 pub end-near : (text : List ℕ) (from : ℕ) {end : ℕ} → length text - from ≤ 6 → end ≡ from + size text from

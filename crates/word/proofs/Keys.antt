@@ -67,7 +67,7 @@ key-eq (x ∷ v) (y ∷ w) hv hw =
     digit-eq x y (keyOf v) (keyOf w) (omega arith) (omega arith) (eqb x y) (same v w) refl (key-eq v w (and-right (isCapital x) (all isCapital v) hv) (and-right (isCapital y) (all isCapital w) hw))
 
 -- A list of short spellings of capitals
-abbrev short : List (List ℕ) → Bool
+abbrev pub short : List (List ℕ) → Bool
 short [] = true
 short (w ∷ ws) = (all isCapital w && leb (length w) 6) && short ws
 

@@ -6,43 +6,66 @@ use mathlib.Core.List.{List, [], _∷_}
 use native.Mathlib.Omega.{arith}
 use borrow.Author.Tests.{le-leb, lt-leb}
 use lib.Dec.{leb}
-use lib.ListN.{length, drop, getD}
+use lib.ListN.{length, drop, getD, length-drop}
 use Rattle.nibl.specs.Bytes.{isDigit, isHexDigit, starts, front, past, decimalValue, hexValue}
 use Rattle.nibl.specs.Words.{hex}
 use Rattle.nibl.specs.Read.{got, hexStep}
+use Rattle.nibl.specs.GaveUp.{pastLargest}
 use Rattle.word.specs.declared.Word.the-variants.{Decimal, Hex, Wrong}
-use Rattle.word.specs.Found.{hexDigit, decimalAt, hexAt, WordIs}
-use Rattle.word.proofs.Runs.{between, runEnd, run-cons, front-stop, end-go, end-stop, end-past, rest-stop}
+use Rattle.word.specs.Found.{hexDigit, decimalAt, decimalLeft, hexAt, AnswerIs}
+use Rattle.word.proofs.Runs.{at-byte, between, runEnd, run-cons, front-stop, end-go, end-stop, end-past, rest-stop}
 
--- v is the value of the digits from `from` up to i
+-- v is the value of the digits from `from` up to i, none of which passes the largest
 pub record Counted (text : List ℕ) (from v i : ℕ) : Type 0 where
   pub value : decimalValue v (front isDigit (drop i text)) ≡ decimalValue 0 (front isDigit (drop from text))
   pub end : runEnd isDigit text i ≡ runEnd isDigit text from
+  pub left : pastLargest v (drop i text) ≡ pastLargest 0 (drop from text)
 
 decimal-grows : (v : ℕ) (ds : List ℕ) → v ≤ decimalValue v ds
 decimal-grows v [] = omega arith
 decimal-grows v (d ∷ ds) = omega (arith, decimal-grows (v * 10 + (d - 48)) ds)
 
+-- the next digit passes the largest or does not
+largest-go : (v b : ℕ) (s : List ℕ) → isDigit b ≡ true → v * 10 + (b - 48) ≤ 32767 → pastLargest v (b ∷ s) ≡ pastLargest (v * 10 + (b - 48)) s
+unfolding pastLargest
+largest-go v b s e h = rw (e, pastLargest) (rw (le-leb (v * 10 + (b - 48)) 32767 h))
+
+largest-stop : (v b : ℕ) (s : List ℕ) → isDigit b ≡ true → 32767 < v * 10 + (b - 48) → pastLargest v (b ∷ s) ≡ b ∷ s
+unfolding pastLargest
+largest-stop v b s e h = rw (e, pastLargest) (rw (lt-leb (v * 10 + (b - 48)) 32767 h))
+
 module _ {text : List ℕ} {from v i : ℕ} (c : Counted text from v i) where
-  pub counted-go : (d : ℕ) → i < length text → isDigit (getD text i 0) ≡ true → d ≡ getD text i 0 - 48 → Counted text from (v * 10 + d) (i + 1)
-  counted-go d h e f =
-      record {
-        value = rw f (sym (ap (decimalValue v) (run-cons isDigit text i h e)) ∙ c .value);
-        end = sym (end-go isDigit text i h e) ∙ c .end;
-      }
+  module _ (d : ℕ) (h : i < length text) (e : isDigit (getD text i 0) ≡ true) (f : d ≡ getD text i 0 - 48) where
+    next : decimalValue (v * 10 + (getD text i 0 - 48)) (front isDigit (drop (i + 1) text)) ≡ decimalValue 0 (front isDigit (drop from text))
+    next = sym (ap (decimalValue v) (run-cons isDigit text i h e)) ∙ c .value
+
+    pub counted-go : v * 10 + d ≤ 32767 → Counted text from (v * 10 + d) (i + 1)
+    counted-go k =
+        record {
+          value = rw f next;
+          end = sym (end-go isDigit text i h e) ∙ c .end;
+          left = rw f (sym (largest-go v (getD text i 0) (drop (i + 1) text) e (omega arith)) ∙ ap (pastLargest v) (sym (at-byte text i h)) ∙ c .left);
+        }
+
+    pub counted-large : 32767 < v * 10 + d → AnswerIs decimalAt decimalLeft text from (Wrong (record { at = i }))
+    counted-large k =
+        let large : 32767 < decimalValue 0 (front isDigit (drop from text))
+        = omega (arith, decimal-grows (v * 10 + (getD text i 0 - 48)) (front isDigit (drop (i + 1) text)), next) in
+        let left : pastLargest 0 (drop from text) ≡ drop i text
+        = sym (c .left) ∙ ap (pastLargest v) (at-byte text i h) ∙ largest-stop v (getD text i 0) (drop (i + 1) text) e (omega arith) ∙ sym (at-byte text i h) in
+        record {
+          same = rw (lt-leb (decimalValue 0 (front isDigit (drop from text))) 32767 large) refl;
+          inside = tt;
+          stopped = rw left (omega (arith, length-drop i text));
+        }
 
   pub counted-stop : from < length text → isDigit (getD text from 0) ≡ true → i ≤ length text → v ≤ 32767 → starts isDigit (drop i text) ≡ false
-      → WordIs decimalAt text from (Decimal v (record { at = i }))
+      → AnswerIs decimalAt decimalLeft text from (Decimal v (record { at = i }))
   counted-stop h d l k f =
       let value : decimalValue 0 (front isDigit (drop from text)) ≡ v = sym (c .value) ∙ ap (decimalValue v) (front-stop isDigit (drop i text) f) in
       let past = end-past isDigit text from h d in
       let end = end-stop isDigit text i f in
-      record { same = rw (value, rest-stop isDigit text from i (c .end) f, le-leb v 32767 k) refl; inside = (omega (arith, c .end), l, k) }
-
-  pub counted-large : 32767 < v → WordIs decimalAt text from Wrong
-  counted-large h =
-      let large : 32767 < decimalValue 0 (front isDigit (drop from text)) = omega (arith, decimal-grows v (front isDigit (drop i text)), c .value) in
-      record { same = rw (lt-leb (decimalValue 0 (front isDigit (drop from text))) 32767 large) refl; inside = tt }
+      record { same = rw (value, rest-stop isDigit text from i (c .end) f, le-leb v 32767 k) refl; inside = (omega (arith, c .end), l, k); stopped = tt }
 
 -- A hex digit's value
 or-right : (a b : Bool) → a || b ≡ true → a ≡ false → b ≡ true
@@ -84,7 +107,7 @@ module _ {text : List ℕ} {from v i : ℕ} (c : Hexed text from v i) where
       }
 
   pub hexed-stop : from < i → i ≤ length text → v < 65536 → starts isHexDigit (drop i text) ≡ false
-      → WordIs hexAt text from (Hex v (record { at = i }))
+      → AnswerIs hexAt length text from (Hex v (record { at = i }))
   hexed-stop h l k f =
       let value : hexValue 0 (front isHexDigit (drop from text)) % 65536 ≡ v % 65536 = sym (c .value) ∙ ap (λ (ds : List ℕ). hexValue v ds % 65536) (front-stop isHexDigit (drop i text) f) in
       let low : hexValue 0 (front isHexDigit (drop from text)) % 65536 ≡ v = omega arith in
@@ -92,8 +115,10 @@ module _ {text : List ℕ} {from v i : ℕ} (c : Hexed text from v i) where
       record {
         same = rw (hex-some (front isHexDigit (drop from text)) (past isHexDigit (drop from text)) (omega (arith, c .end)), low, rest-stop isHexDigit text from i (c .end) f) refl;
         inside = (h, l);
+        stopped = tt;
       }
 
-pub hexed-none : (text : List ℕ) (from : ℕ) → starts isHexDigit (drop from text) ≡ false
-    → WordIs hexAt text from Wrong
-hexed-none text from f = record { same = rw (front-stop isHexDigit (drop from text) f) refl; inside = tt }
+pub hexed-none : (text : List ℕ) (from : ℕ) → from ≤ length text → starts isHexDigit (drop from text) ≡ false
+    → AnswerIs hexAt length text from (Wrong (record { at = from }))
+hexed-none text from h f =
+    record { same = rw (front-stop isHexDigit (drop from text) f) refl; inside = tt; stopped = omega (arith, length-drop from text) }

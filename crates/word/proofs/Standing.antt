@@ -11,7 +11,7 @@ use Rattle.nibl.specs.Read.{Step, atEnd, wrong, got}
 use Rattle.word.specs.declared.Cursor.{Cursor}
 use Rattle.word.specs.declared.Word.{Word}
 use Rattle.word.specs.declared.Word.the-variants.{Variable, Decimal, Hex, Text, Sign, End, Wrong}
-use Rattle.word.specs.Found.{foundStep, Behind, WordIs}
+use Rattle.word.specs.Found.{foundStep, Behind, Stopped, AnswerIs}
 
 -- at a position stands the word w, and the next cursor moves on and stays within the text
 pub record Read (step : List ℕ → Step) (text : List ℕ) (at : ℕ) (w : Token) (next : Cursor) : Type 0 where
@@ -24,8 +24,8 @@ pub falls : {step : List ℕ → Step} {text : List ℕ} {at : ℕ} {w : Token} 
 falls {text = text} {at = at} {next = next} r = let h = r .on in let k = r .within in omega arith
 
 -- The laws take the promise and what a match showed of the answer
-module _ {step : List ℕ → Step} {text : List ℕ} {at : ℕ} {r : Word} (w : WordIs step text at r) where
-  told : (q : Word) → r ≡ q → WordIs step text at q
+module _ {step : List ℕ → Step} {left : List ℕ → ℕ} {text : List ℕ} {at : ℕ} {r : Word} (w : AnswerIs step left text at r) where
+  told : (q : Word) → r ≡ q → AnswerIs step left text at q
   told q e = rw e at w
 
   pub variable-read : {v : ℕ} {c : Cursor} → r ≡ Variable v c → Read step text at (variable v) c × (v < 26)
@@ -47,10 +47,10 @@ module _ {step : List ℕ → Step} {text : List ℕ} {at : ℕ} {r : Word} (w :
   pub end-read : r ≡ End → step (drop at text) ≡ atEnd
   end-read e = sym (told End e .same)
 
-  pub wrong-read : r ≡ Wrong → step (drop at text) ≡ wrong
-  wrong-read e = sym (told Wrong e .same)
+  pub wrong-read : {c : Cursor} → r ≡ Wrong c → (step (drop at text) ≡ wrong) × (c .at + left (drop at text) ≡ length text)
+  wrong-read {c} e = let t = told (Wrong c) e in (sym (t .same), t .stopped)
 
--- The answer that a step calls for, in a text of n bytes: positions are told by what is left
+-- The answer that a step calls for, in a text of n bytes: positions are told by what is left, with `up` bytes where it gave up
 abbrev tokenWord : ℕ → Token → ℕ → Word
 tokenWord n (variable v) left = Variable v (record { at = n - left })
 tokenWord n (decimal v) left = Decimal v (record { at = n - left })
@@ -58,32 +58,34 @@ tokenWord n (hex v) left = Hex v (record { at = n - left })
 tokenWord n (string bs) left = Text (n - left - 1 - length bs) (n - left - 1) (record { at = n - left })
 tokenWord n (sign k) left = Sign k (record { at = n - left })
 
-abbrev pub wordOf : ℕ → Step → Word
-wordOf n atEnd = End
-wordOf n wrong = Wrong
-wordOf n (got w s) = tokenWord n w (length s)
+abbrev pub wordOf : ℕ → ℕ → Step → Word
+wordOf n up atEnd = End
+wordOf n up wrong = Wrong (record { at = n - up })
+wordOf n up (got w s) = tokenWord n w (length s)
 
 back : (text : List ℕ) (p : ℕ) → p ≤ length text → p ≡ length text - length (drop p text)
 back text p h = omega (arith, length-drop p text)
 
-stands-for : (text : List ℕ) (at : ℕ) (r : Word) → Behind at (length text) r → r ≡ wordOf (length text) (foundStep text r)
-stands-for text at (Variable v c) i = ap (λ (p : ℕ). Variable v (record { at = p })) (back text (c .at) (i .1))
-stands-for text at (Decimal v c) i = ap (λ (p : ℕ). Decimal v (record { at = p })) (back text (c .at) (i .1))
-stands-for text at (Hex v c) i = ap (λ (p : ℕ). Hex v (record { at = p })) (back text (c .at) (i .1))
-stands-for text at (Text from to c) i =
+stands-for : (left : List ℕ → ℕ) (text : List ℕ) (at : ℕ) (r : Word) → Behind at (length text) r → Stopped left text at r
+    → r ≡ wordOf (length text) (left (drop at text)) (foundStep text r)
+stands-for left text at (Variable v c) i k = ap (λ (p : ℕ). Variable v (record { at = p })) (back text (c .at) (i .1))
+stands-for left text at (Decimal v c) i k = ap (λ (p : ℕ). Decimal v (record { at = p })) (back text (c .at) (i .1))
+stands-for left text at (Hex v c) i k = ap (λ (p : ℕ). Hex v (record { at = p })) (back text (c .at) (i .1))
+stands-for left text at (Text from to c) i k =
     let next = back text (c .at) (i .1) in
     let size = length-slice from to text (omega arith) in
     let t : to ≡ length text - length (drop (c .at) text) - 1 = omega arith in
     let f : from ≡ length text - length (drop (c .at) text) - 1 - length (slice from to text) = omega arith in
     rw (← f, ← t, ← next) refl
-stands-for text at (Sign k c) i = ap (λ (p : ℕ). Sign k (record { at = p })) (back text (c .at) (i .1))
-stands-for text at End i = refl
-stands-for text at Wrong i = refl
+stands-for left text at (Sign n c) i k = ap (λ (p : ℕ). Sign n (record { at = p })) (back text (c .at) (i .1))
+stands-for left text at End i k = refl
+stands-for left text at (Wrong c) i k = ap (λ (p : ℕ). Wrong (record { at = p })) (omega arith)
 
 -- the promise as an equation
-pub exact : (step : List ℕ → Step) (text : List ℕ) (at : ℕ) (r : Word) → WordIs step text at r → r ≡ wordOf (length text) (step (drop at text))
-exact step text at r w = stands-for text at r (w .inside) ∙ ap (wordOf (length text)) (w .same)
+module _ (step : List ℕ → Step) (left : List ℕ → ℕ) (text : List ℕ) (at : ℕ) where
+  pub exact : (r : Word) → AnswerIs step left text at r → r ≡ wordOf (length text) (left (drop at text)) (step (drop at text))
+  exact r w = stands-for left text at r (w .inside) (w .stopped) ∙ ap (wordOf (length text) (left (drop at text))) (w .same)
 
--- two answers that meet it are equal
-pub one : (step : List ℕ → Step) (text : List ℕ) (at : ℕ) (q r : Word) → WordIs step text at q → WordIs step text at r → q ≡ r
-one step text at q r v w = exact step text at q v ∙ sym (exact step text at r w)
+  -- two answers that meet it are equal
+  pub one : (q r : Word) → AnswerIs step left text at q → AnswerIs step left text at r → q ≡ r
+  one q r v w = exact q v ∙ sym (exact r w)

@@ -1,5 +1,5 @@
 -- What the contracts of the word reader say, beyond the definition of words.
-use Prim.Native.Nat.{ℕ, zero, suc, _+_, _-_, _*_, _≤_, _<_}
+use Prim.Native.Nat.{ℕ, zero, suc, _+_, _-_, _*_, _/_, _%_, _≤_, _<_}
 use mathlib.Core.Path.{_≡_}
 use mathlib.Core.Bool.{Bool, true, false, _||_}
 use mathlib.Core.List.{List, [], _∷_, map}
@@ -8,7 +8,8 @@ use lib.ListN.{length, drop}
 use lib.Seq.{slice}
 use Rattle.nibl.specs.Bytes.{if_then_else_, classSpace, classCapital, isSpace, isDigit, isCapital, isHexDigit, isQuotable, front, past, decimalValue, byte}
 use Rattle.nibl.specs.Words.{variable, decimal, hex, string, sign, keywords, commands, isSymbol, firstKeyword, number}
-use Rattle.nibl.specs.Read.{Step, atEnd, wrong, got, lettersStep, digitsStep, hexStep, quotedStep, symbolStep}
+use Rattle.nibl.specs.Read.{Step, atEnd, wrong, got, lettersStep, digitsStep, hexStep, quotedStep, symbolStep, stepIn}
+use Rattle.nibl.specs.GaveUp.{mostCommon, pastLargest, gaveUp}
 use Rattle.word.specs.declared.Word.{Word}
 use Rattle.word.specs.declared.Word.the-variants.{Variable, Decimal, Hex, Text, Sign, End, Wrong}
 
@@ -20,7 +21,7 @@ foundStep text (Hex n c) = got (hex n) (drop (c .at) text)
 foundStep text (Text from to c) = got (string (slice from to text)) (drop (c .at) text)
 foundStep text (Sign k c) = got (sign k) (drop (c .at) text)
 foundStep text End = atEnd
-foundStep text Wrong = wrong
+foundStep text (Wrong c) = wrong
 
 -- the largest decimal constant
 abbrev pub largest : ℕ
@@ -34,12 +35,27 @@ Behind at n (Hex v c) = (at < c .at) × (c .at ≤ n)
 Behind at n (Text from to c) = (at < c .at) × (c .at ≤ n) × (from ≤ to) × (to + 1 ≡ c .at)
 Behind at n (Sign k c) = (at < c .at) × (c .at ≤ n)
 Behind at n End = Unit {0}
-Behind at n Wrong = Unit {0}
+Behind at n (Wrong c) = Unit {0}
 
--- the word r, read at a position of a text, is what the definition's `step` finds there
-pub record WordIs (step : List ℕ → Step) (text : List ℕ) (at : ℕ) (r : Word) : Type 0 where
+-- where the reader gave up, so many bytes of the text are left as `left` says
+abbrev pub Stopped : (List ℕ → ℕ) → List ℕ → ℕ → Word → Type 0
+Stopped left text at (Variable v c) = Unit {0}
+Stopped left text at (Decimal v c) = Unit {0}
+Stopped left text at (Hex v c) = Unit {0}
+Stopped left text at (Text from to c) = Unit {0}
+Stopped left text at (Sign k c) = Unit {0}
+Stopped left text at End = Unit {0}
+Stopped left text at (Wrong c) = c .at + left (drop at text) ≡ length text
+
+-- the word r, read at a position of a text, is what the definition's `step` finds there, or no word could go on where `left` says
+pub record AnswerIs (step : List ℕ → Step) (left : List ℕ → ℕ) (text : List ℕ) (at : ℕ) (r : Word) : Type 0 where
   pub same : foundStep text r ≡ step (drop at text)
   pub inside : Behind at (length text) r
+  pub stopped : Stopped left text at r
+
+-- and it is so by the words of a table
+abbrev pub WordIs : List (List ℕ) → List ℕ → ℕ → Word → Type 0
+WordIs table = AnswerIs (stepIn table) (gaveUp table)
 
 -- what the runs consist of, by a class: spaces, capitals, or else what quotes may enclose
 abbrev pub passing : ℕ → ℕ → Bool
@@ -59,6 +75,16 @@ abbrev pub keyIndex : ℕ → List ℕ → ℕ → ℕ
 keyIndex n [] k = 0
 keyIndex n (x ∷ xs) k = if eqb x k then n else keyIndex (suc n) xs k
 
+-- how many letters a spelling, as one number, has in common with a text
+abbrev pub keyCommon : ℕ → List ℕ → ℕ
+keyCommon k [] = 0
+keyCommon k (b ∷ s) = if eqb k 0 then 0 else if eqb (k % 256) b then suc (keyCommon (k / 256) s) else 0
+
+-- the most that one of a list of them has, but one at least
+abbrev pub mostKey : List ℕ → List ℕ → ℕ
+mostKey [] s = 1
+mostKey (k ∷ ks) s = if leb (keyCommon k s) (mostKey ks s) then mostKey ks s else keyCommon k s
+
 -- the words that stand at the front of an immediate line, or those of any text
 abbrev pub tableOf : Bool → List (List ℕ)
 tableOf true = commands
@@ -70,12 +96,18 @@ keysOf b = map keyOf (tableOf b)
 abbrev pub hexDigit : ℕ → ℕ
 hexDigit d = if isDigit d then d - byte "0" else d - byte "A" + 10
 
--- The kinds of word, each as a step
+-- The kinds of word, each as a step, and how many bytes are left where it gives up
 abbrev pub lettersAt : List (List ℕ) → List ℕ → Step
 lettersAt table s = lettersStep table (length (front isCapital s)) s
 
+abbrev pub lettersLeft : List (List ℕ) → List ℕ → ℕ
+lettersLeft table s = length s - mostCommon table s
+
 abbrev pub decimalAt : List ℕ → Step
 decimalAt s = digitsStep (decimalValue 0 (front isDigit s)) (past isDigit s)
+
+abbrev pub decimalLeft : List ℕ → ℕ
+decimalLeft s = length (pastLargest 0 s)
 
 -- past the "#", and past the opening quote
 abbrev pub hexAt : List ℕ → Step
@@ -83,6 +115,9 @@ hexAt s = hexStep (front isHexDigit s) (past isHexDigit s)
 
 abbrev pub quotedAt : List ℕ → Step
 quotedAt s = quotedStep (front isQuotable s) (past isQuotable s)
+
+abbrev pub quotedLeft : List ℕ → ℕ
+quotedLeft s = length (past isQuotable s)
 
 abbrev pub symbolAt : List ℕ → Step
 symbolAt [] = wrong

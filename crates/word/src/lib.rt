@@ -7,9 +7,9 @@ ghost use lib.ListN.{length, take, drop, getD};
 ghost use lib.Seq.{slice};
 ghost use Rattle.nibl.specs.Bytes.{isDigit, isCapital, isHexDigit, isSpace, isQuotable, starts, front, past};
 ghost use Rattle.nibl.specs.Words.{keywords, commands, isSymbol, pairs, numberOr, firstKeyword};
-ghost use Rattle.nibl.specs.Read.{stepIn};
-ghost use Rattle.word.specs.Found.{passing, keyOf, longestKeyword, keyIndex, tableOf, keysOf, hexDigit, firstOf};
-ghost use Rattle.word.specs.Found.{WordIs, lettersAt, decimalAt, hexAt, quotedAt, symbolAt};
+ghost use Rattle.nibl.specs.GaveUp.{mostCommon};
+ghost use Rattle.word.specs.Found.{passing, keyOf, longestKeyword, keyIndex, keyCommon, mostKey, tableOf, keysOf, hexDigit, firstOf};
+ghost use Rattle.word.specs.Found.{AnswerIs, WordIs, lettersAt, lettersLeft, decimalAt, decimalLeft, hexAt, quotedAt, quotedLeft, symbolAt};
 
 pub mod sign;
 
@@ -30,8 +30,8 @@ pub enum Word {
     Sign(u8, Cursor),
     // nothing but spaces
     End,
-    // no word stands here
-    Wrong,
+    // no word stands here; the cursor is at the byte at which none could go on
+    Wrong(Cursor),
 }
 
 // The largest decimal constant.
@@ -195,11 +195,59 @@ fn letter_at(text: &[u8], at: usize) -> bool
     false
 }
 
+// Where a spelling, as one number, and a text from `from` on part.
+fn common_end(spelling: u64, text: &[u8], from: usize) -> usize
+    ensures { λ r. ⌜ r ≡ from + keyCommon spelling (drop from (now (text .entry))) ⌝ }
+{
+    let mut k = spelling;
+    let mut i = from;
+    while i < text.len() {
+        if k == 0 {
+            break;
+        }
+        if k % 256 != wide(text[i]) {
+            break;
+        }
+        k = k / 256;
+        i += 1;
+    }
+    i
+}
+
+// Where the last of a list of keys and the text part, but one letter on at least: a letter may always be a variable.
+fn last_parting(keys: &[u64], text: &[u8], from: usize) -> usize
+    requires { ⌜ from < length (now text) ⌝ }
+    ensures { λ r. ⌜ r ≡ from + mostKey (now (keys .entry)) (drop from (now (text .entry))) ⌝ }
+{
+    let mut last = from + 1;
+    let mut i = keys.len();
+    while 0 < i {
+        i -= 1;
+        let end = common_end(keys[i], text, from);
+        if last < end {
+            last = end;
+        }
+    }
+    last
+}
+
+// The letter at which the last keyword parts from the letters at `from`. It is asked for only where no word stands.
+fn parting(text: &[u8], from: usize, commands: bool) -> usize
+    requires { ⌜ from < length (now text) ⌝ }
+    ensures { λ r. ⌜ r ≡ from + mostCommon (tableOf commands) (drop from (now (text .entry))) ⌝ }
+{
+    if commands {
+        last_parting(&COMMANDS, text, from)
+    } else {
+        last_parting(&KEYWORDS, text, from)
+    }
+}
+
 // The word at a capital: the longest keyword that begins there; if none does, a letter that no letter follows. No keyword is a
 // letter alone, so most letters need no look into the lists.
 fn letters(text: &[u8], from: usize, commands: bool) -> Word
     requires { ⌜ (from < length (now text)) × (isCapital (getD (now text) from 0) ≡ true) ⌝ }
-    ensures { λ r. ⌜ WordIs (lettersAt (tableOf commands)) (now (text .entry)) from r ⌝ }
+    ensures { λ r. ⌜ AnswerIs (lettersAt (tableOf commands)) (lettersLeft (tableOf commands)) (now (text .entry)) from r ⌝ }
 {
     let next = from + 1;
     if !letter_at(text, next) {
@@ -213,7 +261,9 @@ fn letters(text: &[u8], from: usize, commands: bool) -> Word
         }
         to -= 1;
     }
-    Word::Wrong
+    Word::Wrong(Cursor {
+        at: parting(text, from, commands),
+    })
 }
 
 fn digit(b: u8) -> u32
@@ -226,7 +276,7 @@ fn digit(b: u8) -> u32
 // The constant whose first digit stands at `from`. Once it is too large, more digits keep it so.
 fn decimal(text: &[u8], from: usize) -> Word
     requires { ⌜ (from < length (now text)) × (isDigit (getD (now text) from 0) ≡ true) ⌝ }
-    ensures { λ r. ⌜ WordIs decimalAt (now (text .entry)) from r ⌝ }
+    ensures { λ r. ⌜ AnswerIs decimalAt decimalLeft (now (text .entry)) from r ⌝ }
 {
     let mut v: u32 = 0;
     let mut i = from;
@@ -237,7 +287,7 @@ fn decimal(text: &[u8], from: usize) -> Word
         }
         v = v * 10 + digit(b);
         if LARGEST < v {
-            return Word::Wrong;
+            return Word::Wrong(Cursor { at: i });
         }
         i += 1;
     }
@@ -265,7 +315,7 @@ fn shifted(v: u16, b: u8) -> u16
 // The constant whose digits start at `from`, past the "#": its low 16 bits.
 fn hex(text: &[u8], from: usize) -> Word
     requires { ⌜ from ≤ length (now text) ⌝ }
-    ensures { λ r. ⌜ WordIs hexAt (now (text .entry)) from r ⌝ }
+    ensures { λ r. ⌜ AnswerIs hexAt length (now (text .entry)) from r ⌝ }
 {
     let mut v: u16 = 0;
     let mut i = from;
@@ -278,21 +328,21 @@ fn hex(text: &[u8], from: usize) -> Word
         i += 1;
     }
     if i == from {
-        return Word::Wrong;
+        return Word::Wrong(Cursor { at: from });
     }
     Word::Hex(v, Cursor { at: i })
 }
 
 // The string whose first byte stands at `from`, past the opening quote.
 fn quoted(text: &[u8], from: usize) -> Word
-    ensures { λ r. ⌜ WordIs quotedAt (now (text .entry)) from r ⌝ }
+    ensures { λ r. ⌜ AnswerIs quotedAt quotedLeft (now (text .entry)) from r ⌝ }
 {
     let to = run_end(text, from, class::QUOTE);
     if text.len() <= to {
-        return Word::Wrong;
+        return Word::Wrong(Cursor { at: text.len() });
     }
     if !letter::is_quote(text[to]) {
-        return Word::Wrong;
+        return Word::Wrong(Cursor { at: to });
     }
     Word::Text(from, to, Cursor { at: to + 1 })
 }
@@ -321,12 +371,12 @@ fn pair(a: u8, b: u8) -> u8
 // A pair or a symbol.
 fn symbol(text: &[u8], from: usize) -> Word
     requires { ⌜ from < length (now text) ⌝ }
-    ensures { λ r. ⌜ WordIs symbolAt (now (text .entry)) from r ⌝ }
+    ensures { λ r. ⌜ AnswerIs symbolAt length (now (text .entry)) from r ⌝ }
 {
     let a = text[from];
     let n = from + 1;
     if !is_symbol(a) {
-        return Word::Wrong;
+        return Word::Wrong(Cursor { at: from });
     }
     if n < text.len() {
         let k = pair(a, text[n]);
@@ -340,7 +390,7 @@ fn symbol(text: &[u8], from: usize) -> Word
 
 // The word at a cursor, past any spaces, by the keywords or by the commands.
 fn word_in(text: &[u8], from: usize, commands: bool) -> Word
-    ensures { λ r. ⌜ WordIs (stepIn (tableOf commands)) (now (text .entry)) from r ⌝ }
+    ensures { λ r. ⌜ WordIs (tableOf commands) (now (text .entry)) from r ⌝ }
 {
     let i = run_end(text, from, class::SPACE);
     if text.len() <= i {
@@ -362,7 +412,7 @@ fn word_in(text: &[u8], from: usize, commands: bool) -> Word
 
 // The word that stands at a cursor of any text.
 pub fn word_at(text: &[u8], c: Cursor) -> Word
-    ensures { λ r. ⌜ WordIs (stepIn keywords) (now (text .entry)) (c .at) r ⌝ }
+    ensures { λ r. ⌜ WordIs keywords (now (text .entry)) (c .at) r ⌝ }
 {
     let from = c.at;
     word_in(text, from, false)
@@ -370,7 +420,7 @@ pub fn word_at(text: &[u8], c: Cursor) -> Word
 
 // The word that stands at a cursor, where commands are the keywords: at the front of an immediate line.
 pub fn command_at(text: &[u8], c: Cursor) -> Word
-    ensures { λ r. ⌜ WordIs (stepIn commands) (now (text .entry)) (c .at) r ⌝ }
+    ensures { λ r. ⌜ WordIs commands (now (text .entry)) (c .at) r ⌝ }
 {
     let from = c.at;
     word_in(text, from, true)

@@ -1,12 +1,13 @@
+use Prim.Native.Nat.{ℕ}
 use mathlib.Core.Path.{sym, ap, _∙_}
 use lib.ListN.{length, drop}
-use mathlib.Core.List.{[], _∷_}
+use mathlib.Core.List.{List, [], _∷_}
 use types.Run.{miss}
 use Rattle.nibl.proofs.Lines.{typed-blank}
 use Rattle.word.proofs.Standing.{decimal-read}
 use Rattle.line.specs.Answers.{kindOf, lineOps}
 use Rattle.line.proofs.Lists.{shut, opened}
-use Rattle.line.proofs.Lines.{blank-end, unblank, no-end, undone, decimal-found, no-decimal, numbered-silent, typed-number, typed-none}
+use Rattle.line.proofs.Lines.{blank-end, unblank, no-end, undone, decimal-found, no-decimal, numbered-silent, typed-number, typed-none, unnumbered-word}
 use borrow.Author.Tests.{not-true, not-false}
 use borrow.Author.Needs.{needs}
 use Rattle.line.proofs.read_line.Statement.{statement}
@@ -19,7 +20,10 @@ numbered-line-requires : tie.Need-numbered-line-requires
 numbered-line-requires c κs = (sym (c .before .before .before .before .before .before .has-room .ensures) ∙ not-false _ (c .before .before .before .before .before .if1 .left), decimal-read (c .before .before .before .before .word-at .ensures) (c .before .before .w .given .1) .0 .within)
 
 unnumbered-line-requires : tie.Need-unnumbered-line-requires
-unnumbered-line-requires c κs = sym (c .before .before .before .before .has-room .ensures) ∙ not-false _ (c .before .before .before .if1 .left)
+unnumbered-line-requires c κs = sym (c .before .before .before .before .before .has-room .ensures) ∙ not-false _ (c .before .before .before .before .if1 .left)
+
+immediate-requires : tie.Need-immediate-requires
+immediate-requires c κs = sym (c .before .before .before .before .has-room .ensures) ∙ not-false _ (c .before .before .before .if1 .left)
 
 returns-2 : tie.Need-returns-2
 returns-2 c =
@@ -38,11 +42,45 @@ returns-3 c =
 
 returns-4 : tie.Need-returns-4
 returns-4 c =
-    let text = c .before .before .before .before .before .before .before .before .before .before .before .args .text .now in
+    let s = c .before .before .before .before .before .before .before .before .before .before .before .before in
+    let text = s .args .text .now in
+    let e = sym (c .before .before .before .before .before .before .before .before .has-room .ensures) ∙ not-false _ (c .before .before .before .before .before .before .before .if1 .left) in
+    let w = c .before .before .before .before .before .before .word-at in
+    let k = c .before .before .before .before .before .match .keys3 in
+    let d = typed-none text (unblank (w .result) (no-end (6 ∷ []) (miss (6 ∷ []) 5 tt) k) (w .ensures)) (no-decimal (6 ∷ []) (w .result) (miss (6 ∷ []) 1 tt) k (w .ensures)) in
+    (opened _ e (c .before .before .unnumbered-line .ensures .0 ∙ sym (ap (kindOf (length text)) d)), opened _ e (c .before .before .unnumbered-line .ensures .1 ∙ sym (ap (lineOps (s .args .ops .now)) d)))
+
+returns-5 : tie.Need-returns-5
+returns-5 c =
+    let s = c .before .before .before .before .before .before .before .before .before .before .before in
+    let text = s .args .text .now in
     let e = sym (c .before .before .before .before .before .before .before .has-room .ensures) ∙ not-false _ (c .before .before .before .before .before .before .if1 .left) in
-    let d = typed-none text (unblank (c .before .before .before .before .before .word-at .result) (no-end (0 ∷ 2 ∷ 3 ∷ 4 ∷ 6 ∷ []) (miss (0 ∷ 2 ∷ 3 ∷ 4 ∷ 6 ∷ []) 5 tt) (c .before .before .before .before .match .keys3)) (c .before .before .before .before .before .word-at .ensures)) (no-decimal (0 ∷ 2 ∷ 3 ∷ 4 ∷ 6 ∷ []) (c .before .before .before .before .before .word-at .result) (miss (0 ∷ 2 ∷ 3 ∷ 4 ∷ 6 ∷ []) 1 tt) (c .before .before .before .before .match .keys3) (c .before .before .before .before .before .word-at .ensures)) in
-    (opened _ e (c .before .before .unnumbered-line .ensures .0 ∙ sym (ap (kindOf (length text)) d)), opened _ e (c .before .before .unnumbered-line .ensures .1 ∙ sym (ap (lineOps (c .before .before .before .before .before .before .before .before .before .before .before .args .ops .now)) d)))
+    let w = c .before .before .before .before .before .word-at in
+    let k = c .before .before .before .before .match .keys4 in
+    let ks : List ℕ = 0 ∷ 2 ∷ 3 ∷ 4 ∷ [] in
+    let d = typed-none text (unblank (w .result) (no-end ks (miss ks 5 tt) k) (w .ensures)) (no-decimal ks (w .result) (miss ks 1 tt) k (w .ensures)) ∙ unnumbered-word text (w .result) k (w .ensures) in
+    (opened _ e (c .before .before .immediate .ensures .0 ∙ sym (ap (kindOf (length text)) d)), opened _ e (c .before .before .immediate .ensures .1 ∙ sym (ap (lineOps (s .args .ops .now)) d)))
 
 pub read-line-spec : {M : Type 1} → statement M
 read-line-spec =
-    tie.close (tie.spec (λ c κs. search needs) (λ c. search needs) returns (λ c κs. search needs) (λ c. search needs) (λ c κs. search needs) (λ c. search needs) numbered-line-requires unnumbered-line-requires (λ c. search needs) returns-2 (λ c. search needs) returns-3 (λ c. search needs) returns-4)
+    tie.close
+    (tie.spec
+    (λ c κs. search needs)
+    (λ c. search needs)
+    returns
+    (λ c κs. search needs)
+    (λ c. search needs)
+    (λ c κs. search needs)
+    (λ c. search needs)
+    numbered-line-requires
+    (λ c. search needs)
+    unnumbered-line-requires
+    immediate-requires
+    (λ c. search needs)
+    returns-2
+    (λ c. search needs)
+    returns-3
+    (λ c. search needs)
+    returns-4
+    (λ c. search needs)
+    returns-5)

@@ -1,7 +1,6 @@
 -- `reader::kind_at` meets its contract. Assumes nothing.
 use mathlib.Core.Path.{subst}
 use Rattle.nibl.specs.Words.{keywords}
-use Rattle.nibl.specs.Read.{stepIn}
 use Rattle.word.specs.Found.{WordIs}
 use Rattle.reader.proofs.Heads.{kind-none, kind-variable, kind-text, kind-sign, kind-other}
 use borrow.Author.Needs.{needs}
@@ -32,15 +31,15 @@ enum-known-w-3 c = search needs
 
 returns-2 : tie.Need-returns-2
 returns-2 c =
-    kind-variable (c .before .before .before .before .before .r .given .1) (subst (WordIs (stepIn keywords) _ _) (c .before .w .given .1) (c .before .before .before .word-at .ensures))
+    kind-variable (c .before .before .before .before .before .r .given .1) (subst (WordIs keywords _ _) (c .before .w .given .1) (c .before .before .before .word-at .ensures))
 
 returns-3 : tie.Need-returns-3
 returns-3 c =
-    kind-text (c .before .before .before .before .before .r .given .1) (subst (WordIs (stepIn keywords) _ _) (c .before .w2 .given .1) (c .before .before .before .word-at .ensures))
+    kind-text (c .before .before .before .before .before .r .given .1) (subst (WordIs keywords _ _) (c .before .w2 .given .1) (c .before .before .before .word-at .ensures))
 
 returns-4 : tie.Need-returns-4
 returns-4 c =
-    kind-sign (c .before .before .before .before .before .r .given .1) (subst (WordIs (stepIn keywords) _ _) (c .before .w3 .given .1) (c .before .before .before .word-at .ensures))
+    kind-sign (c .before .before .before .before .before .r .given .1) (subst (WordIs keywords _ _) (c .before .w3 .given .1) (c .before .before .before .word-at .ensures))
 
 returns-5 : tie.Need-returns-5
 returns-5 c =

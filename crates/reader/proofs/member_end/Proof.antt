@@ -2,7 +2,6 @@
 use mathlib.Core.Path.{subst, refl}
 use native.Mathlib.Omega.{arith}
 use Rattle.nibl.specs.Words.{keywords}
-use Rattle.nibl.specs.Read.{stepIn}
 use Rattle.word.specs.Found.{WordIs}
 use Rattle.reader.proofs.Ends.{end-none, end-last, end-colon, end-other, end-wrong}
 use borrow.Author.Needs.{needs}
@@ -30,26 +29,26 @@ enum-known-w c = search needs
 
 sub-t12 : tie.Need-sub-t12
 sub-t12 c =
-    let h = (subst (WordIs (stepIn keywords) _ _) (c .before .before .w .given .1) (c .before .before .before .before .word-at .ensures)) in
+    let h = (subst (WordIs keywords _ _) (c .before .before .w .given .1) (c .before .before .before .before .word-at .ensures)) in
     omega (arith, h .inside .1)
 
 add-t13 : tie.Need-add-t13
 add-t13 c =
-    let h = (subst (WordIs (stepIn keywords) _ _) (c .before .before .w .given .1) (c .before .before .before .before .word-at .ensures)) in
+    let h = (subst (WordIs keywords _ _) (c .before .before .w .given .1) (c .before .before .before .before .word-at .ensures)) in
     let g = c .before .before .before .before .before .before .before .before .before .good in
     omega (arith, h .inside .1, h .inside .0)
 
 returns-2 : tie.Need-returns-2
 returns-2 c =
-    end-colon (c .before .before .before .before .before .before .r .given .1) (c .if1 .taken) refl (subst (WordIs (stepIn keywords) _ _) (c .before .before .w .given .1) (c .before .before .before .before .word-at .ensures))
+    end-colon (c .before .before .before .before .before .before .r .given .1) (c .if1 .taken) refl (subst (WordIs keywords _ _) (c .before .before .w .given .1) (c .before .before .before .before .word-at .ensures))
 
 returns-3 : tie.Need-returns-3
 returns-3 c =
-    end-last (c .before .before .before .before .r .given .1) (subst (WordIs (stepIn keywords) _ _) (c .enum-told2 .given .1) (c .before .before .word-at .ensures))
+    end-last (c .before .before .before .before .r .given .1) (subst (WordIs keywords _ _) (c .enum-told2 .given .1) (c .before .before .word-at .ensures))
 
 returns-4 : tie.Need-returns-4
 returns-4 c =
-    end-other (c .before .before .before .before .before .before .r .given .1) (c .if1 .left) (subst (WordIs (stepIn keywords) _ _) (c .before .before .w .given .1) (c .before .before .before .before .word-at .ensures))
+    end-other (c .before .before .before .before .before .before .r .given .1) (c .if1 .left) (subst (WordIs keywords _ _) (c .before .before .w .given .1) (c .before .before .before .before .word-at .ensures))
 
 returns-5 : tie.Need-returns-5
 returns-5 c =

@@ -1,5 +1,4 @@
 use mathlib.Core.Path.{subst}
-use Rattle.nibl.specs.Read.{stepIn}
 use Rattle.nibl.specs.Words.{keywords}
 use Rattle.word.specs.Found.{WordIs}
 use Rattle.relation.specs.Makes.{missing}
@@ -13,19 +12,19 @@ returns c = missing (halted (c .enum-told .given .1))
 
 returns-2 : tie.Need-returns-2
 returns-2 c =
-    atom-variable (c .before .before .before .before .before .before .before .r .given .1) (subst (WordIs (stepIn keywords) _ _) (c .before .before .before .w .given .1) (c .before .before .before .before .before .word-at .ensures)) (c .before .wide .ensures) (c .operation .ensures)
+    atom-variable (c .before .before .before .before .before .before .before .r .given .1) (subst (WordIs keywords _ _) (c .before .before .before .w .given .1) (c .before .before .before .before .before .word-at .ensures)) (c .before .wide .ensures) (c .operation .ensures)
 
 returns-3 : tie.Need-returns-3
 returns-3 c =
-    atom-decimal (c .before .before .before .before .before .before .before .r .given .1) (subst (WordIs (stepIn keywords) _ _) (c .before .before .before .w2 .given .1) (c .before .before .before .before .before .word-at .ensures)) (c .before .wide16 .ensures) (c .operation2 .ensures)
+    atom-decimal (c .before .before .before .before .before .before .before .r .given .1) (subst (WordIs keywords _ _) (c .before .before .before .w2 .given .1) (c .before .before .before .before .before .word-at .ensures)) (c .before .wide16 .ensures) (c .operation2 .ensures)
 
 returns-4 : tie.Need-returns-4
 returns-4 c =
-    atom-hex (c .before .before .before .before .before .before .before .r .given .1) (subst (WordIs (stepIn keywords) _ _) (c .before .before .before .w3 .given .1) (c .before .before .before .before .before .word-at .ensures)) (c .before .wide162 .ensures) (c .operation3 .ensures)
+    atom-hex (c .before .before .before .before .before .before .before .r .given .1) (subst (WordIs keywords _ _) (c .before .before .before .w3 .given .1) (c .before .before .before .before .before .word-at .ensures)) (c .before .wide162 .ensures) (c .operation3 .ensures)
 
 returns-5 : tie.Need-returns-5
 returns-5 c =
-    atom-sign (c .before .before .before .before .before .before .r .given .1) (subst (WordIs (stepIn keywords) _ _) (c .before .before .w4 .given .1) (c .before .before .before .before .word-at .ensures)) (c .form .ensures)
+    atom-sign (c .before .before .before .before .before .before .r .given .1) (subst (WordIs keywords _ _) (c .before .before .w4 .given .1) (c .before .before .before .before .word-at .ensures)) (c .form .ensures)
 
 returns-6 : tie.Need-returns-6
 returns-6 c =

@@ -1,5 +1,4 @@
 use mathlib.Core.Path.{subst}
-use Rattle.nibl.specs.Read.{stepIn}
 use Rattle.nibl.specs.Words.{keywords}
 use Rattle.word.specs.Found.{WordIs}
 use Rattle.relation.proofs.Signs.{halted, sign-none, sign-found}
@@ -16,7 +15,7 @@ returns-2 c =
 
 returns-3 : tie.Need-returns-3
 returns-3 c =
-    sign-found (c .before .before .before .before .before .r .given .1) (subst (WordIs (stepIn keywords) _ _) (c .before .w .given .1) (c .before .before .before .word-at .ensures))
+    sign-found (c .before .before .before .before .before .r .given .1) (subst (WordIs keywords _ _) (c .before .w .given .1) (c .before .before .before .word-at .ensures))
 
 pub sign-at-spec : {M : Type 1} → statement M
 sign-at-spec =

@@ -20,7 +20,7 @@ abbrev μ-loop : tie.MeasureT-loop
 μ-loop text from v₀ i₀ v i = length text - i
 
 loop-holds : tie.Need-loop-holds Inv-loop μ-loop
-loop-holds c = (search needs, search needs, record { value = refl; end = refl })
+loop-holds c = (search needs, search needs, record { value = refl; end = refl; left = refl })
 
 shared-slice-read-b : tie.Need-shared-slice-read-b Inv-loop μ-loop
 shared-slice-read-b c = search needs
@@ -40,7 +40,7 @@ add-v c = omega arith
 returns : tie.Need-returns Inv-loop μ-loop
 returns c =
     let l = c .before .before .before .before .before .before .loop in
-    counted-large (counted-go (l .inv .2) (c .before .digit .result) (omega arith) (sym (c .before .before .before .is-digit .ensures) ∙ not-false _ (c .before .before .if1 .left)) (c .before .digit .ensures .0)) (c .if2 .taken)
+    counted-large (l .inv .2) (c .before .digit .result) (omega arith) (sym (c .before .before .before .is-digit .ensures) ∙ not-false _ (c .before .before .if1 .left)) (c .before .digit .ensures .0) (c .if2 .taken)
 
 add-i : tie.Need-add-i Inv-loop μ-loop
 add-i c = omega arith
@@ -51,10 +51,10 @@ loop-less c = omega arith
 loop-again : tie.Need-loop-again Inv-loop μ-loop
 loop-again c =
     let l = c .before .before .before .before .before .before .loop in
-    (omega arith, omega arith, counted-go (l .inv .2) (c .before .digit .result) (omega arith) (sym (c .before .before .before .is-digit .ensures) ∙ not-false _ (c .before .before .if1 .left)) (c .before .digit .ensures .0))
+    (omega arith, omega arith, counted-go (l .inv .2) (c .before .digit .result) (omega arith) (sym (c .before .before .before .is-digit .ensures) ∙ not-false _ (c .before .before .if1 .left)) (c .before .digit .ensures .0) (omega arith))
 
-cast-t13 : tie.Need-cast-t13 Inv-loop μ-loop
-cast-t13 c = omega arith
+cast-t14 : tie.Need-cast-t14 Inv-loop μ-loop
+cast-t14 c = omega arith
 
 returns-2 : tie.Need-returns-2 Inv-loop μ-loop
 returns-2 c =
@@ -66,4 +66,4 @@ returns-2 c =
     counted-stop (l .inv .2) (c .before .before .before .pre .0) (c .before .before .before .pre .1) (l .inv .0) (l .inv .1) stops
 
 pub decimal-spec : {M : Type 1} → statement M
-decimal-spec = tie.close (tie.spec Inv-loop μ-loop loop-holds shared-slice-read-b is-digit-requires mul-v digit-requires add-v returns add-i loop-less loop-again cast-t13 returns-2)
+decimal-spec = tie.close (tie.spec Inv-loop μ-loop loop-holds shared-slice-read-b is-digit-requires mul-v digit-requires add-v returns add-i loop-less loop-again cast-t14 returns-2)

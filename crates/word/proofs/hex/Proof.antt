@@ -59,7 +59,7 @@ stopped c =
 returns : tie.Need-returns Inv-loop μ-loop
 returns c =
     let a = c .before .before .before .before .args in
-    hexed-none (a .text .now) (a .from) (rw (sym (c .if2 .taken)) (stopped (c .before)))
+    hexed-none (a .text .now) (a .from) (c .before .before .before .before .pre) (rw (sym (c .if2 .taken)) (stopped (c .before)))
 
 returns-2 : tie.Need-returns-2 Inv-loop μ-loop
 returns-2 c =

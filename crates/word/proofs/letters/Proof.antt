@@ -74,12 +74,15 @@ loop-again c =
     let a = s .args in
     tried-on (a .commands) (a .text .now) (a .from) (s .pre .0) (s .pre .1) (c .before .before .before .before .loop .inv) (omega arith) (c .before .before .key .ensures) (c .before .number-of .ensures) (c .if2 .left)
 
+parting-requires : tie.Need-parting-requires Inv-loop μ-loop
+parting-requires c κs = search needs
+
 returns-3 : tie.Need-returns-3 Inv-loop μ-loop
 returns-3 c =
-    let s = c .before .before .before .before .before .before in
+    let s = c .before .before .before .before .before .before .before in
     let a = s .args in
-    letters-wrong (a .commands) (a .text .now) (a .from) (s .pre .0) (s .pre .1) (sym (c .before .before .before .before .letter-at .ensures) ∙ not-false _ (c .before .before .before .if1 .left)) (c .before .loop .inv) (c .loop-test .left)
+    letters-wrong (a .commands) (a .text .now) (a .from) (s .pre .0) (s .pre .1) (sym (c .before .before .before .before .before .letter-at .ensures) ∙ not-false _ (c .before .before .before .before .if1 .left)) (c .before .before .loop .inv) (c .before .loop-test .left) (c .parting .ensures)
 
 pub letters-spec : {M : Type 1} → statement M
 letters-spec =
-    tie.close (tie.spec Inv-loop μ-loop add-next letter-at-requires shared-slice-read-t10 sub-t11 returns letters-end-requires loop-holds sub-loop key-requires number-of-requires returns-2 sub-to loop-less loop-again returns-3)
+    tie.close (tie.spec Inv-loop μ-loop add-next letter-at-requires shared-slice-read-t10 sub-t11 returns letters-end-requires loop-holds sub-loop key-requires number-of-requires returns-2 sub-to loop-less loop-again parting-requires returns-3)

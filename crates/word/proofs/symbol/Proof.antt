@@ -26,8 +26,8 @@ shared-slice-read-pair c = search needs
 pair-requires : tie.Need-pair-requires
 pair-requires c κs = search needs
 
-add-t14 : tie.Need-add-t14
-add-t14 c = search needs
+add-t15 : tie.Need-add-t15
+add-t15 c = search needs
 
 returns-2 : tie.Need-returns-2
 returns-2 c =
@@ -45,4 +45,4 @@ returns-4 c =
     symbol-last (a .text .now) (a .from) (c .before .before .before .before .before .pre) (sym (c .before .before .is-symbol .ensures) ∙ not-false _ (c .before .if1 .left)) (c .if2 .left)
 
 pub symbol-spec : {M : Type 1} → statement M
-symbol-spec = tie.close (tie.spec shared-slice-read-a add-n is-symbol-requires returns shared-slice-read-pair pair-requires add-t14 returns-2 returns-3 returns-4)
+symbol-spec = tie.close (tie.spec shared-slice-read-a add-n is-symbol-requires returns shared-slice-read-pair pair-requires add-t15 returns-2 returns-3 returns-4)
