@@ -1,3 +1,4 @@
 pub mod Packed
 pub mod Table
 pub mod Turns
+pub mod Steps

@@ -46,4 +46,5 @@ pub record SeekIs (stack : List ℕ) (top k : ℕ) (r : Turn) : Type 0 where
 pub record Pushed (stack : List ℕ) (top after : ℕ) (stack' : List ℕ) (r : ℕ) : Type 0 where
   pub same : drop r stack' ≡ unpacked most after (drop top stack)
   pub low : top ≤ r + most
+  pub high : r ≤ top
   pub size : length stack' ≡ length stack

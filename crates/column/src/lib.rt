@@ -1,2 +1,3 @@
-// The column of a refused line.
+// The column of a line that was refused: the length of its longest front part with which a line that has a reading begins.
 mod rules;
+mod run;

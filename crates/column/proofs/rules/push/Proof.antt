@@ -40,7 +40,7 @@ same-length c = c .before .loop .inv .size
 returns : tie.Need-returns Inv-loop μ-loop
 returns c =
     let p = c .before .loop .inv in
-    record { same = pushing-last p (omega arith); low = p .high; size = p .size }
+    record { same = pushing-last p (omega arith); low = p .high; high = p .low; size = p .size }
 
 pub push-spec : {M : Type 1} → statement M
 push-spec = tie.close (tie.spec Inv-loop μ-loop loop-holds sub-t narrow-requires slice-write-stack loop-less loop-again same-length returns)
