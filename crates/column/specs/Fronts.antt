@@ -33,5 +33,10 @@ abbrev pub bytesLeft : Verdict → ℕ
 bytesLeft alive = 0
 bytesLeft (stuck n) = n
 
+-- the position at which a text could not go on, or its end
+pub record ReachIs (text : List ℕ) (v : Verdict) (r : ℕ) : Type 0 where
+  pub same : r + bytesLeft v ≡ length text
+  pub inside : r ≤ length text
+
 unfoldable pub lastTried : List ℕ → ℕ
 lastTried s = min (length s) (length s + 4 - min (bytesLeft (lineRun keywords typedLine s)) (bytesLeft (lineRun commands typedCommand s)))
