@@ -6,12 +6,13 @@ use mathlib.Core.List.{List, [], _∷_, _++_}
 use native.Mathlib.Nat.{add-zero}
 use native.Mathlib.Omega.{arith}
 use native.Mathlib.Numerals.{add-one}
-use borrow.Author.Tests.{leb-true, le-leb, lt-leb, eq-eqb, ne-eqb}
+use borrow.Author.Tests.{leb-true, leb-false, le-leb, lt-leb, eq-eqb, ne-eqb}
 use lib.Dec.{eqb, leb}
 use lib.ListN.{length, take, drop, getD, set, length-drop, drop-of-length-le}
 use lib.Seq.{paste, paste-zero, paste-suc, length-paste, take-paste, length-take-le, take-all, take-take, take-append-le, drop-drop, getD-take, getD-drop}
 use Rattle.nibl.specs.Bytes.{if_then_else_, same, all}
-use Rattle.nibl.specs.Column.{Verdict, alive, stuck, isAlive, lineRun, allTaken, endsWith, begunBy, begunIn, isFront, columnDown, columnOf}
+use Rattle.nibl.specs.Words.{keywords, commands}
+use Rattle.nibl.specs.Column.{typedLine, typedCommand, Verdict, alive, stuck, isAlive, lineRun, allTaken, spellings, endsWith, begunBy, begunIn, isFront, columnDown, columnOf}
 use Rattle.nibl.proofs.Words.{and-left, and-right}
 use Rattle.nibl.proofs.Bound.{begun-hit, begun-miss, begun-here, begun-later, front-taken, front-begun, column-hit, column-miss, column-bound}
 use Rattle.word.specs.Found.{tableOf}
@@ -232,7 +233,11 @@ module _ {before : List ℕ} {n : ℕ} {spelled lengths bottom text stack : List
     pub trying-within : total lengths ≤ length spelled → from + getD lengths i 0 ≤ length spelled
     trying-within l = omega (arith, p .sum, ap total (at-byte lengths i h))
 
-    -- the spelling that stands there, and those behind it
+    -- the part of the code is the spelling that stands there
+    pub spelling-at : take (from + getD lengths i 0 - from) (drop from spelled) ≡ take (getD lengths i 0) (drop from spelled)
+    spelling-at = let d : from + getD lengths i 0 - from ≡ getD lengths i 0 = omega arith in rw d
+
+    -- the spelling, and those behind it
     here-first : begunIn (take (getD lengths i 0) (drop from spelled) ∷ cut (drop (from + getD lengths i 0) spelled) (drop (i + 1) lengths)) (take n before)
         ≡ begunIn (cut spelled lengths) (take n before)
     here-first = rw (at-byte lengths i h, drop-drop (getD lengths i 0) from spelled) at (p .same)
@@ -261,3 +266,112 @@ module _ {before : List ℕ} {n : ℕ} {spelled lengths bottom text stack : List
   pub trying-last : length lengths ≤ i → false ≡ begunIn (cut spelled lengths) (take n before)
   unfolding begunIn
   trying-last h = let d : drop i lengths ≡ [] = drop-of-length-le lengths h in rw d at (p .same)
+
+-- Fronts
+pub is-front-taken : (s : List ℕ) → true ≡ allTaken s → true ≡ isFront s
+is-front-taken s e = sym (front-taken s (sym e))
+
+pub is-front-begun : (s : List ℕ) {b : Bool} → false ≡ allTaken s → b ≡ begunIn spellings s → b ≡ isFront s
+is-front-begun s e f = f ∙ sym (front-begun s (sym e))
+
+-- From the longest front part down
+pub record Searching (before : List ℕ) (from : ℕ) (bottom text stack : List ℕ) (n : ℕ) : Type 0 where
+  pub kept : Kept before n text
+  pub size : length stack ≡ length bottom
+  pub high : n ≤ from
+  pub same : columnDown n before ≡ columnDown from before
+
+pub searching-first : (text : List ℕ) (from : ℕ) (stack : List ℕ) → Searching text from stack text stack from
+searching-first text from stack = record { kept = kept-all text from; size = refl; high = omega arith; same = refl }
+
+module _ {before : List ℕ} {from : ℕ} {bottom text stack : List ℕ} {n : ℕ} (p : Searching before from bottom text stack n) where
+  pub searching-spare : Spare before from bottom → Spare text n stack
+  searching-spare s = record { behind = omega (arith, s .behind, p .high, p .kept .size); deep = omega (arith, s .deep, p .kept .size, p .size) }
+
+  module _ (h : 0 < n) {b : Bool} (a : b ≡ isFront (take n text)) where
+    one : n ≡ suc (n - 1)
+    one = omega arith
+
+    answer-at : isFront (take (suc (n - 1)) before) ≡ b
+    answer-at = ap (λ (k : ℕ). isFront (take k before)) (sym one) ∙ ap isFront (sym (p .kept .front)) ∙ sym a
+
+    at-one : columnDown (suc (n - 1)) before ≡ columnDown from before
+    at-one = ap (λ (k : ℕ). columnDown k before) (sym one) ∙ p .same
+
+    pub searching-hit : true ≡ b → n ≡ columnDown from before
+    searching-hit e = one ∙ sym (column-hit (n - 1) before (answer-at ∙ sym e)) ∙ at-one
+
+    pub searching-on : false ≡ b → {text' stack' : List ℕ} → Kept text n text' → length stack' ≡ length stack → Searching before from bottom text' stack' (n - 1)
+    searching-on e k q =
+        let f = kept-then (p .kept) k in
+        let l : n - 1 ≤ n = omega arith in
+        record {
+          kept = record { front = sym (take-take (n - 1) n _ l) ∙ ap (take (n - 1)) (f .front) ∙ take-take (n - 1) n before l; size = f .size };
+          size = q ∙ p .size;
+          high = omega (arith, p .high);
+          same = sym (column-miss (n - 1) before (answer-at ∙ sym e)) ∙ at-one;
+        }
+
+  pub searching-last : n ≤ 0 → n ≡ columnDown from before
+  unfolding columnDown
+  searching-last h = let d : n ≡ 0 = omega arith in d ∙ (rw d at (p .same))
+
+-- The column depends on no byte behind where the search begins
+pub column-agree : (hi : ℕ) (s t : List ℕ) → take hi s ≡ take hi t → columnDown hi s ≡ columnDown hi t
+column-agree zero s t e = unfold columnDown in refl
+column-agree (suc n) s t e = go (isFront (take (suc n) s)) refl (column-agree n s t (sym (take-take n (suc n) s l) ∙ ap (take n) e ∙ take-take n (suc n) t l))
+  where
+    l : n ≤ suc n
+    l = omega arith
+
+    go : (x : Bool) → isFront (take (suc n) s) ≡ x → columnDown n s ≡ columnDown n t → columnDown (suc n) s ≡ columnDown (suc n) t
+    go true f ih = column-hit n s f ∙ sym (column-hit n t (ap isFront (sym e) ∙ f))
+    go false f ih = column-miss n s f ∙ ih ∙ sym (column-miss n t (ap isFront (sym e) ∙ f))
+
+last-within : (s : List ℕ) → lastTried s ≤ length s
+unfolding lastTried
+last-within s = omega arith
+
+pub column-last : (s : List ℕ) → columnOf s ≡ columnDown (lastTried s) s
+unfolding lastTried columnOf
+column-last s = go (lineRun keywords typedLine s) refl (lineRun commands typedCommand s) refl
+  where
+    -- little is left: the search begins at the end
+    short : (k : ℕ) → k ≤ 4 → columnDown (length s) s ≡ columnDown (min (length s) (length s + 4 - k)) s
+    short k h = let e : min (length s) (length s + 4 - k) ≡ length s = omega arith in rw e
+
+    both : (m k : ℕ) → lineRun keywords typedLine s ≡ stuck m → lineRun commands typedCommand s ≡ stuck k → (t : Bool) → leb (min m k) 4 ≡ t
+        → columnDown (length s) s ≡ columnDown (min (length s) (length s + 4 - min m k)) s
+    both m k e f true t = short (min m k) (leb-true (min m k) 4 t)
+    both m k e f false t =
+        let h = leb-false (min m k) 4 t in
+        column-bound s m k e f (min (length s) (length s + 4 - min m k)) (omega arith) (omega arith) (omega arith)
+
+    go : (v : Verdict) → lineRun keywords typedLine s ≡ v → (w : Verdict) → lineRun commands typedCommand s ≡ w
+        → columnDown (length s) s ≡ columnDown (min (length s) (length s + 4 - min (bytesLeft v) (bytesLeft w))) s
+    go alive e w f = short (min 0 (bytesLeft w)) (omega arith)
+    go (stuck m) e alive f = short (min m 0) (omega arith)
+    go (stuck m) e (stuck k) f = both m k e f (leb (min m k) 4) refl
+
+-- The whole search: in a room into which the text was laid
+module _ (text room : List ℕ) (l : length text ≤ 72) (m : length room ≡ 77) {room' : List ℕ} (e : room' ≡ paste room 0 (drop 0 text) (length text - 0)) {hi : ℕ} (f : hi ≡ lastTried text) where
+  fits : 0 + (length text - 0) ≤ length room
+  fits = omega arith
+
+  room-front : take (length text) room' ≡ text
+  room-front =
+      let d : length text ≡ 0 + (length text - 0) = omega arith in
+      ap (λ (k : ℕ). take k room') d ∙ ap (take (0 + (length text - 0))) e ∙ laid-whole room 0 text 0 (omega arith) fits
+
+  hi-within : hi ≤ length text
+  hi-within = omega (arith, last-within text)
+
+  pub room-spare : {stack : List ℕ} → length stack ≡ 232 → Spare room' hi stack
+  room-spare k =
+      let q : length room' ≡ 77 = ap length e ∙ laid-kept room 0 text 0 (omega arith) fits .size ∙ m in
+      record { behind = omega (arith, hi-within); deep = omega arith }
+
+  pub room-column : {r : ℕ} → r ≡ columnDown hi room' → r ≡ columnOf text
+  room-column {r} g =
+      let same : take hi room' ≡ take hi text = sym (take-take hi (length text) room' hi-within) ∙ ap (take hi) room-front in
+      g ∙ column-agree hi room' text same ∙ ap (λ (k : ℕ). columnDown k text) f ∙ sym (column-last text)

@@ -21,10 +21,58 @@ mod run;
 
 // A text may end within a word. The words that it may have begun, one behind the other, and how long each is; of a hex constant "#"
 // and a digit are enough.
-const SPELLED: [u8; 138] = *b"LETGOTOSUBGOTOGOSUBRETURNPRPRINTIFTHENDOUNTILFORSTEPNEXTINPUTREMENDSTATTOPMODANDORNOTNEWCLEARLISTRUN<=>=<>#0#1#2#3#4#5#6#7#8#9#A#B#C#D#E#F";
+const SPELLED: [u8; 138] =
+    *b"LETGOTOSUBGOTOGOSUBRETURNPRPRINTIFTHENDOUNTILFORSTEPNEXTINPUTREMENDSTATTOPMODANDORNOTNEWCLEARLISTRUN<=>=<>#0#1#2#3#4#5#6#7#8#9#A#B#C#D#E#F";
 
 const LENGTHS: [u8; 48] = [
-    3, 2, 2, 3, 4, 5, 6, 2, 5, 2, 4, 2, 5, 3, 4, 4, 5, 3, 3, 4, 3, 3, 3, 2, 3, 3, 5, 4, 3, 2, 2, 2, 2, 2, 2, 2, 2, 2, 2, 2, 2, 2, 2, 2, 2, 2, 2, 2,
+    3,
+    2,
+    2,
+    3,
+    4,
+    5,
+    6,
+    2,
+    5,
+    2,
+    4,
+    2,
+    5,
+    3,
+    4,
+    4,
+    5,
+    3,
+    3,
+    4,
+    3,
+    3,
+    3,
+    2,
+    3,
+    3,
+    5,
+    4,
+    3,
+    2,
+    2,
+    2,
+    2,
+    2,
+    2,
+    2,
+    2,
+    2,
+    2,
+    2,
+    2,
+    2,
+    2,
+    2,
+    2,
+    2,
+    2,
+    2,
 ];
 
 // The most that is written behind a front part to end the word that it has begun.

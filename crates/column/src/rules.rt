@@ -263,7 +263,36 @@ const RULES: [u32; 139] = [
 
 // Where the rules of each thing that may come begin.
 const FIRST_RULE: [usize; 30] = [
-    0, 0, 9, 20, 21, 22, 23, 27, 28, 29, 31, 50, 52, 65, 85, 86, 87, 88, 89, 91, 111, 115, 115, 127, 133, 135, 136, 137, 138, 139
+    0,
+    0,
+    9,
+    20,
+    21,
+    22,
+    23,
+    27,
+    28,
+    29,
+    31,
+    50,
+    52,
+    65,
+    85,
+    86,
+    87,
+    88,
+    89,
+    91,
+    111,
+    115,
+    115,
+    127,
+    133,
+    135,
+    136,
+    137,
+    138,
+    139,
 ];
 
 // What may come after the word k by the rules from one on up to another; 0 where none of them is for it.

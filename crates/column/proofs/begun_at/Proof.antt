@@ -48,11 +48,12 @@ returns-2 c =
     let e = c .before .before .before .before .before .before .before .lay .ensures in
     let s = c .before .before .before .before .before .before .before .before .before .before .before .before .before .before .before in
     let a = s .args in
-    let r : a .n + (length (a .z .now) - a .i) ≤ length (a .text .now) = omega (arith, s .pre .0 .behind) in
-    (
+    let r : a .n + (length (a .z .now) - a .i) ≤ length (a .text .now) = omega (arith, s .pre .0 .behind) in (
       begun-laid (a .text .now) (a .n) (a .z .now) (a .i) (s .pre .1) r (sym (c .before .before .before .before .before .before .before .before .before .before .ends-with .ensures) ∙ not-false _ (c .before .before .before .before .before .before .before .before .before .if1 .left)) (e .0) (e .1) (c .before .before .all-taken .ensures .0),
-      (rw (e .1) (laid-kept (a .text .now) (a .n) (a .z .now) (a .i) (s .pre .1) r),
-      c .before .before .all-taken .ensures .1)
+      (
+        rw (e .1) (laid-kept (a .text .now) (a .n) (a .z .now) (a .i) (s .pre .1) r),
+        c .before .before .all-taken .ensures .1,
+      ),
     )
 
 pub begun-at-spec : {M : Type 1} → statement M
