@@ -1,0 +1,6 @@
+pub mod Packed
+pub mod Table
+pub mod Turns
+pub mod Steps
+pub mod Quotes
+pub mod Fronts
