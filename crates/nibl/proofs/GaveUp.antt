@@ -18,7 +18,7 @@ use Rattle.nibl.proofs.Keywords.{take-run, over-all, over-step}
 use Rattle.nibl.proofs.Words.{step-word, word-capital, word-complete, no-word}
 
 -- The byte stands within the text
-past-short : (p : ℕ → Bool) (s : List ℕ) → length (past p s) ≤ length s
+pub past-short : (p : ℕ → Bool) (s : List ℕ) → length (past p s) ≤ length s
 past-short p [] = omega arith
 past-short p (b ∷ s) = if-split (λ (l : List ℕ). length l ≤ suc (length s)) (p b) (λ _. omega (arith, past-short p s)) (λ _. omega arith)
 
@@ -58,7 +58,7 @@ same-end p q (b ∷ s) (suc n) h l t = go (p b) (λ i. same-end p q s n i (omega
     go false ih k = refl
 
 -- and the run is not all of such a text
-run-ends : (p : ℕ → Bool) (s : List ℕ) (n : ℕ) → length s < n + length (past p s) → n ≤ length s → (t : List ℕ) → all p (take n s ++ t) ≡ false
+pub run-ends : (p : ℕ → Bool) (s : List ℕ) (n : ℕ) → length s < n + length (past p s) → n ≤ length s → (t : List ℕ) → all p (take n s ++ t) ≡ false
 run-ends p [] n h l t = absurd (omega arith)
 run-ends p (b ∷ s) zero h l t = absurd (omega (arith, past-short p (b ∷ s)))
 run-ends p (b ∷ s) (suc n) h l t = go (p b) (λ i. run-ends p s n i (omega arith) t) h

@@ -11,6 +11,7 @@ pub mod Statements
 pub mod Complete
 pub mod Desk
 pub mod GaveUp
+pub mod Bound
 pub mod Spots
 pub mod Taken
 pub mod Spot

@@ -1,0 +1,371 @@
+// What may come next in a line, by numbers, and the rules: which words may come, and what may come after each.
+use word::sign;
+ghost use Prim.Native.Nat.{_≤_, _<_};
+ghost use mathlib.Core.Path.{_≡_};
+ghost use lib.ListN.{length};
+ghost use lib.Seq.{slice};
+ghost use Rattle.column.specs.Rules.{ruleIn, RuleIs, SeekIs, Pushed};
+
+// What a word is to the rules: a sign by its number, and each other kind by one of these.
+pub const NAME: u8 = 5;
+
+pub const DECIMAL: u8 = 6;
+
+pub const HEX: u8 = 7;
+
+pub const TEXT: u8 = 8;
+
+// What may come.
+const FACTOR: u32 = 1;
+
+const FIRST_FACTOR: u32 = 2;
+
+const CLOSING: u32 = 3;
+
+const MOD_OPEN: u32 = 4;
+
+const MOD_COMMA: u32 = 5;
+
+const TARGET: u32 = 6;
+
+const EQUALS: u32 = 7;
+
+const TEXT_EQUALS: u32 = 8;
+
+const TEXT_VALUE: u32 = 9;
+
+const STATEMENT: u32 = 10;
+
+const AFTER_GO: u32 = 11;
+
+const ITEM: u32 = 12;
+
+const CONSEQUENCE: u32 = 13;
+
+const FOR_VARIABLE: u32 = 14;
+
+const FOR_EQUALS: u32 = 15;
+
+const FOR_TO: u32 = 16;
+
+const ONE_VARIABLE: u32 = 17;
+
+const INPUT_TARGET: u32 = 18;
+
+pub const TYPED_LINE: u8 = 19;
+
+pub const TYPED_COMMAND: u8 = 20;
+
+const REMARK: u32 = 21;
+
+// From here on: what may come, and need not.
+const MORE_OF_RELATION: u32 = 22;
+
+const MORE_OF_SUM: u32 = 23;
+
+const MORE_ITEMS: u32 = 24;
+
+const FOR_STEP: u32 = 25;
+
+const MORE_VARIABLES: u32 = 26;
+
+const MORE_MEMBERS: u32 = 27;
+
+const LIST_NUMBER: u32 = 28;
+
+// As bytes of a stack: the rest of a remark, the last of all, and the first that need not come.
+pub const A_REMARK: u8 = REMARK as u8;
+
+const LAST: u8 = LIST_NUMBER as u8;
+
+const FIRST_OPTIONAL: u8 = MORE_OF_RELATION as u8;
+
+// What may come after a word is one number: NOTHING, and a digit for each that may come, the first in the highest place.
+const DIGIT: u32 = 32;
+
+const NOTHING: u32 = 1;
+
+const A_FACTOR: u32 = DIGIT + FACTOR;
+
+const A_RELATION: u32 = (DIGIT + FIRST_FACTOR) * DIGIT + MORE_OF_RELATION;
+
+// A rule is one number too: the word in the high places, what may come after it in the low ones.
+const WORD: u32 = 2097152;
+
+const RULES: [u32; 139] = [
+    // FACTOR
+    WORD * NAME as u32 + NOTHING,
+    WORD * DECIMAL as u32 + NOTHING,
+    WORD * HEX as u32 + NOTHING,
+    WORD * sign::STAT as u32 + NOTHING,
+    WORD * sign::TOP as u32 + NOTHING,
+    WORD * sign::OPEN as u32 + A_RELATION * DIGIT + CLOSING,
+    WORD * sign::AT as u32 + A_FACTOR,
+    WORD * sign::NOT as u32 + A_FACTOR,
+    WORD * sign::MOD as u32 + DIGIT + MOD_OPEN,
+    // FIRST_FACTOR
+    WORD * sign::PLUS as u32 + A_FACTOR,
+    WORD * sign::MINUS as u32 + A_FACTOR,
+    WORD * NAME as u32 + NOTHING,
+    WORD * DECIMAL as u32 + NOTHING,
+    WORD * HEX as u32 + NOTHING,
+    WORD * sign::STAT as u32 + NOTHING,
+    WORD * sign::TOP as u32 + NOTHING,
+    WORD * sign::OPEN as u32 + A_RELATION * DIGIT + CLOSING,
+    WORD * sign::AT as u32 + A_FACTOR,
+    WORD * sign::NOT as u32 + A_FACTOR,
+    WORD * sign::MOD as u32 + DIGIT + MOD_OPEN,
+    // CLOSING
+    WORD * sign::CLOSE as u32 + NOTHING,
+    // MOD_OPEN
+    WORD * sign::OPEN as u32 + A_RELATION * DIGIT + MOD_COMMA,
+    // MOD_COMMA
+    WORD * sign::COMMA as u32 + A_RELATION * DIGIT + CLOSING,
+    // TARGET
+    WORD * NAME as u32 + DIGIT + EQUALS,
+    WORD * sign::STAT as u32 + DIGIT + EQUALS,
+    WORD * sign::AT as u32 + A_FACTOR * DIGIT + EQUALS,
+    WORD * sign::DOLLAR as u32 + A_FACTOR * DIGIT + TEXT_EQUALS,
+    // EQUALS
+    WORD * sign::EQUAL as u32 + A_RELATION,
+    // TEXT_EQUALS
+    WORD * sign::EQUAL as u32 + DIGIT + TEXT_VALUE,
+    // TEXT_VALUE
+    WORD * TEXT as u32 + NOTHING,
+    WORD * sign::DOLLAR as u32 + A_FACTOR,
+    // STATEMENT
+    WORD * sign::LET as u32 + DIGIT + TARGET,
+    WORD * sign::GOTO as u32 + A_RELATION,
+    WORD * sign::GOSUB as u32 + A_RELATION,
+    WORD * sign::GO as u32 + DIGIT + AFTER_GO,
+    WORD * sign::RETURN as u32 + NOTHING,
+    WORD * sign::PR as u32 + (DIGIT + ITEM) * DIGIT + MORE_ITEMS,
+    WORD * sign::PRINT as u32 + (DIGIT + ITEM) * DIGIT + MORE_ITEMS,
+    WORD * sign::IF as u32 + A_RELATION * DIGIT + CONSEQUENCE,
+    WORD * sign::DO as u32 + NOTHING,
+    WORD * sign::UNTIL as u32 + A_RELATION,
+    WORD * sign::FOR as u32 + DIGIT + FOR_VARIABLE,
+    WORD * sign::NEXT as u32 + DIGIT + ONE_VARIABLE,
+    WORD * sign::INPUT as u32 + DIGIT + INPUT_TARGET,
+    WORD * sign::REM as u32 + DIGIT + REMARK,
+    WORD * sign::END as u32 + NOTHING,
+    WORD * NAME as u32 + DIGIT + EQUALS,
+    WORD * sign::STAT as u32 + DIGIT + EQUALS,
+    WORD * sign::AT as u32 + A_FACTOR * DIGIT + EQUALS,
+    WORD * sign::DOLLAR as u32 + A_FACTOR * DIGIT + TEXT_EQUALS,
+    // AFTER_GO
+    WORD * sign::TO as u32 + A_RELATION,
+    WORD * sign::SUB as u32 + A_RELATION,
+    // ITEM
+    WORD * TEXT as u32 + NOTHING,
+    WORD * sign::DOLLAR as u32 + A_FACTOR,
+    WORD * sign::PLUS as u32 + A_FACTOR * DIGIT + MORE_OF_RELATION,
+    WORD * sign::MINUS as u32 + A_FACTOR * DIGIT + MORE_OF_RELATION,
+    WORD * NAME as u32 + DIGIT + MORE_OF_RELATION,
+    WORD * DECIMAL as u32 + DIGIT + MORE_OF_RELATION,
+    WORD * HEX as u32 + DIGIT + MORE_OF_RELATION,
+    WORD * sign::STAT as u32 + DIGIT + MORE_OF_RELATION,
+    WORD * sign::TOP as u32 + DIGIT + MORE_OF_RELATION,
+    WORD * sign::OPEN as u32 + (A_RELATION * DIGIT + CLOSING) * DIGIT + MORE_OF_RELATION,
+    WORD * sign::AT as u32 + A_FACTOR * DIGIT + MORE_OF_RELATION,
+    WORD * sign::NOT as u32 + A_FACTOR * DIGIT + MORE_OF_RELATION,
+    WORD * sign::MOD as u32 + (DIGIT + MOD_OPEN) * DIGIT + MORE_OF_RELATION,
+    // CONSEQUENCE
+    WORD * sign::THEN as u32 + DIGIT + STATEMENT,
+    WORD * sign::LET as u32 + DIGIT + TARGET,
+    WORD * sign::GOTO as u32 + A_RELATION,
+    WORD * sign::GOSUB as u32 + A_RELATION,
+    WORD * sign::GO as u32 + DIGIT + AFTER_GO,
+    WORD * sign::RETURN as u32 + NOTHING,
+    WORD * sign::PR as u32 + (DIGIT + ITEM) * DIGIT + MORE_ITEMS,
+    WORD * sign::PRINT as u32 + (DIGIT + ITEM) * DIGIT + MORE_ITEMS,
+    WORD * sign::IF as u32 + A_RELATION * DIGIT + CONSEQUENCE,
+    WORD * sign::DO as u32 + NOTHING,
+    WORD * sign::UNTIL as u32 + A_RELATION,
+    WORD * sign::FOR as u32 + DIGIT + FOR_VARIABLE,
+    WORD * sign::NEXT as u32 + DIGIT + ONE_VARIABLE,
+    WORD * sign::INPUT as u32 + DIGIT + INPUT_TARGET,
+    WORD * sign::REM as u32 + DIGIT + REMARK,
+    WORD * sign::END as u32 + NOTHING,
+    WORD * NAME as u32 + DIGIT + EQUALS,
+    WORD * sign::STAT as u32 + DIGIT + EQUALS,
+    WORD * sign::AT as u32 + A_FACTOR * DIGIT + EQUALS,
+    WORD * sign::DOLLAR as u32 + A_FACTOR * DIGIT + TEXT_EQUALS,
+    // FOR_VARIABLE
+    WORD * NAME as u32 + DIGIT + FOR_EQUALS,
+    // FOR_EQUALS
+    WORD * sign::EQUAL as u32 + A_RELATION * DIGIT + FOR_TO,
+    // FOR_TO
+    WORD * sign::TO as u32 + A_RELATION * DIGIT + FOR_STEP,
+    // ONE_VARIABLE
+    WORD * NAME as u32 + NOTHING,
+    // INPUT_TARGET
+    WORD * sign::DOLLAR as u32 + A_FACTOR,
+    WORD * NAME as u32 + DIGIT + MORE_VARIABLES,
+    // TYPED_LINE
+    WORD * DECIMAL as u32 + (DIGIT + STATEMENT) * DIGIT + MORE_MEMBERS,
+    WORD * sign::LET as u32 + DIGIT + TARGET,
+    WORD * sign::GOTO as u32 + A_RELATION,
+    WORD * sign::GOSUB as u32 + A_RELATION,
+    WORD * sign::GO as u32 + DIGIT + AFTER_GO,
+    WORD * sign::RETURN as u32 + NOTHING,
+    WORD * sign::PR as u32 + (DIGIT + ITEM) * DIGIT + MORE_ITEMS,
+    WORD * sign::PRINT as u32 + (DIGIT + ITEM) * DIGIT + MORE_ITEMS,
+    WORD * sign::IF as u32 + A_RELATION * DIGIT + CONSEQUENCE,
+    WORD * sign::DO as u32 + NOTHING,
+    WORD * sign::UNTIL as u32 + A_RELATION,
+    WORD * sign::FOR as u32 + DIGIT + FOR_VARIABLE,
+    WORD * sign::NEXT as u32 + DIGIT + ONE_VARIABLE,
+    WORD * sign::INPUT as u32 + DIGIT + INPUT_TARGET,
+    WORD * sign::REM as u32 + DIGIT + REMARK,
+    WORD * sign::END as u32 + NOTHING,
+    WORD * NAME as u32 + DIGIT + EQUALS,
+    WORD * sign::STAT as u32 + DIGIT + EQUALS,
+    WORD * sign::AT as u32 + A_FACTOR * DIGIT + EQUALS,
+    WORD * sign::DOLLAR as u32 + A_FACTOR * DIGIT + TEXT_EQUALS,
+    // TYPED_COMMAND
+    WORD * sign::NEW as u32 + NOTHING,
+    WORD * sign::CLEAR as u32 + NOTHING,
+    WORD * sign::RUN as u32 + NOTHING,
+    WORD * sign::LIST as u32 + DIGIT + LIST_NUMBER,
+    // MORE_OF_RELATION
+    WORD * sign::TIMES as u32 + A_FACTOR * DIGIT + MORE_OF_RELATION,
+    WORD * sign::DIVIDE as u32 + A_FACTOR * DIGIT + MORE_OF_RELATION,
+    WORD * sign::AND as u32 + A_FACTOR * DIGIT + MORE_OF_RELATION,
+    WORD * sign::PLUS as u32 + A_FACTOR * DIGIT + MORE_OF_RELATION,
+    WORD * sign::MINUS as u32 + A_FACTOR * DIGIT + MORE_OF_RELATION,
+    WORD * sign::OR as u32 + A_FACTOR * DIGIT + MORE_OF_RELATION,
+    WORD * sign::EQUAL as u32 + (DIGIT + FIRST_FACTOR) * DIGIT + MORE_OF_SUM,
+    WORD * sign::LESS as u32 + (DIGIT + FIRST_FACTOR) * DIGIT + MORE_OF_SUM,
+    WORD * sign::GREATER as u32 + (DIGIT + FIRST_FACTOR) * DIGIT + MORE_OF_SUM,
+    WORD * sign::AT_MOST as u32 + (DIGIT + FIRST_FACTOR) * DIGIT + MORE_OF_SUM,
+    WORD * sign::AT_LEAST as u32 + (DIGIT + FIRST_FACTOR) * DIGIT + MORE_OF_SUM,
+    WORD * sign::UNEQUAL as u32 + (DIGIT + FIRST_FACTOR) * DIGIT + MORE_OF_SUM,
+    // MORE_OF_SUM
+    WORD * sign::TIMES as u32 + A_FACTOR * DIGIT + MORE_OF_SUM,
+    WORD * sign::DIVIDE as u32 + A_FACTOR * DIGIT + MORE_OF_SUM,
+    WORD * sign::AND as u32 + A_FACTOR * DIGIT + MORE_OF_SUM,
+    WORD * sign::PLUS as u32 + A_FACTOR * DIGIT + MORE_OF_SUM,
+    WORD * sign::MINUS as u32 + A_FACTOR * DIGIT + MORE_OF_SUM,
+    WORD * sign::OR as u32 + A_FACTOR * DIGIT + MORE_OF_SUM,
+    // MORE_ITEMS
+    WORD * sign::COMMA as u32 + (DIGIT + ITEM) * DIGIT + MORE_ITEMS,
+    WORD * sign::SEMICOLON as u32 + NOTHING,
+    // FOR_STEP
+    WORD * sign::STEP as u32 + A_RELATION,
+    // MORE_VARIABLES
+    WORD * sign::COMMA as u32 + (DIGIT + ONE_VARIABLE) * DIGIT + MORE_VARIABLES,
+    // MORE_MEMBERS
+    WORD * sign::COLON as u32 + (DIGIT + STATEMENT) * DIGIT + MORE_MEMBERS,
+    // LIST_NUMBER
+    WORD * DECIMAL as u32 + NOTHING,
+];
+
+// Where the rules of each thing that may come begin.
+const FIRST_RULE: [usize; 30] = [
+    0,
+    0,
+    9,
+    20,
+    21,
+    22,
+    23,
+    27,
+    28,
+    29,
+    31,
+    50,
+    52,
+    65,
+    85,
+    86,
+    87,
+    88,
+    89,
+    91,
+    111,
+    115,
+    115,
+    127,
+    133,
+    135,
+    136,
+    137,
+    138,
+    139,
+];
+
+// What may come after the word k by the rules from one on up to another; 0 where none of them is for it.
+fn rule_in(rules: &[u32], from: usize, to: usize, k: u8) -> u32
+    requires { ⌜ (from ≤ to) × (to ≤ length (now rules)) ⌝ }
+    ensures { λ r. ⌜ r ≡ ruleIn (slice from to (now (rules .entry))) k ⌝ }
+{
+    let mut i = from;
+    while i < to {
+        let n = rules[i];
+        if n / WORD == k as u32 {
+            return n % WORD;
+        }
+        i += 1;
+    }
+    0
+}
+
+// What may come after the word k where x may come; 0 where x does not begin with that word.
+fn rule(x: u8, k: u8) -> u32
+    ensures { λ r. ⌜ RuleIs x k r ⌝ }
+{
+    if LAST < x {
+        return 0;
+    }
+    let i = x as usize;
+    rule_in(&RULES, FIRST_RULE[i], FIRST_RULE[i + 1], k)
+}
+
+// Of what may come: where the first stands that begins with a word, and what may come after that word; 0 where none does.
+pub struct Turn {
+    pub at: usize,
+    pub after: u32,
+}
+
+// What may come lies on a stack, from `top` on to its end.
+pub fn seek(stack: &[u8], top: usize, k: u8) -> Turn
+    requires { ⌜ top ≤ length (now stack) ⌝ }
+    ensures { λ r. ⌜ SeekIs (now (stack .entry)) top k r ⌝ }
+{
+    let mut t = top;
+    while t < stack.len() {
+        let x = stack[t];
+        let after = rule(x, k);
+        if after != 0 {
+            return Turn { at: t, after };
+        }
+        if x < FIRST_OPTIONAL {
+            break;
+        }
+        t += 1;
+    }
+    Turn { at: t, after: 0 }
+}
+
+fn narrow(n: u32) -> u8
+    requires { ⌜ n < 256 ⌝ }
+    ensures { λ r. ⌜ r ≡ n ⌝ }
+{
+    n as u8
+}
+
+// What may come after a word, on the stack before `top`; where it begins there.
+pub fn push(stack: &mut [u8], top: usize, after: u32) -> usize
+    requires { ⌜ (4 ≤ top) × (top ≤ length (now stack)) × (after < 2097152) ⌝ }
+    ensures { λ r. ⌜ Pushed (now (stack .entry)) top after (now (stack .exit)) r ⌝ }
+{
+    let mut n = after;
+    let mut t = top;
+    while NOTHING < n {
+        t -= 1;
+        stack[t] = narrow(n % DIGIT);
+        n = n / DIGIT;
+    }
+    t
+}
