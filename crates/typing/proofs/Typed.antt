@@ -13,6 +13,7 @@ use Rattle.nibl.specs.Grammar.{Line, anImmediate}
 use Rattle.nibl.specs.Tree.{Stmt, immediate}
 use Rattle.nibl.specs.Typing.{Gathered, gather}
 use Rattle.nibl.specs.Read.{typed}
+use Rattle.nibl.specs.Calls.{limit}
 use Rattle.nibl.proofs.Lines.{typed-sound}
 use Rattle.letter.specs.Slots.{answer, held, padded}
 use Rattle.letter.specs.declared.Gathering.{Gathering}
@@ -63,7 +64,7 @@ line-short : {s : List ℕ} {q : Stmt} → Line (Word keywords) (Word commands) 
 line-short (anImmediate p a) = let h = statement-short p in omega arith
 
 -- what was read, with the operations of a statement in front
-pub read-as : {text after : List ℕ} (ops : List ℕ) {kind : LineRead} → length text ≤ 251 → length text ≤ length ops → kind ≡ kindOf (length text) (typed text)
+pub read-as : {text after : List ℕ} (ops : List ℕ) {kind : LineRead} → length text ≤ limit → length text ≤ length ops → kind ≡ kindOf (length text) (typed text)
     → after ≡ lineOps ops (typed text) → length after ≡ length ops → ReadAs text kind after
 read-as {text} {after} ops h k e f l =
     record {

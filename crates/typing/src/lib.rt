@@ -6,7 +6,7 @@ ghost use Rattle.nibl.specs.Typing.{gather as gathered};
 ghost use Rattle.nibl.specs.Record.{place, mark, unpaused};
 ghost use Rattle.nibl.specs.Read.{typed as readingOf};
 ghost use Rattle.nibl.specs.Column.{columnOf};
-ghost use Rattle.nibl.specs.Calls.{lentAll, obeyRead, obeyLine};
+ghost use Rattle.nibl.specs.Calls.{lentAll, obeyRead, obeyLine, limit};
 ghost use Rattle.effect.specs.Worlds.{envWith};
 ghost use Rattle.line.specs.Answers.{kindOf, lineOps};
 ghost use Rattle.ending.specs.Ends.{endedIn, worldAt};
@@ -126,7 +126,7 @@ pub fn typed_line(
     values: &mut [u16],
     ops: &mut [u32],
 ) -> Ended
-    requires { ⌜ Lists (now reply) (now replies) (now values) (now ops) × (length (now line) ≡ length (now reply)) × Accepted (length (now reply)) (now page) (call .budget) (unpaused rec) ⌝ }
+    requires { ⌜ Lists (now reply) (now replies) (now values) (now ops) × (length (now line) ≡ length (now reply)) × Accepted (length (now reply)) (now page) (call .budget) (unpaused rec) × (length (now reply) ≤ limit) ⌝ }
     ensures { λ r. ⌜ endedIn r (now (page .exit)) (now (memory .exit)) (now (output .exit)) ≡ obeyLine (length (now (reply .entry))) (lentAll rec (now (page .entry)) (now (memory .entry)) (now (input .entry)) (now (output .entry)) call) (gathered (length (now (reply .entry))) (drop (call .inpos) (now (input .entry)))) ⌝ }
 {
     let g = letter::gather(input, call.inpos, line);

@@ -1,6 +1,7 @@
 -- `accepted_call` meets its contract: by what was called. Assumes nothing.
 use mathlib.Core.Path.{refl, sym, ap, _∙_}
 use mathlib.Core.Bool.{Bool}
+use native.Mathlib.Omega.{arith}
 use Rattle.nibl.specs.Calls.{Lent, lentAll}
 use Rattle.calls.specs.Past.{pastRefusals}
 use Rattle.calls.proofs.First.{lists}
@@ -12,7 +13,7 @@ abbrev given : tie.Start → Lent
 given s = let a = s .args in lentAll (a .rec) (a .page .now) (a .memory .now) (a .input .now) (a .output .now) (a .call)
 
 typed-line-requires : tie.Need-typed-line-requires
-typed-line-requires c κs = let s = c .before .before .before .before .before .before .before .before .before .before .before .before .before in (lists, refl, s .pre .0)
+typed-line-requires c κs = let s = c .before .before .before .before .before .before .before .before .before .before .before .before .before in (lists, refl, s .pre .0, omega arith)
 
 returns : tie.Need-returns
 returns c =

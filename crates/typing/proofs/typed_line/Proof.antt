@@ -108,6 +108,7 @@ obey-requires c κs =
     let s = start r in
     let l = s .pre .0 in
     let a = s .pre .2 in
+    let k = s .pre .3 in
     let t = c .before .before .before .before .before .before .before .before .before .before .before .before .read-typed in
     let m = t .kept .1 .1 .0 in
     let u = c .before .before .before .before .before .before .before .before .before .unpaused2 .ensures in
