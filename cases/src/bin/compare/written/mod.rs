@@ -6,6 +6,7 @@ mod texts;
 mod values;
 
 use model::case::{Call, Case};
+use model::random::damage;
 use model::random::pages::{render, Lines};
 use model::{Answer, Record};
 
@@ -17,6 +18,14 @@ pub fn each(visit: &mut Visit) {
     texts::each(visit);
     pages::each(visit);
     programs::each(visit);
+    damaged(visit);
+}
+
+/// The table of damaged lines of every statement: for their columns.
+fn damaged(visit: &mut Visit) {
+    for damaged in damage::table() {
+        visit(damage::typed(&damaged.line), 0);
+    }
 }
 
 /// A line typed on a page with these lines, much lent of everything.
