@@ -1,11 +1,10 @@
 -- Whether a text is the front of a line, a spelling and a byte at a time. Assumes nothing.
-use Prim.Native.Nat.{ℕ, zero, suc, _+_, _-_, _*_, _≤_, _<_, min, max}
+use Prim.Native.Nat.{ℕ, zero, suc, _+_, _-_, _≤_, _<_, min, max}
 use mathlib.Core.Path.{_≡_, refl, sym, ap, _∙_}
-use mathlib.Core.Bool.{Bool, true, false, not, _&&_, _||_}
+use mathlib.Core.Bool.{Bool, true, false, not, _&&_}
 use mathlib.Core.List.{List, [], _∷_, _++_}
 use native.Mathlib.Nat.{add-zero}
 use native.Mathlib.Omega.{arith}
-use native.Mathlib.Numerals.{add-one}
 use borrow.Author.Tests.{leb-true, leb-false, le-leb, lt-leb, eq-eqb, ne-eqb}
 use lib.Dec.{eqb, leb}
 use lib.ListN.{length, take, drop, getD, set, length-drop, drop-of-length-le}
@@ -16,7 +15,7 @@ use Rattle.nibl.specs.Column.{typedLine, typedCommand, Verdict, alive, stuck, i
 use Rattle.nibl.proofs.Words.{and-left, and-right}
 use Rattle.nibl.proofs.Bound.{begun-hit, begun-miss, begun-here, begun-later, front-taken, front-begun, column-hit, column-miss, column-bound}
 use Rattle.word.specs.Found.{tableOf}
-use Rattle.word.proofs.Runs.{at-byte, slice-front}
+use Rattle.word.proofs.Runs.{at-byte}
 use Rattle.column.specs.Runs.{VerdictIs, lineSymbol}
 use Rattle.column.specs.Fronts.{cut, total, Spare, oddQuotes, Kept, bytesLeft, ReachIs, lastTried}
 use Rattle.column.specs.declared.run.Verdict.the-variants.{Alive, Stuck}

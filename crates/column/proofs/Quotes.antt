@@ -11,14 +11,14 @@ use lib.Dec.{eqb}
 use lib.ListN.{length, take, drop}
 use lib.Seq.{take-append-le, drop-append-le}
 use Rattle.nibl.specs.Bytes.{if_then_else_, isSpace, isText, isDigit, isCapital, isHexDigit, isQuotable, All, none as done, each, starts, front, past, all, decimalValue}
-use Rattle.nibl.specs.Words.{Token, Word, keywords, commands, indexIn, pairs, isSymbol}
+use Rattle.nibl.specs.Words.{Token, keywords, commands, indexIn, pairs, isSymbol}
 use Rattle.nibl.specs.Read.{Step, atEnd, wrong, got, signOr, letterStep, lettersStep, digitsStep, hexStep, quotedStep, pairOr, symbolStep, wordStep, stepIn}
 use Rattle.nibl.specs.GaveUp.{gaveUp}
-use Rattle.nibl.specs.Column.{aText, sortOf, turn, isSome, isRemark, opened, isOpenString, typedLine, typedCommand, Verdict, alive, stuck, isAlive, turned, wrongAt, byStep, advance, remarkAt, runN, lineRun, allTaken, spellings, endsWith, begunBy, begunIn, isFront}
+use Rattle.nibl.specs.Column.{aText, sortOf, turn, isSome, isRemark, opened, isOpenString, typedLine, typedCommand, Verdict, alive, stuck, isAlive, turned, byStep, advance, remarkAt, runN, lineRun, allTaken, spellings, endsWith, begunBy, begunIn, isFront}
 use Rattle.nibl.proofs.Words.{and-left, and-right, word-sound}
 use Rattle.nibl.proofs.Keywords.{entries, run-short}
-use Rattle.nibl.proofs.Over.{Outside, here, byte, inQuotes, word-over, word-short}
-use Rattle.nibl.proofs.Bound.{begun-miss, begun-later, front-begun}
+use Rattle.nibl.proofs.Over.{Outside, here, byte, inQuotes, word-over}
+use Rattle.nibl.proofs.Bound.{and-false, begun-miss, begun-later, front-begun}
 use Rattle.column.specs.Fronts.{oddQuotes}
 
 abbrev bare : ℕ → Bool
@@ -72,10 +72,6 @@ odd-all p q (b ∷ s) o = go (eqb b 34) refl o (odd-all p q s)
 odd-some : (s : List ℕ) → oddQuotes s ≡ true → 0 < length s
 odd-some [] o = absurd (false≢true o)
 odd-some (b ∷ s) o = omega arith
-
-and-false : (a : Bool) → (a && false) ≡ false
-and-false true = refl
-and-false false = refl
 
 -- what a step is when the text goes on with t
 abbrev grown : List ℕ → Step → Step

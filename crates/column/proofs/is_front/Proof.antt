@@ -1,5 +1,5 @@
 -- `column::is_front` meets its contract: the spellings are the definition's, which antt computes. Assumes nothing.
-use mathlib.Core.Path.{refl, sym, _∙_}
+use mathlib.Core.Path.{sym, _∙_}
 use native.Mathlib.Omega.{arith}
 use borrow.Author.Needs.{needs}
 use lib.ListN.{length-take}
