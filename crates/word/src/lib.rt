@@ -273,7 +273,7 @@ fn digit(b: u8) -> u32
     (b - nibl::ZERO) as u32
 }
 
-// The constant whose first digit stands at `from`. Once it is too large, more digits keep it so.
+// The constant whose first digit stands at `from`. Once it is too large, more digits keep it so: no word goes on past the digit that passes.
 fn decimal(text: &[u8], from: usize) -> Word
     requires { ⌜ (from < length (now text)) × (isDigit (getD (now text) from 0) ≡ true) ⌝ }
     ensures { λ r. ⌜ AnswerIs decimalAt decimalLeft (now (text .entry)) from r ⌝ }
