@@ -2,4 +2,5 @@ pub mod Packed
 pub mod Table
 pub mod Turns
 pub mod Steps
+pub mod Quotes
 pub mod Fronts

@@ -1,17 +1,14 @@
 -- Rules and what may come as numbers: a rule is found along a list of them, and what may come is laid on a stack digit by digit.
 -- Assumes nothing.
 use Prim.Native.Nat.{ℕ, zero, suc, _+_, _-_, _*_, _/_, _%_, _^_, _≤_, _<_}
-use mathlib.Core.Path.{_≡_, refl, sym, ap, _∙_}
-use mathlib.Core.Bool.{Bool, true, false}
-use mathlib.Core.List.{List, [], _∷_, _++_}
+use mathlib.Core.Path.{_≡_, refl, sym, _∙_}
+use mathlib.Core.List.{List, _∷_}
 use native.Mathlib.Nat.{pow-suc}
 use native.Mathlib.Omega.{arith}
 use native.Mathlib.Numerals.{add-one}
 use borrow.Author.Tests.{eq-eqb, ne-eqb, le-leb, lt-leb}
-use lib.Dec.{eqb, leb}
 use lib.ListN.{length, drop, getD, set, length-set}
 use lib.Seq.{slice, slice-empty, slice-cons, drop-cons, drop-set-lt, getD-set-same, lt-length-set}
-use Rattle.nibl.specs.Bytes.{if_then_else_}
 use Rattle.column.specs.Rules.{unpacked, afters, ruleIn}
 
 -- Along a list of rules

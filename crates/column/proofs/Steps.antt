@@ -2,26 +2,27 @@
 use Prim.Native.Nat.{ℕ, zero, suc, _+_, _-_, _*_, _≤_, _<_}
 use mathlib.Core.Path.{_≡_, refl, sym, ap, _∙_}
 use mathlib.Core.Bool.{Bool, true, false, _&&_}
-use mathlib.Core.List.{List, [], _∷_, _++_}
+use mathlib.Core.List.{List, [], _∷_}
 use mathlib.Core.Option.{Option, none, some}
 use native.Mathlib.Omega.{arith}
 use borrow.Author.Tests.{eqb-true, eq-eqb, ne-eqb}
 use lib.Dec.{eqb}
 use lib.ListN.{length, drop, getD, set, length-drop, length-set, drop-of-length-le}
 use lib.Seq.{lt-length-set, getD-set-same}
-use Rattle.nibl.specs.Bytes.{if_then_else_, isSpace, isQuotable, isText, past, front, all}
+use Rattle.nibl.specs.Bytes.{if_then_else_, isSpace, isQuotable, isText, past, all}
 use Rattle.nibl.specs.Words.{keywords, commands}
 use Rattle.nibl.specs.Read.{Step, atEnd, wrong, got, stepIn}
 use Rattle.nibl.specs.GaveUp.{gaveUp, wordGaveUp}
-use Rattle.nibl.specs.Column.{sortOf, aText, turn, isSome, isRemark, opened, isOpenString, Verdict, alive, stuck, turned, wrongAt, byStep, advance, remarkAt, runN, lineRun}
+use Rattle.nibl.specs.Column.{sortOf, turn, isSome, isRemark, opened, isOpenString, Verdict, alive, stuck, turned, byStep, advance, remarkAt, runN, lineRun}
 use Rattle.nibl.proofs.Words.{word-sound}
 use Rattle.nibl.proofs.Over.{word-short}
-use Rattle.nibl.proofs.GaveUp.{gave-up-within}
+use Rattle.nibl.proofs.GaveUp.{quote-at}
+use Rattle.nibl.proofs.Bound.{and-false}
 use Rattle.word.specs.declared.Word.{Word}
 use Rattle.word.specs.declared.Word.the-variants.{Variable, Decimal, Hex, Text, Sign, End as WordEnd, Wrong as WordWrong}
 use Rattle.word.specs.Found.{firstOf, tableOf, WordIs}
 use Rattle.word.proofs.Runs.{at-byte, runEnd, rest-at}
-use Rattle.column.specs.Rules.{unpacked, afters, through, SeekIs, Pushed}
+use Rattle.column.specs.Rules.{unpacked, SeekIs, Pushed}
 use Rattle.column.specs.Runs.{VerdictIs, held, NextIs, wordless, runs, runBy, lineSymbol, Room}
 use Rattle.column.specs.declared.rules.Turn.{Turn}
 use Rattle.column.specs.declared.run.Verdict.{Verdict as Answer}
@@ -111,20 +112,12 @@ and-true : (a : Bool) → (a && true) ≡ a
 and-true true = refl
 and-true false = refl
 
-and-false : (a : Bool) → (a && false) ≡ false
-and-false true = refl
-and-false false = refl
-
 module _ (table : List (List ℕ)) where
-  quote-at : (b : ℕ) (s : List ℕ) → eqb b 34 ≡ true → wordGaveUp table b s ≡ length (past isQuotable s)
-  unfolding wordGaveUp
-  quote-at b s e = rw (eqb-true b 34 e)
-
   quote-left : (b : ℕ) (s : List ℕ) → opened (b ∷ s) ≡ (eqb (wordGaveUp table b s) 0 && eqb b 34)
   quote-left b s = go (eqb b 34) refl
     where
       go : (x : Bool) → eqb b 34 ≡ x → (x && all isQuotable s) ≡ (eqb (wordGaveUp table b s) 0 && x)
-      go true e = all-left isQuotable s ∙ ap (λ (n : ℕ). eqb n 0) (sym (quote-at b s e)) ∙ sym (and-true (eqb (wordGaveUp table b s) 0))
+      go true e = all-left isQuotable s ∙ ap (λ (n : ℕ). eqb n 0) (sym (quote-at table b s e)) ∙ sym (and-true (eqb (wordGaveUp table b s) 0))
       go false e = sym (and-false (eqb (wordGaveUp table b s) 0))
 
   open-left : (s : List ℕ) → isOpenString s ≡ (eqb (gaveUp table s) 0 && eqb (firstOf (past isSpace s)) 34)

@@ -4,17 +4,17 @@ use run::Verdict;
 use run::run;
 ghost use Prim.Native.Nat.{_+_, _-_, _*_, _≤_, _<_, max};
 ghost use mathlib.Core.Path.{_≡_};
-ghost use mathlib.Core.Bool.{true, _&&_};
+ghost use mathlib.Core.Bool.{true, not, _&&_};
 ghost use mathlib.Core.List.{_++_};
 ghost use lib.ListN.{length, take, drop};
 ghost use lib.Seq.{paste};
-ghost use lib.Dec.{leb};
-ghost use Rattle.nibl.specs.Bytes.{all};
+ghost use lib.Dec.{leb, eqb};
+ghost use Rattle.nibl.specs.Bytes.{if_then_else_, byteQuote, all};
 ghost use Rattle.nibl.specs.Column.{lineRun, isAlive, allTaken, endsWith, begunBy, begunIn, isFront, columnDown, columnOf};
 ghost use Rattle.nibl.specs.Calls.{limit};
-ghost use Rattle.word.specs.Found.{tableOf};
+ghost use Rattle.word.specs.Found.{tableOf, longestKeyword};
 ghost use Rattle.column.specs.Runs.{lineSymbol};
-ghost use Rattle.column.specs.Fronts.{cut, total, Spare, Kept, ReachIs, lastTried};
+ghost use Rattle.column.specs.Fronts.{cut, total, most, Spare, Kept, oddQuotes, ReachIs, lastTried};
 
 mod rules;
 mod run;
@@ -25,54 +25,54 @@ const SPELLED: [u8; 138] =
     *b"LETGOTOSUBGOTOGOSUBRETURNPRPRINTIFTHENDOUNTILFORSTEPNEXTINPUTREMENDSTATTOPMODANDORNOTNEWCLEARLISTRUN<=>=<>#0#1#2#3#4#5#6#7#8#9#A#B#C#D#E#F";
 
 const LENGTHS: [u8; 48] = [
-    3,
-    2,
-    2,
-    3,
-    4,
-    5,
-    6,
-    2,
-    5,
-    2,
-    4,
-    2,
-    5,
-    3,
-    4,
-    4,
-    5,
-    3,
-    3,
-    4,
-    3,
-    3,
-    3,
-    2,
-    3,
-    3,
-    5,
-    4,
-    3,
-    2,
-    2,
-    2,
-    2,
-    2,
-    2,
-    2,
-    2,
-    2,
-    2,
-    2,
-    2,
-    2,
-    2,
-    2,
-    2,
-    2,
-    2,
-    2,
+    3, // LET
+    2, // GO
+    2, // TO
+    3, // SUB
+    4, // GOTO
+    5, // GOSUB
+    6, // RETURN
+    2, // PR
+    5, // PRINT
+    2, // IF
+    4, // THEN
+    2, // DO
+    5, // UNTIL
+    3, // FOR
+    4, // STEP
+    4, // NEXT
+    5, // INPUT
+    3, // REM
+    3, // END
+    4, // STAT
+    3, // TOP
+    3, // MOD
+    3, // AND
+    2, // OR
+    3, // NOT
+    3, // NEW
+    5, // CLEAR
+    4, // LIST
+    3, // RUN
+    2, // <=
+    2, // >=
+    2, // <>
+    2, // #0
+    2, // #1
+    2, // #2
+    2, // #3
+    2, // #4
+    2, // #5
+    2, // #6
+    2, // #7
+    2, // #8
+    2, // #9
+    2, // #A
+    2, // #B
+    2, // #C
+    2, // #D
+    2, // #E
+    2, // #F
 ];
 
 // The most that is written behind a front part to end the word that it has begun.
@@ -81,6 +81,7 @@ const COMPLETION: usize = 5;
 // How much may come: a word takes a byte at least, and leaves at most three more of it.
 const DEPTH: usize = 3 * (LIMIT + COMPLETION) + 1;
 
+// Whether all words of a text are taken, as a line or as a command.
 fn is_taken(text: &[u8], commands: bool, stack: &mut [u8]) -> bool
     requires { ⌜ 3 * length (now text) < length (now stack) ⌝ }
     ensures answer { λ r. ⌜ r ≡ isAlive (lineRun (tableOf commands) (lineSymbol commands) (now (text .entry))) ⌝ }
@@ -141,7 +142,7 @@ fn lay(text: &mut [u8], n: usize, z: &[u8], i: usize) -> usize
 
 // Whether the first n bytes of a text end with the first i of a spelling, and with the others behind them all words are taken.
 fn begun_at(text: &mut [u8], n: usize, z: &[u8], i: usize, stack: &mut [u8]) -> bool
-    requires { ⌜ Spare (now text) n (now stack) × (i ≤ length (now z)) × (length (now z) ≤ i + 5) ⌝ }
+    requires { ⌜ Spare (now text) n (now stack) × (i ≤ length (now z)) × (length (now z) ≤ i + most) ⌝ }
     ensures answer { λ r. ⌜ r ≡ (endsWith (take i (now (z .entry))) (take n (now (text .entry))) && allTaken (take n (now (text .entry)) ++ drop i (now (z .entry)))) ⌝ }
     ensures text { λ r. ⌜ Kept (now (text .entry)) n (now (text .exit)) ⌝ }
     ensures size { λ r. ⌜ length (now (stack .exit)) ≡ length (now (stack .entry)) ⌝ }
@@ -153,8 +154,9 @@ fn begun_at(text: &mut [u8], n: usize, z: &[u8], i: usize, stack: &mut [u8]) -> 
     all_taken(&text[..to], stack)
 }
 
+// The same for as much of a spelling as it may be: from all but its last byte down to its first.
 fn begun_by(text: &mut [u8], n: usize, z: &[u8], stack: &mut [u8]) -> bool
-    requires { ⌜ Spare (now text) n (now stack) × (length (now z) ≤ 6) ⌝ }
+    requires { ⌜ Spare (now text) n (now stack) × (length (now z) ≤ longestKeyword) ⌝ }
     ensures answer { λ r. ⌜ r ≡ begunBy (take n (now (text .entry))) (now (z .entry)) (length (now (z .entry)) - 1) ⌝ }
     ensures text { λ r. ⌜ Kept (now (text .entry)) n (now (text .exit)) ⌝ }
     ensures size { λ r. ⌜ length (now (stack .exit)) ≡ length (now (stack .entry)) ⌝ }
@@ -169,8 +171,9 @@ fn begun_by(text: &mut [u8], n: usize, z: &[u8], stack: &mut [u8]) -> bool
     false
 }
 
+// The same for each of the spellings that stand one behind the other.
 fn begun_in(text: &mut [u8], n: usize, spelled: &[u8], lengths: &[u8], stack: &mut [u8]) -> bool
-    requires { ⌜ Spare (now text) n (now stack) × (total (now lengths) ≤ length (now spelled)) × (all (λ k. leb k 6) (now lengths) ≡ true) ⌝ }
+    requires { ⌜ Spare (now text) n (now stack) × (total (now lengths) ≤ length (now spelled)) × (all (λ k. leb k longestKeyword) (now lengths) ≡ true) ⌝ }
     ensures answer { λ r. ⌜ r ≡ begunIn (cut (now (spelled .entry)) (now (lengths .entry))) (take n (now (text .entry))) ⌝ }
     ensures text { λ r. ⌜ Kept (now (text .entry)) n (now (text .exit)) ⌝ }
     ensures size { λ r. ⌜ length (now (stack .exit)) ≡ length (now (stack .entry)) ⌝ }
@@ -188,6 +191,30 @@ fn begun_in(text: &mut [u8], n: usize, spelled: &[u8], lengths: &[u8], stack: &m
     false
 }
 
+fn flipped(odd: bool, b: u8) -> bool
+    ensures { λ r. ⌜ r ≡ (if eqb b byteQuote then not odd else odd) ⌝ }
+{
+    if b == nibl::QUOTE {
+        return !odd;
+    }
+    odd
+}
+
+// Whether the first n bytes of a text have an odd number of quotes: then they end within a string, and no rest of a word that
+// they may have begun matters.
+fn in_string(text: &[u8], n: usize) -> bool
+    requires { ⌜ n ≤ length (now text) ⌝ }
+    ensures { λ r. ⌜ r ≡ oddQuotes (take n (now (text .entry))) ⌝ }
+{
+    let mut odd = false;
+    let mut i = n;
+    while 0 < i {
+        i -= 1;
+        odd = flipped(odd, text[i]);
+    }
+    odd
+}
+
 // Whether a line that has a reading begins with the first n bytes of a text.
 fn is_front(text: &mut [u8], n: usize, stack: &mut [u8]) -> bool
     requires { ⌜ Spare (now text) n (now stack) ⌝ }
@@ -197,6 +224,9 @@ fn is_front(text: &mut [u8], n: usize, stack: &mut [u8]) -> bool
 {
     if all_taken(&text[..n], stack) {
         return true;
+    }
+    if in_string(text, n) {
+        return false;
     }
     begun_in(text, n, &SPELLED, &LENGTHS, stack)
 }

@@ -80,7 +80,8 @@ const LAST: u8 = LIST_NUMBER as u8;
 
 const FIRST_OPTIONAL: u8 = MORE_OF_RELATION as u8;
 
-// What may come after a word is one number: NOTHING, and a digit for each that may come, the first in the highest place.
+// What may come after a word is one number: a 1, and behind it a digit for each thing that may come, the first in the highest
+// place. So NOTHING is the 1 alone, and one thing is DIGIT and its number.
 const DIGIT: u32 = 32;
 
 const NOTHING: u32 = 1;

@@ -2,7 +2,7 @@
 -- front of a line (`stuck-bound`). Assumes nothing.
 use Prim.Native.Nat.{ℕ, zero, suc, _+_, _-_, _≤_, _<_}
 use mathlib.Core.Path.{_≡_, refl, sym, ap, _∙_, subst}
-use mathlib.Core.Bool.{Bool, true, false, not, _&&_, _||_}
+use mathlib.Core.Bool.{Bool, true, false, _&&_}
 use mathlib.Core.List.{List, [], _∷_, _++_, append-nil, append-assoc}
 use mathlib.Core.Option.{Option, none, some}
 use native.Mathlib.Omega.{arith}
@@ -14,7 +14,7 @@ use Rattle.nibl.specs.Bytes.{if_then_else_, isText, isCapital, starts, f
 use Rattle.nibl.specs.Words.{Token, keywords, commands, pairsWith, begins, noneOver, Word, spaced, keyword, letter, decimalDigits, hexDigits, quoted, pair, symbol}
 use Rattle.nibl.specs.Read.{Step, atEnd, wrong, got, stepIn}
 use Rattle.nibl.specs.GaveUp.{gaveUp}
-use Rattle.nibl.specs.Column.{sortOf, aText, turn, isSome, isRemark, isOpenString, Verdict, alive, stuck, isAlive, turned, wrongAt, byStep, advance, remarkAt, runN, lineRun, allTaken, spellings, endsWith, begunBy, begunIn, isFront, columnDown, columnOf, typedLine, typedCommand}
+use Rattle.nibl.specs.Column.{sortOf, aText, turn, isSome, isRemark, isOpenString, Verdict, alive, stuck, isAlive, turned, byStep, advance, remarkAt, runN, lineRun, allTaken, spellings, endsWith, begunBy, begunIn, isFront, columnDown, columnOf, typedLine, typedCommand}
 use Rattle.nibl.proofs.Keywords.{entries}
 use Rattle.nibl.proofs.Words.{if-split, and-left, and-right, word-sound, word-complete}
 use Rattle.nibl.proofs.Over.{word-short}
@@ -243,7 +243,7 @@ unfolding columnDown
 column-miss n s e = rw (e, columnDown)
 
 -- Fronts
-and-false : (a : Bool) → (a && false) ≡ false
+pub and-false : (a : Bool) → (a && false) ≡ false
 and-false true = refl
 and-false false = refl
 

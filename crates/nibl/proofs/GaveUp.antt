@@ -297,7 +297,7 @@ pub gave-up-word : (table : List (List ℕ)) (s : List ℕ) → stepIn table s �
 gave-up-word table s e n h l t p =
     let f = gave-up table s e n h l t in let g = word-complete table p in let z : _≡_ {A = ℕ} 0 1 = cc in omega arith
 
-quote-at : (table : List (List ℕ)) (b : ℕ) (s : List ℕ) → eqb b 34 ≡ true → wordGaveUp table b s ≡ length (past isQuotable s)
+pub quote-at : (table : List (List ℕ)) (b : ℕ) (s : List ℕ) → eqb b 34 ≡ true → wordGaveUp table b s ≡ length (past isQuotable s)
 unfolding wordGaveUp
 quote-at table b s e = rw (eqb-true b 34 e)
 

@@ -1,7 +1,6 @@
 -- `column::begun_by` meets its contract: from the most of the spelling down. Assumes nothing.
 use mathlib.Core.Path.{sym, _∙_}
 use native.Mathlib.Omega.{arith}
-use borrow.Author.Needs.{needs}
 use Rattle.column.proofs.Fronts.{kept-then, kept-spare, Beginning, beginning-first, beginning-hit, beginning-on, beginning-last}
 use Rattle.column.proofs.begun_by.Statement.{statement}
 use Rattle.column.proofs.begun_by.Tie as tie

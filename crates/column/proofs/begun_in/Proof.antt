@@ -2,7 +2,6 @@
 use Prim.Native.Nat.{_-_}
 use mathlib.Core.Path.{sym, _∙_}
 use native.Mathlib.Omega.{arith}
-use borrow.Author.Needs.{needs}
 use lib.ListN.{length, length-take}
 use Rattle.column.proofs.Fronts.{kept-then, kept-spare, Trying, trying-first, trying-within, short-at, spelling-at, trying-hit, trying-on, trying-last}
 use Rattle.column.proofs.begun_in.Statement.{statement}

@@ -1,7 +1,6 @@
 -- `column::ends_with` meets its contract: byte by byte. Assumes nothing.
 use Prim.Native.Nat.{_-_, _≤_}
 use native.Mathlib.Omega.{arith}
-use borrow.Author.Needs.{needs}
 use lib.ListN.{length}
 use Rattle.column.proofs.Fronts.{Ending, ends-short, ending-first, ending-on, ending-not, ending-last}
 use Rattle.column.proofs.ends_with.Statement.{statement}

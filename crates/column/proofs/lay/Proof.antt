@@ -1,8 +1,6 @@
 -- `column::lay` meets its contract: byte by byte. Assumes nothing.
 use Prim.Native.Nat.{_-_}
-use mathlib.Core.Path.{ap, _∙_}
 use native.Mathlib.Omega.{arith}
-use borrow.Author.Needs.{needs}
 use lib.ListN.{length}
 use Rattle.column.proofs.Fronts.{Laying, laying-first, laying-size, laying-room, laying-on, laying-end, laying-last}
 use Rattle.column.proofs.lay.Statement.{statement}

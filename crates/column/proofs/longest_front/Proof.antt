@@ -1,7 +1,6 @@
 -- `column::longest_front` meets its contract: from the longest front part down. Assumes nothing.
 use mathlib.Core.Path.{sym, _∙_}
 use native.Mathlib.Omega.{arith}
-use borrow.Author.Needs.{needs}
 use Rattle.column.proofs.Fronts.{Searching, searching-first, searching-spare, searching-hit, searching-on, searching-last}
 use Rattle.column.proofs.longest_front.Statement.{statement}
 use Rattle.column.proofs.longest_front.Tie as tie

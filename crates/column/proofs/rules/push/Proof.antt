@@ -1,6 +1,5 @@
 -- `rules::push` meets its contract: digit by digit. Assumes nothing.
 use native.Mathlib.Omega.{arith}
-use borrow.Author.Needs.{needs}
 use Rattle.column.proofs.Packed.{Pushing, pushing-first, pushing-some, pushing-on, pushing-last}
 use Rattle.column.proofs.rules.push.Statement.{statement}
 use Rattle.column.proofs.rules.push.Tie as tie

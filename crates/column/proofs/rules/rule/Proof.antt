@@ -1,5 +1,5 @@
 -- `rules::rule` meets its contract: the rules of the whole table, at what may come. Assumes nothing.
-use mathlib.Core.Path.{_≡_, sym}
+use mathlib.Core.Path.{_≡_}
 use native.Mathlib.Omega.{arith}
 use borrow.Author.Needs.{needs}
 use Rattle.column.specs.Rules.{ruleIn}

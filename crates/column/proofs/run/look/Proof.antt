@@ -2,9 +2,7 @@
 use mathlib.Core.Path.{subst}
 use borrow.Author.Needs.{needs}
 use Rattle.word.specs.Found.{tableOf, WordIs}
-use Rattle.word.specs.declared.Word.{Word}
-use Rattle.column.specs.Runs.{NextIs}
-use Rattle.column.proofs.Steps.{nextOf, next-is}
+use Rattle.column.proofs.Steps.{next-is}
 use Rattle.column.proofs.run.look.Statement.{statement}
 use Rattle.column.proofs.run.look.Tie as tie
 
