@@ -1,7 +1,7 @@
 -- Whether a text is the front of a line, a spelling and a byte at a time. Assumes nothing.
 use Prim.Native.Nat.{ℕ, zero, suc, _+_, _-_, _≤_, _<_, min, max}
 use mathlib.Core.Path.{_≡_, refl, sym, ap, _∙_}
-use mathlib.Core.Bool.{Bool, true, false, not, _&&_}
+use mathlib.Core.Bool.{Bool, true, false, _&&_}
 use mathlib.Core.List.{List, [], _∷_, _++_}
 use native.Mathlib.Nat.{add-zero}
 use native.Mathlib.Omega.{arith}
@@ -17,9 +17,8 @@ use Rattle.nibl.proofs.Bound.{begun-hit, begun-miss, begun-here, begun-later, f
 use Rattle.word.specs.Found.{tableOf}
 use Rattle.word.proofs.Runs.{at-byte}
 use Rattle.column.specs.Runs.{VerdictIs, lineSymbol}
-use Rattle.column.specs.Fronts.{cut, total, Spare, oddQuotes, Kept, bytesLeft, ReachIs, lastTried}
+use Rattle.column.specs.Fronts.{cut, total, Spare, Kept, bytesLeft, ReachIs, lastTried}
 use Rattle.column.specs.declared.run.Verdict.the-variants.{Alive, Stuck}
-use Rattle.column.proofs.Quotes.{odd-front}
 
 -- What a verdict says
 module _ {text : List ℕ} {v : Verdict} where
@@ -273,22 +272,6 @@ is-front-taken s e = sym (front-taken s (sym e))
 
 pub is-front-begun : (s : List ℕ) {b : Bool} → false ≡ allTaken s → b ≡ begunIn spellings s → b ≡ isFront s
 is-front-begun s e f = f ∙ sym (front-begun s (sym e))
-
-pub is-front-odd : (s : List ℕ) → false ≡ allTaken s → true ≡ oddQuotes s → false ≡ isFront s
-is-front-odd s e o = sym (odd-front s (sym o) (sym e))
-
--- Quotes, counted from the last on
-module _ (text : List ℕ) (n : ℕ) (l : n ≤ length text) where
-  pub quotes-first : false ≡ oddQuotes (drop n (take n text))
-  quotes-first = rw (drop-of-length-le (take n text) {i = n} (omega (arith, length-take-le n text l)))
-
-  pub quotes-on : {i : ℕ} {odd r : Bool} → 0 < i → i ≤ n → odd ≡ oddQuotes (drop i (take n text))
-      → r ≡ (if eqb (getD text (i - 1) 0) 34 then not odd else odd) → r ≡ oddQuotes (drop (i - 1) (take n text))
-  quotes-on {i} h m e f =
-      let d : i - 1 + 1 ≡ i = omega arith in
-      let g : drop (i - 1) (take n text) ≡ getD text (i - 1) 0 ∷ drop i (take n text)
-      = rw (getD-take n text (i - 1) 0 (omega arith), d) at (at-byte (take n text) (i - 1) (omega (arith, length-take-le n text l))) in
-      rw (g, ← e) f
 
 -- From the longest front part down
 pub record Searching (before : List ℕ) (from : ℕ) (bottom text stack : List ℕ) (n : ℕ) : Type 0 where

@@ -2,5 +2,4 @@ pub mod Packed
 pub mod Table
 pub mod Turns
 pub mod Steps
-pub mod Quotes
 pub mod Fronts

@@ -1,11 +1,8 @@
 -- What the contracts of the search for the column say, beyond the definition.
 use Prim.Native.Nat.{ℕ, _+_, _-_, _*_, _≤_, _<_, min}
 use mathlib.Core.Path.{_≡_}
-use mathlib.Core.Bool.{Bool, false, not}
 use mathlib.Core.List.{List, [], _∷_}
-use lib.Dec.{eqb}
 use lib.ListN.{length, take, drop}
-use Rattle.nibl.specs.Bytes.{if_then_else_, byteQuote}
 use Rattle.nibl.specs.Words.{keywords, commands}
 use Rattle.nibl.specs.Column.{typedLine, typedCommand, Verdict, alive, stuck, lineRun}
 
@@ -25,11 +22,6 @@ most = 5
 pub record Spare (text : List ℕ) (n : ℕ) (stack : List ℕ) : Type 0 where
   pub behind : n + most ≤ length text
   pub deep : 3 * length text < length stack
-
--- an odd number of quotes: the text ends within a string
-abbrev pub oddQuotes : List ℕ → Bool
-oddQuotes [] = false
-oddQuotes (b ∷ s) = if eqb b byteQuote then not (oddQuotes s) else oddQuotes s
 
 -- what stays of the text when it was tried whether its first n bytes are a front
 pub record Kept (text : List ℕ) (n : ℕ) (text' : List ℕ) : Type 0 where

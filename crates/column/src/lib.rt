@@ -4,17 +4,17 @@ use run::Verdict;
 use run::run;
 ghost use Prim.Native.Nat.{_+_, _-_, _*_, _≤_, _<_, max};
 ghost use mathlib.Core.Path.{_≡_};
-ghost use mathlib.Core.Bool.{true, not, _&&_};
+ghost use mathlib.Core.Bool.{true, _&&_};
 ghost use mathlib.Core.List.{_++_};
 ghost use lib.ListN.{length, take, drop};
 ghost use lib.Seq.{paste};
-ghost use lib.Dec.{leb, eqb};
-ghost use Rattle.nibl.specs.Bytes.{if_then_else_, byteQuote, all};
+ghost use lib.Dec.{leb};
+ghost use Rattle.nibl.specs.Bytes.{all};
 ghost use Rattle.nibl.specs.Column.{lineRun, isAlive, allTaken, endsWith, begunBy, begunIn, isFront, columnDown, columnOf};
 ghost use Rattle.nibl.specs.Calls.{limit};
 ghost use Rattle.word.specs.Found.{tableOf, longestKeyword};
 ghost use Rattle.column.specs.Runs.{lineSymbol};
-ghost use Rattle.column.specs.Fronts.{cut, total, most, Spare, Kept, oddQuotes, ReachIs, lastTried};
+ghost use Rattle.column.specs.Fronts.{cut, total, most, Spare, Kept, ReachIs, lastTried};
 
 mod rules;
 mod run;
@@ -191,30 +191,6 @@ fn begun_in(text: &mut [u8], n: usize, spelled: &[u8], lengths: &[u8], stack: &m
     false
 }
 
-fn flipped(odd: bool, b: u8) -> bool
-    ensures { λ r. ⌜ r ≡ (if eqb b byteQuote then not odd else odd) ⌝ }
-{
-    if b == nibl::QUOTE {
-        return !odd;
-    }
-    odd
-}
-
-// Whether the first n bytes of a text have an odd number of quotes: then they end within a string, and no rest of a word that
-// they may have begun matters.
-fn in_string(text: &[u8], n: usize) -> bool
-    requires { ⌜ n ≤ length (now text) ⌝ }
-    ensures { λ r. ⌜ r ≡ oddQuotes (take n (now (text .entry))) ⌝ }
-{
-    let mut odd = false;
-    let mut i = n;
-    while 0 < i {
-        i -= 1;
-        odd = flipped(odd, text[i]);
-    }
-    odd
-}
-
 // Whether a line that has a reading begins with the first n bytes of a text.
 fn is_front(text: &mut [u8], n: usize, stack: &mut [u8]) -> bool
     requires { ⌜ Spare (now text) n (now stack) ⌝ }
@@ -224,9 +200,6 @@ fn is_front(text: &mut [u8], n: usize, stack: &mut [u8]) -> bool
 {
     if all_taken(&text[..n], stack) {
         return true;
-    }
-    if in_string(text, n) {
-        return false;
     }
     begun_in(text, n, &SPELLED, &LENGTHS, stack)
 }

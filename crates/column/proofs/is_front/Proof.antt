@@ -4,7 +4,7 @@ use native.Mathlib.Omega.{arith}
 use borrow.Author.Needs.{needs}
 use lib.ListN.{length-take}
 use lib.Seq.{length-take-le}
-use Rattle.column.proofs.Fronts.{kept-all, is-front-taken, is-front-odd, is-front-begun}
+use Rattle.column.proofs.Fronts.{kept-all, is-front-taken, is-front-begun}
 use Rattle.column.proofs.is_front.Statement.{statement}
 use Rattle.column.proofs.is_front.Tie as tie
 
@@ -28,20 +28,6 @@ returns c =
     let e = c .before .before .before .all-taken .ensures in
     (is-front-taken _ (sym (c .if1 .taken) ∙ e .0), (kept-all _ _, e .1))
 
-in-string-requires : tie.Need-in-string-requires
-in-string-requires c κs = search needs
-
-same-length-3 : tie.Need-same-length-3
-same-length-3 c = search needs
-
-same-length-4 : tie.Need-same-length-4
-same-length-4 c = search needs
-
-returns-2 : tie.Need-returns-2
-returns-2 c =
-    let e = c .before .before .before .before .before .before .all-taken .ensures in
-    (is-front-odd _ (sym (c .before .before .before .if1 .left) ∙ e .0) (sym (c .if2 .taken) ∙ c .before .in-string .ensures), (kept-all _ _, e .1))
-
 slice-aggregate-begun-in : tie.Need-slice-aggregate-begun-in
 slice-aggregate-begun-in c = search needs
 
@@ -51,19 +37,19 @@ slice-aggregate-begun-in-2 c = search needs
 begun-in-requires : tie.Need-begun-in-requires
 begun-in-requires c κs = search needs
 
-same-length-5 : tie.Need-same-length-5
-same-length-5 c = search needs
+same-length-3 : tie.Need-same-length-3
+same-length-3 c = search needs
 
-same-length-6 : tie.Need-same-length-6
-same-length-6 c = search needs
+same-length-4 : tie.Need-same-length-4
+same-length-4 c = search needs
 
-returns-3 : tie.Need-returns-3
-returns-3 c =
-    let e = c .before .before .before .before .before .before .before .before .before .before .before .before .before .before .before .all-taken .ensures in
+returns-2 : tie.Need-returns-2
+returns-2 c =
+    let e = c .before .before .before .before .before .before .before .before .before .before .before .before .all-taken .ensures in
     let f = c .before .before .before .before .begun-in .ensures in
-    (is-front-begun _ (sym (c .before .before .before .before .before .before .before .before .before .before .before .before .if1 .left) ∙ e .0) (f .0), (f .1 .0, f .1 .1 ∙ e .1))
+    (is-front-begun _ (sym (c .before .before .before .before .before .before .before .before .before .if1 .left) ∙ e .0) (f .0), (f .1 .0, f .1 .1 ∙ e .1))
 
 pub is-front-spec : {M : Type 1} → statement M
 is-front-spec =
     tie.close
-    (tie.spec slice-reshare-prefix-all-taken slice-aggregate-all-taken all-taken-requires same-length same-length-2 returns in-string-requires same-length-3 same-length-4 returns-2 slice-aggregate-begun-in slice-aggregate-begun-in-2 begun-in-requires same-length-5 same-length-6 returns-3)
+    (tie.spec slice-reshare-prefix-all-taken slice-aggregate-all-taken all-taken-requires same-length same-length-2 returns slice-aggregate-begun-in slice-aggregate-begun-in-2 begun-in-requires same-length-3 same-length-4 returns-2)
