@@ -7,31 +7,32 @@ use mathlib.Core.Option.{Option, none, some}
 use native.Mathlib.Omega.{arith}
 use borrow.Author.Tests.{leb-true, le-leb, ne-eqb, eqb-false}
 use denote.Enum.Declared.{tagOf}
-use types.Run.{OneOf, miss}
+use types.Run.{OneOf}
 use lib.ListN.{length, take, drop}
-use lib.Seq.{sets, slice}
+use lib.Seq.{sets}
 use lib.Dec.{leb, eqb}
-use Rattle.nibl.specs.Bytes.{if_then_else_, isSpace, all}
-use Rattle.nibl.specs.Words.{Token, variable, hex, string, sign, keywords, commands, command}
-use Rattle.nibl.specs.Tree.{Stmt, Member, Typed, new, clear, run, delete, list, immediate}
-use Rattle.nibl.specs.Read.{Step, atEnd, got, Found, nothing, found, Reader, andThen, ifKey, orElse, onStep, choose, decimalOf, signOf, aSign, aDecimal, _>>=_, statement, endsMember, member, unread, reading, alone, storing, numbered, aloneStatement, commandCases, unnumbered, typed}
+use Rattle.nibl.specs.Bytes.{if_then_else_, isSpace, past, all}
+use Rattle.nibl.specs.Words.{sign, keywords, commands, command, spaced, keyword, pair, symbol}
+use Rattle.nibl.specs.Tree.{Stmt, Member, Typed, blank, new, clear, run, delete, list, immediate}
+use Rattle.nibl.specs.Read.{Step, stepIn, atEnd, Found, nothing, found, Reader, andThen, ifKey, orElse, onStep, choose, decimalOf, signOf, aSign, aDecimal, _>>=_, statement, endsMember, member, unread, reading, alone, storing, numbered, aloneStatement, commandCases, unnumbered, typed}
 use Rattle.nibl.specs.Calls.{needsProgram}
 use Rattle.nibl.proofs.Words.{if-split, and-left, and-right, all-true, true-all, word-sound, ended-sound, ended-complete}
-use Rattle.nibl.proofs.Lines.{typed-other}
+use Rattle.nibl.proofs.Rules.{W, it, Ok, nil, one}
+use Rattle.nibl.proofs.Lines.{C, command-same, typed-blank, typed-other}
 use Rattle.nibl.proofs.Whole.{uncommanded}
+use Rattle.nibl.proofs.Whole.{command-step as command-typed}
 use Rattle.word.specs.declared.Cursor.{Cursor}
 use Rattle.word.specs.declared.Word.{Word}
 use Rattle.word.specs.declared.Word.the-variants.{Variable, Decimal, Hex, Text, Sign, End, Wrong}
-use Rattle.word.specs.Found.{foundStep, WordIs}
+use Rattle.word.specs.Found.{foundStep, WordIs, mayCommand}
 use Rattle.word.proofs.Word.{the-type}
+use Rattle.word.proofs.Firsts.{front-stands}
 use Rattle.reader.specs.Code.{compile}
 use Rattle.reader.specs.Answers.{hasRoom, zeros, memberOps}
-use Rattle.line.specs.Answers.{listOf, isCommand, someNeed, kindOf, lineOps}
+use Rattle.line.specs.Answers.{listOf, isCommand, someNeed, kindOf, lineOps, plain}
 use Rattle.line.specs.declared.LineRead.{LineRead}
 use Rattle.line.specs.declared.LineRead.the-variants as line
-use Rattle.line.specs.declared.ListRead.{ListRead}
 use Rattle.line.specs.declared.ListRead.the-variants as lists
-use Rattle.line.proofs.ListRead.{the-type as the-list}
 use Rattle.line.proofs.Short.{member-short}
 use Rattle.line.proofs.Codes.{needs-exact, written-front}
 use Rattle.line.proofs.Lists.{First}
@@ -253,17 +254,15 @@ module _ (text : List ℕ) (w : Word) (h : WordIs commands text 0 w) where
   unnumbered-other ks n k = command-step (no-sign text w (λ j c e. n (subst (λ (q : Word). OneOf ks (tagOf the-type q)) e k)))
 
   module _ {k : ℕ} {c : Cursor} (e : w ≡ Sign k c) where
-    chosen-of : unnumbered text ≡ choose commandCases (λ t. aloneStatement text) k (drop (c .at) text)
-    chosen-of = command-step (ap (λ (q : Word). onStep (foundStep text q) signOf) e)
-
-    pub unnumbered-command : isCommand k ≡ true → unnumbered text ≡ choose commandCases unread k (drop (c .at) text)
-    unnumbered-command b =
+    pub typed-command : isCommand k ≡ true → typed text ≡ choose commandCases unread k (drop (c .at) text)
+    typed-command b =
         let l = leb-true (command "NEW") k (and-left (leb (command "NEW") k) (leb k (command "RUN")) b) in
         let m = leb-true k (command "RUN") (and-right (leb (command "NEW") k) (leb k (command "RUN")) b) in
-        chosen-of ∙ named (λ t. aloneStatement text) unread k (drop (c .at) text) l m
+        let s = word-sound commands text (drop (c .at) text) (sign k) (sym (h .same) ∙ ap (foundStep text) e) in
+        command-typed s ∙ named (λ t. aloneStatement text) unread k (drop (c .at) text) l m
 
     pub unnumbered-sign : isCommand k ≡ false → unnumbered text ≡ aloneStatement text
-    unnumbered-sign b = chosen-of ∙ unnamed (λ t. aloneStatement text) k (drop (c .at) text) (λ l m. beyond k l m b)
+    unnumbered-sign b = command-step (ap (λ (q : Word). onStep (foundStep text q) signOf) e) ∙ unnamed (λ t. aloneStatement text) k (drop (c .at) text) (λ l m. beyond k l m b)
 
 -- With a number
 pub numbered-blank : (m n : ℕ) (s : List ℕ) → all isSpace s ≡ true → line.Delete (record { 0 = n }) ≡ kindOf m (numbered n s)
@@ -280,29 +279,49 @@ module _ (m n : ℕ) (s : List ℕ) (e : all isSpace s ≡ false) where
   pub numbered-reads : {at : ℕ} → at ≡ m - length s → lists.Reads ≡ listOf (reading s) → line.Store (record { 0 = n }) (record { at = at }) ≡ kindOf m (numbered n s)
   numbered-reads a d = ap (λ (p : ℕ). line.Store (record { 0 = n }) (record { at = p })) a ∙ stored (reading s) d ∙ storing-of
 
-  unstored : (o : Option (List Member)) (r : ListRead) → r ≡ listOf o → OneOf (1 ∷ 2 ∷ []) (tagOf the-list r) → line.NoReading ≡ kindOf m (storing n s o)
-  unstored none r d k = refl
-  unstored (some ms) r d k = absurd (miss (1 ∷ 2 ∷ []) 0 tt (subst (λ (q : ListRead). OneOf (1 ∷ 2 ∷ []) (tagOf the-list q)) d k))
+  unstored : (o : Option (List Member)) → lists.NoReading ≡ listOf o → line.NoReading ≡ kindOf m (storing n s o)
+  unstored none d = refl
+  unstored (some ms) d = let z : _≡_ {A = ℕ} 0 1 = cc in absurd (omega arith)
 
-  pub numbered-none : (r : ListRead) → r ≡ listOf (reading s) → OneOf (1 ∷ 2 ∷ []) (tagOf the-list r) → line.NoReading ≡ kindOf m (numbered n s)
-  numbered-none r d k = unstored (reading s) r d k ∙ storing-of
+  pub numbered-none : lists.NoReading ≡ listOf (reading s) → line.NoReading ≡ kindOf m (numbered n s)
+  numbered-none d = unstored (reading s) d ∙ storing-of
 
--- Any line
-pub typed-number : (s : List ℕ) {t : List ℕ} {n : ℕ} → all isSpace s ≡ false → aDecimal s ≡ found n t → typed s ≡ numbered n t
-typed-number s b e = typed-other s b ∙ ap (λ (f : Found ℕ). orElse f numbered unnumbered s) e
+-- A line that is no command
+module _ (s : List ℕ) where
+  by-blank : {b : Bool} → all isSpace s ≡ b → plain s ≡ elim b [ true ↦ some blank | false ↦ orElse (aDecimal s) numbered aloneStatement s ]
+  by-blank e = ap (λ (b : Bool). elim b [ true ↦ some blank | false ↦ orElse (aDecimal s) numbered aloneStatement s ]) e
 
-pub typed-none : (s : List ℕ) → all isSpace s ≡ false → aDecimal s ≡ nothing → typed s ≡ unnumbered s
-typed-none s b e = typed-other s b ∙ ap (λ (f : Found ℕ). orElse f numbered unnumbered s) e
+  pub plain-blank : all isSpace s ≡ true → plain s ≡ some blank
+  plain-blank = by-blank
 
--- a word of the keywords' rule, which is no constant
-a-word : (text : List ℕ) (w : Word) → OneOf (0 ∷ 2 ∷ 3 ∷ 4 ∷ []) (tagOf the-type w) → (t : Token) × (u : List ℕ) × (foundStep text w ≡ got t u)
-a-word text (Variable v c) k = (variable v, drop (c .at) text, refl)
-a-word text (Decimal n c) k = absurd (miss (0 ∷ 2 ∷ 3 ∷ 4 ∷ []) 1 tt k)
-a-word text (Hex n c) k = (hex n, drop (c .at) text, refl)
-a-word text (Text i j c) k = (string (slice i j text), drop (c .at) text, refl)
-a-word text (Sign n c) k = (sign n, drop (c .at) text, refl)
-a-word text End k = absurd (miss (0 ∷ 2 ∷ 3 ∷ 4 ∷ []) 5 tt k)
-a-word text (Wrong c) k = absurd (miss (0 ∷ 2 ∷ 3 ∷ 4 ∷ []) 6 tt k)
+  pub plain-number : {t : List ℕ} {n : ℕ} → all isSpace s ≡ false → aDecimal s ≡ found n t → plain s ≡ numbered n t
+  plain-number b e = by-blank b ∙ ap (λ (f : Found ℕ). orElse f numbered aloneStatement s) e
 
-pub unnumbered-word : (text : List ℕ) (w : Word) → OneOf (0 ∷ 2 ∷ 3 ∷ 4 ∷ []) (tagOf the-type w) → WordIs keywords text 0 w → unnumbered text ≡ aloneStatement text
-unnumbered-word text w k h = let (t, u, e) = a-word text w k in uncommanded (word-sound keywords text u t (sym (h .same) ∙ e))
+  pub plain-none : all isSpace s ≡ false → aDecimal s ≡ nothing → plain s ≡ aloneStatement s
+  plain-none b e = by-blank b ∙ ap (λ (f : Found ℕ). orElse f numbered aloneStatement s) e
+
+  -- it is one where what has no number is no command
+  pub typed-plain : unnumbered s ≡ aloneStatement s → typed s ≡ plain s
+  typed-plain u = go (all isSpace s) refl
+    where
+      other : (f : Found ℕ) → orElse f numbered unnumbered s ≡ orElse f numbered aloneStatement s
+      other nothing = u
+      other (found n t) = refl
+
+      go : (b : Bool) → all isSpace s ≡ b → typed s ≡ plain s
+      go true e = typed-blank s e ∙ sym (by-blank e)
+      go false e = typed-other s e ∙ other (aDecimal s) ∙ sym (by-blank e)
+
+-- so it is where the first letters are no command's: what stands for a command there is a word of the keywords' rule too
+same-sign : {s t : List ℕ} {k : ℕ} → mayCommand (past isSpace s) ≡ false → C s (sign k) t → W s (sign k) t
+same-sign f (spaced c) = spaced (same-sign f c)
+same-sign f (keyword {c} {d} {k} {cs} {s} r) = absurd (false≢true (sym f ∙ front-stands (c ∷ d ∷ cs) s k (r .spelled)))
+same-sign f (pair h) = pair h
+same-sign f (symbol h n) = symbol h n
+
+pub unnumbered-front : (s : List ℕ) → mayCommand (past isSpace s) ≡ false → unnumbered s ≡ aloneStatement s
+unnumbered-front s f = go (it (command-same s)) refl
+  where
+    go : {g : Found ℕ} → Ok (λ k t. C s (sign k) t) g → onStep (stepIn commands s) signOf ≡ g → unnumbered s ≡ aloneStatement s
+    go nil e = ap (λ (g : Found ℕ). orElse g (choose commandCases (λ t. aloneStatement s)) aloneStatement s) e
+    go (one c) e = uncommanded (same-sign f c)

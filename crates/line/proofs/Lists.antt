@@ -213,12 +213,15 @@ module _ (n p : ℕ) where
   end-none (some ms) e = let z : _≡_ {A = ℕ} 0 1 = cc in absurd (omega arith)
 
 -- of a part
-module _ (text ops : List ℕ) (at : ℕ) (h : hasRoom text ops ≡ true) where
-  room-part : hasRoom (part text at) ops ≡ true
-  room-part = room-less text ops (part text at) ops h (omega (arith, ap length (part-rest text at), length-drop at text)) refl
+module _ (text : List ℕ) (at : ℕ) where
+  pub part-room : (ops : List ℕ) → hasRoom text ops ≡ true → hasRoom (part text at) ops ≡ true
+  part-room ops h = room-less text ops (part text at) ops h (omega (arith, ap length (part-rest text at), length-drop at text)) refl
 
-  pub part-list : {r : ListRead} → r ≡ (if hasRoom (part text at) ops then listOf (reading (part text at)) else lists.NoRoom) → r ≡ listOf (reading (drop at text))
-  part-list e = e ∙ rw (room-part, part-rest text at) refl
+  part-same : listOf (reading (part text at)) ≡ listOf (reading (drop at text))
+  part-same = ap (λ (s : List ℕ). listOf (reading s)) (part-rest text at)
 
-  pub part-zeros : {w : List ℕ} → w ≡ (if hasRoom (part text at) ops then zeros ops else ops) → w ≡ zeros ops
-  part-zeros e = e ∙ rw room-part refl
+  pub part-reads : {b : Bool} → ends.Met b ≡ membersOf false (length (part text at)) 0 (reading (part text at)) → lists.Reads ≡ listOf (reading (drop at text))
+  part-reads e = list-reads (length (part text at)) 0 (reading (part text at)) e ∙ part-same
+
+  pub part-fails : ends.NoReading ≡ membersOf false (length (part text at)) 0 (reading (part text at)) → lists.NoReading ≡ listOf (reading (drop at text))
+  part-fails e = list-fails (length (part text at)) 0 (reading (part text at)) e ∙ part-same

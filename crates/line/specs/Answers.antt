@@ -1,13 +1,14 @@
 -- What the readers of lists, lines and replies answer, and what they leave in the lent list of operations.
 use Prim.Native.Nat.{ℕ, _-_}
-use mathlib.Core.Bool.{Bool, false, _&&_, _||_}
+use mathlib.Core.Bool.{Bool, true, false, _&&_, _||_}
 use mathlib.Core.List.{List, [], _∷_}
 use mathlib.Core.Option.{Option, none, some}
-use lib.ListN.{length}
+use lib.ListN.{length, drop}
 use lib.Seq.{sets}
 use lib.Dec.{leb}
 use Rattle.nibl.specs.Tree.{Expr, Member, Typed, blank, new, clear, run, delete, list, store, immediate}
-use Rattle.nibl.specs.Read.{Found, nothing, found, Reader, give, may, _>>=_, read, relation}
+use Rattle.nibl.specs.Bytes.{isSpace, all}
+use Rattle.nibl.specs.Read.{Found, nothing, found, Reader, give, may, _>>=_, read, relation, aDecimal, orElse, choose, unread, numbered, aloneStatement, commandCases}
 use Rattle.nibl.specs.Words.{command}
 use Rattle.codes.specs.Codes.{codeIn, codeDo, codeInputString}
 use Rattle.nibl.specs.Page.{endsFrom, isAmong}
@@ -21,6 +22,8 @@ use Rattle.line.specs.declared.Ends.{Ends}
 use Rattle.line.specs.declared.Ends.the-variants as ends
 use Rattle.line.specs.declared.LineRead.{LineRead}
 use Rattle.line.specs.declared.LineRead.the-variants as line
+use Rattle.line.specs.declared.Front.{Front}
+use Rattle.line.specs.declared.Front.the-variants as front
 use Rattle.line.specs.declared.RelationRead.{RelationRead}
 use Rattle.line.specs.declared.RelationRead.the-variants as one
 
@@ -69,6 +72,14 @@ lineOps ops (some (delete k)) = zeros ops
 lineOps ops (some (list k)) = zeros ops
 lineOps ops (some (store k t ms)) = zeros ops
 lineOps ops (some (immediate q)) = sets ops 0 (compile q)
+
+-- a line that is no command, and any line by what stands at its front
+abbrev pub plain : List ℕ → Option Typed
+plain s = elim (all isSpace s) [ true ↦ some blank | false ↦ orElse (aDecimal s) numbered aloneStatement s ]
+
+abbrev pub byFront : List ℕ → Front → Option Typed
+byFront s (front.Command k c) = choose commandCases unread k (drop (c .at) s)
+byFront s front.Other = plain s
 
 -- one relation of a reply, and the comma behind it, if one stands there
 abbrev pub replying : Reader Expr

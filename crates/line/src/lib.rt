@@ -11,12 +11,12 @@ ghost use mathlib.Core.Path.{_≡_};
 ghost use mathlib.Core.Bool.{true, false};
 ghost use lib.ListN.{length, take, drop};
 ghost use Rattle.nibl.specs.Bytes.{if_then_else_, isSpace, all};
-ghost use Rattle.nibl.specs.Read.{aDecimal, orElse, unread, choose, reading, replied, numbered, aloneStatement, commandCases, unnumbered, typed};
+ghost use Rattle.nibl.specs.Read.{aDecimal, orElse, unread, choose, reading, replied, numbered, aloneStatement, commandCases, typed};
 ghost use Rattle.nibl.specs.Read.{alone as aloneAt};
 ghost use Rattle.nibl.specs.Tree.{list};
 ghost use Rattle.nibl.specs.Page.{endsOf, isAmong};
 ghost use Rattle.reader.specs.Answers.{hasRoom, zeros};
-ghost use Rattle.line.specs.Answers.{listOf, membersOf, isCommand, needing, someNeed, kindOf, lineOps, replying, relationOf, relationOps};
+ghost use Rattle.line.specs.Answers.{listOf, membersOf, isCommand, needing, someNeed, kindOf, lineOps, plain, byFront, replying, relationOf, relationOps};
 
 // A statement list, or the relations of a reply.
 pub enum ListRead {
@@ -51,6 +51,12 @@ pub enum RelationRead {
     Relation(usize, Cursor),
     NoReading,
     NoRoom,
+}
+
+// What stands at the front of a typed line: a command, by its number, with the cursor past it, or something else.
+pub enum Front {
+    Command(u8, Cursor),
+    Other,
 }
 
 // The members of a list, and whether one ends at the position asked for.
@@ -114,22 +120,11 @@ pub fn ends_member(text: &[u8], p: usize, ops: &mut [u32]) -> EndRead
     }
 }
 
-// Whether nothing but spaces follows.
-fn is_blank(text: &[u8], c: Cursor) -> bool
-    ensures { λ r. ⌜ r ≡ all isSpace (drop (c .at) (now (text .entry))) ⌝ }
-{
-    let w = word::word_at(text, c);
-    match w {
-        Word::End => true,
-        _ => false,
-    }
-}
-
 // What a line is, if nothing but spaces follows.
 fn alone(text: &[u8], c: Cursor, r: LineRead) -> LineRead
     ensures { λ l. ⌜ l ≡ (if all isSpace (drop (c .at) (now (text .entry))) then r else LineRead.NoReading) ⌝ }
 {
-    if is_blank(text, c) {
+    if word::is_blank(text, c) {
         return r;
     }
     LineRead::NoReading
@@ -206,39 +201,58 @@ fn immediate(text: &[u8], ops: &mut [u32]) -> LineRead
     LineRead::Immediate(n, needs_program(ops, n))
 }
 
-// A line with no number: a command or one statement.
-fn unnumbered_line(text: &[u8], ops: &mut [u32]) -> LineRead
-    requires { ⌜ hasRoom (now text) (now ops) ≡ true ⌝ }
-    ensures { λ r. ⌜ r ≡ kindOf (length (now (text .entry))) (unnumbered (now (text .entry))) ⌝ }
-    ensures { λ r. ⌜ now (ops .exit) ≡ lineOps (now (ops .entry)) (unnumbered (now (text .entry))) ⌝ }
-{
-    let w = word::command_at(text, Cursor { at: 0 });
-    let Word::Sign(k, c) = w else {
-        return immediate(text, ops);
-    };
-    if is_command(k) {
-        reader::clear(ops);
-        return command(text, k, c);
-    }
-    immediate(text, ops)
-}
-
 // A line with a number. What follows its last digit is the text, handed on from there without a copy.
 fn numbered_line(text: &[u8], n: LineNumber, c: Cursor, ops: &mut [u32]) -> LineRead
     requires { ⌜ (hasRoom (now text) (now ops) ≡ true) × (c .at ≤ length (now text)) ⌝ }
     ensures { λ r. ⌜ r ≡ kindOf (length (now (text .entry))) (numbered (n .0) (drop (c .at) (now (text .entry)))) ⌝ }
     ensures { λ r. ⌜ now (ops .exit) ≡ zeros (now (ops .entry)) ⌝ }
 {
-    if is_blank(text, c) {
+    if word::is_blank(text, c) {
         reader::clear(ops);
         return LineRead::Delete(n);
     }
     let at = c.at;
-    let l = read_list(&text[at..], ops);
-    match l {
-        ListRead::Reads => LineRead::Store(n, c),
+    let m = members(&text[at..], 0, ops);
+    reader::clear(ops);
+    match m {
+        Ends::Met(_) => LineRead::Store(n, c),
         _ => LineRead::NoReading,
     }
+}
+
+// A line that is no command: nothing, a line with a number, or one statement.
+fn plain_line(text: &[u8], ops: &mut [u32]) -> LineRead
+    requires { ⌜ hasRoom (now text) (now ops) ≡ true ⌝ }
+    ensures { λ r. ⌜ r ≡ kindOf (length (now (text .entry))) (plain (now (text .entry))) ⌝ }
+    ensures { λ r. ⌜ now (ops .exit) ≡ lineOps (now (ops .entry)) (plain (now (text .entry))) ⌝ }
+{
+    let w = word::word_at(text, Cursor { at: 0 });
+    match w {
+        Word::End => {
+            reader::clear(ops);
+            LineRead::Blank
+        }
+        Word::Decimal(n, c) => numbered_line(text, LineNumber(n), c, ops),
+        _ => immediate(text, ops),
+    }
+}
+
+// The command at the front of a line, if one stands there. It is asked for first: where one stands no keyword begins, and
+// to find that none does costs more than all the rest. A look at three letters keeps other lines from asking.
+fn at_front(text: &[u8]) -> Front
+    ensures { λ r. ⌜ typed (now (text .entry)) ≡ byFront (now (text .entry)) r ⌝ }
+{
+    if !word::may_command(text, Cursor { at: 0 }) {
+        return Front::Other;
+    }
+    let w = word::command_at(text, Cursor { at: 0 });
+    let Word::Sign(k, c) = w else {
+        return Front::Other;
+    };
+    if is_command(k) {
+        return Front::Command(k, c);
+    }
+    Front::Other
 }
 
 // What a typed line is. The operations of an immediate statement stand from 0 on, with zeros for any other line.
@@ -249,17 +263,12 @@ pub fn read_line(text: &[u8], ops: &mut [u32]) -> LineRead
     if !reader::has_room(text, ops) {
         return LineRead::NoRoom;
     }
-    let w = word::word_at(text, Cursor { at: 0 });
-    match w {
-        Word::End => {
-            reader::clear(ops);
-            LineRead::Blank
-        }
-        Word::Decimal(n, c) => numbered_line(text, LineNumber(n), c, ops),
-        // where a command stands no keyword begins, so it is looked for only where no word stands
-        Word::Wrong(_) => unnumbered_line(text, ops),
-        _ => immediate(text, ops),
-    }
+    let f = at_front(text);
+    let Front::Command(k, c) = f else {
+        return plain_line(text, ops);
+    };
+    reader::clear(ops);
+    command(text, k, c)
 }
 
 // The last relation of a reply: what stands behind a comma after it is ignored.
@@ -271,7 +280,7 @@ fn last_relation(text: &[u8], at: usize, ops: &mut [u32]) -> ListRead
     let Made::Next(c, _) = r else {
         return ListRead::NoReading;
     };
-    if is_blank(text, c) {
+    if word::is_blank(text, c) {
         return ListRead::Reads;
     }
     let s = relation::past_sign(text, r, sign::COMMA);

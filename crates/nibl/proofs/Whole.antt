@@ -204,7 +204,7 @@ command-undecimal {s} c =
     let e = word-unique commands c (retabled keywords commands refl w) .0 in
     let z : _≡_ {A = ℕ} 0 1 = cc in omega arith)
 
-command-step : {s t : List ℕ} {k : ℕ} → C s (sign k) t → typed s ≡ choose commandCases (λ u. aloneStatement s) k t
+pub command-step : {s t : List ℕ} {k : ℕ} → C s (sign k) t → typed s ≡ choose commandCases (λ u. aloneStatement s) k t
 command-step {s} c = typed-other s (word-unspaced commands c) ∙ rw (command-undecimal c, word-complete commands c)
 
 -- nor the beginning of a statement: where a command stands, no keyword begins

@@ -117,9 +117,12 @@ module _ (p : ℕ → Bool) (text : List ℕ) where
   pub end-stop : (i : ℕ) → starts p (drop i text) ≡ false → runEnd p text i ≡ i
   end-stop i e = rw (front-stop p (drop i text) e) (omega arith)
 
-  -- what follows the run that starts at `from`, where a later end is known to be its end and the run to stop there
+  -- the run that starts at `from` ends where a later one is known to end with it and to stop; and what follows it
+  pub end-here : (from i : ℕ) → runEnd p text i ≡ runEnd p text from → starts p (drop i text) ≡ false → i ≡ runEnd p text from
+  end-here from i e f = sym (end-stop i f) ∙ e
+
   pub rest-stop : (from i : ℕ) → runEnd p text i ≡ runEnd p text from → starts p (drop i text) ≡ false → past p (drop from text) ≡ drop i text
-  rest-stop from i e f = rest-at from i (sym (end-stop i f) ∙ e)
+  rest-stop from i e f = rest-at from i (end-here from i e f)
 
   -- a byte that passes makes a run
   pub run-cons : (from : ℕ) → from < length text → p (getD text from 0) ≡ true → front p (drop from text) ≡ getD text from 0 ∷ front p (drop (from + 1) text)

@@ -1,10 +1,10 @@
 -- What the contracts of the word reader say, beyond the definition of words.
 use Prim.Native.Nat.{ℕ, zero, suc, _+_, _-_, _*_, _/_, _%_, _≤_, _<_}
 use mathlib.Core.Path.{_≡_}
-use mathlib.Core.Bool.{Bool, true, false, _||_}
+use mathlib.Core.Bool.{Bool, true, false, not, _&&_, _||_}
 use mathlib.Core.List.{List, [], _∷_, map}
 use lib.Dec.{eqb, leb}
-use lib.ListN.{length, drop}
+use lib.ListN.{length, take, drop}
 use lib.Seq.{slice}
 use Rattle.nibl.specs.Bytes.{if_then_else_, classSpace, classCapital, isSpace, isDigit, isCapital, isHexDigit, isQuotable, front, past, decimalValue, byte}
 use Rattle.nibl.specs.Words.{variable, decimal, hex, string, sign, keywords, commands, isSymbol, firstKeyword, number}
@@ -92,6 +92,16 @@ tableOf false = keywords
 
 abbrev pub keysOf : Bool → List ℕ
 keysOf b = map keyOf (tableOf b)
+
+-- a command's first three letters, as one number; and whether those of a text are a command's
+abbrev pub fronts : List ℕ
+fronts = map (λ (w : List ℕ). keyOf (take 3 w)) commands
+
+abbrev pub mayCommand : List ℕ → Bool
+mayCommand [] = false
+mayCommand (a ∷ []) = false
+mayCommand (a ∷ b ∷ []) = false
+mayCommand (a ∷ b ∷ c ∷ s) = isCapital a && not (eqb (keyIndex firstKeyword fronts (keyOf (a ∷ b ∷ c ∷ []))) 0)
 
 abbrev pub hexDigit : ℕ → ℕ
 hexDigit d = if isDigit d then d - byte "0" else d - byte "A" + 10

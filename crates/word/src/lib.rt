@@ -5,10 +5,10 @@ ghost use mathlib.Core.Path.{_≡_};
 ghost use mathlib.Core.Bool.{true};
 ghost use lib.ListN.{length, take, drop, getD};
 ghost use lib.Seq.{slice};
-ghost use Rattle.nibl.specs.Bytes.{isDigit, isCapital, isHexDigit, isSpace, isQuotable, starts, front, past};
+ghost use Rattle.nibl.specs.Bytes.{isDigit, isCapital, isHexDigit, isSpace, isQuotable, starts, front, past, all};
 ghost use Rattle.nibl.specs.Words.{keywords, commands, isSymbol, pairs, numberOr, firstKeyword};
 ghost use Rattle.nibl.specs.GaveUp.{mostCommon};
-ghost use Rattle.word.specs.Found.{passing, keyOf, longestKeyword, keyIndex, keyCommon, mostKey, tableOf, keysOf, hexDigit, firstOf};
+ghost use Rattle.word.specs.Found.{passing, keyOf, longestKeyword, keyIndex, keyCommon, mostKey, tableOf, keysOf, hexDigit, firstOf, mayCommand};
 ghost use Rattle.word.specs.Found.{AnswerIs, WordIs, lettersAt, lettersLeft, decimalAt, decimalLeft, hexAt, quotedAt, quotedLeft, symbolAt};
 
 pub mod sign;
@@ -78,6 +78,16 @@ const COMMANDS: [u64; 4] = [
     0x57454e, // NEW
     0x5241454c43, // CLEAR
     0x5453494c, // LIST
+    0x4e5552, // RUN
+];
+
+// So many letters tell a command from every statement, NEW from NEXT too. And those letters of each command.
+const FRONT: usize = 3;
+
+const COMMAND_FRONTS: [u64; 4] = [
+    0x57454e, // NEW
+    0x454c43, // CLE
+    0x53494c, // LIS
     0x4e5552, // RUN
 ];
 
@@ -388,13 +398,20 @@ fn symbol(text: &[u8], from: usize) -> Word
     Word::Sign(a, Cursor { at: n })
 }
 
-// The word at a cursor, past any spaces, by the keywords or by the commands.
+// The word at a cursor, past any spaces, by the keywords or by the commands. Every word is read here, so the loop over the
+// spaces answers by itself where the text ends: nothing is tested twice.
 fn word_in(text: &[u8], from: usize, commands: bool) -> Word
     ensures { λ r. ⌜ WordIs (tableOf commands) (now (text .entry)) from r ⌝ }
 {
-    let i = run_end(text, from, class::SPACE);
-    if text.len() <= i {
-        return Word::End;
+    let mut i = from;
+    loop {
+        if text.len() <= i {
+            return Word::End;
+        }
+        if !letter::is_space(text[i]) {
+            break;
+        }
+        i += 1;
     }
     let b = text[i];
     match letter::class_by_range(b) {
@@ -436,4 +453,31 @@ pub fn first_at(text: &[u8], c: Cursor) -> u8
         return 0;
     }
     text[i]
+}
+
+// Whether nothing but spaces stands from a cursor on.
+pub fn is_blank(text: &[u8], c: Cursor) -> bool
+    ensures { λ r. ⌜ r ≡ all isSpace (drop (c .at) (now (text .entry))) ⌝ }
+{
+    let from = c.at;
+    let i = run_end(text, from, class::SPACE);
+    if text.len() <= i {
+        return true;
+    }
+    false
+}
+
+// Whether a command may stand at a cursor, past any spaces, by its first letters: at less cost than a look for the word.
+pub fn may_command(text: &[u8], c: Cursor) -> bool
+    ensures { λ r. ⌜ r ≡ mayCommand (past isSpace (drop (c .at) (now (text .entry)))) ⌝ }
+{
+    let from = c.at;
+    let i = run_end(text, from, class::SPACE);
+    if !letter_at(text, i) {
+        return false;
+    }
+    if text.len() - i < FRONT {
+        return false;
+    }
+    index_of(&COMMAND_FRONTS, key(text, i, i + FRONT)) != 0
 }
