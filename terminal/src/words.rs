@@ -21,7 +21,7 @@ pub fn sentence(reply: &Reply) -> String {
     said
 }
 
-/// The stop in words. A line whose column is less than an over-long one's is none.
+/// The stop in words. A line whose column is less than an over-long one's is not over-long.
 fn reason(reply: &Reply) -> String {
     match (reply.stop, reply.column) {
         (Stop::NoReading, column) if column < LINE_MOST => {

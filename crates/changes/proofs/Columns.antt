@@ -24,6 +24,7 @@ use Rattle.demands.specs.Leaves.{lineTakenAt, spotOf}
 use Rattle.demands.proofs.Ways.{Takes, refused, noCR, overlong, unread, reads, every-line, Continues, refused′, continues, every-continue}
 use Rattle.demands.proofs.Fixed.{unread-takes-the-line}
 use Rattle.demands.proofs.Five.{five-takes-only-the-line}
+use Rattle.changes.specs.Pointed.{Pointed}
 
 abbrev NoColumn : Outcome → Type 0
 NoColumn o = o .answer .column ≡ 0
@@ -101,3 +102,14 @@ module _ (x : Lent) where
   pub spot-exact : Sized (x .session) → takeLine x .answer .stop ≡ 5 → (g : Gathered) → gatheredLine limit x ≡ some g → g .line .long ≡ false
       → IsColumn (g .line .bytes) (takeLine x .answer .column)
   spot-exact s e g h l = subst (IsColumn (g .line .bytes)) (sym (column-at-5 s e g h ∙ rw l refl)) (column-exact (g .line .bytes))
+
+  -- every 5 points: a line was gathered, and the column is its
+  pub five-points : Sized (x .session) → takeLine x .answer .stop ≡ 5 → Pointed x (takeLine x .answer .column)
+  five-points s e =
+      let t = five-takes-only-the-line x s e in
+      record {
+        gathered = t .gathered;
+        line = t .line;
+        overLong = λ l. column-at-5 s e (t .gathered) (t .line) ∙ rw l refl;
+        exact = spot-exact s e (t .gathered) (t .line);
+      }

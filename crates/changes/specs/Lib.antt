@@ -2,3 +2,4 @@ pub mod Kept
 pub mod OneWord
 pub mod Together
 pub mod Spots
+pub mod Pointed

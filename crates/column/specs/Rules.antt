@@ -15,15 +15,15 @@ unpacked zero k xs = xs
 unpacked (suc n) k xs = if leb k 1 then xs else unpacked n (k / 32) (k % 32 ∷ xs)
 
 -- the most that may come after a word
-abbrev pub most : ℕ
-most = 4
+abbrev pub mostAfter : ℕ
+mostAfter = 4
 
 -- a rule is one number: the word, and what may come after it
 abbrev pub afters : ℕ
 afters = 2097152
 
 abbrev pub unpackedRule : ℕ → ℕ × List ℕ
-unpackedRule n = (n / afters, unpacked most (n % afters) [])
+unpackedRule n = (n / afters, unpacked mostAfter (n % afters) [])
 
 abbrev pub ruleIn : List ℕ → ℕ → ℕ
 ruleIn [] k = 0
@@ -31,7 +31,7 @@ ruleIn (n ∷ ns) k = if eqb k (n / afters) then n % afters else ruleIn ns k
 
 -- 0 for no rule
 abbrev pub through : ℕ → List ℕ → Option (List ℕ)
-through n xs = if eqb n 0 then none else some (unpacked most n xs)
+through n xs = if eqb n 0 then none else some (unpacked mostAfter n xs)
 
 pub record RuleIs (x k r : ℕ) : Type 0 where
   pub same : through r [] ≡ caseIn (casesOf x) k
@@ -44,7 +44,7 @@ pub record SeekIs (stack : List ℕ) (top k : ℕ) (r : Turn) : Type 0 where
   pub inside : 0 < r .after → r .at < length stack
 
 pub record Pushed (stack : List ℕ) (top after : ℕ) (stack' : List ℕ) (r : ℕ) : Type 0 where
-  pub same : drop r stack' ≡ unpacked most after (drop top stack)
-  pub low : top ≤ r + most
+  pub same : drop r stack' ≡ unpacked mostAfter after (drop top stack)
+  pub low : top ≤ r + mostAfter
   pub high : r ≤ top
   pub size : length stack' ≡ length stack

@@ -263,7 +263,8 @@ spellings =
 abbrev pub endsWith : List ℕ → List ℕ → Bool
 endsWith a s = leb (length a) (length s) && same a (drop (length s - length a) s)
 
--- the text ends with the first i bytes of the spelling, or with fewer but one, and with the others behind it all its words are taken
+-- the text ends with the first i bytes of the spelling, or with fewer of them but at least one, and with the others behind it all its
+-- words are taken
 unfoldable pub begunBy : List ℕ → List ℕ → ℕ → Bool
 begunBy s z zero = false
 begunBy s z (suc i) = elim (endsWith (take (suc i) z) s && allTaken (s ++ drop (suc i) z)) [ true ↦ true | false ↦ begunBy s z i ]

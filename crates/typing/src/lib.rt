@@ -97,6 +97,7 @@ fn obey(
             let column = column::column_of(typed);
             ending::refused(column as u16, session, inpos, outpos)
         }
+        // no typed line lacks room: see `read_typed`
         LineRead::NoRoom => ending::stopped(5, session, inpos, outpos),
     }
 }

@@ -1,0 +1,15 @@
+-- What the column of a refused line says of the line that was gathered.
+use Prim.Native.Nat.{ℕ}
+use mathlib.Core.Path.{_≡_}
+use mathlib.Core.Bool.{true, false}
+use mathlib.Core.Option.{some}
+use Rattle.nibl.specs.Typing.{Gathered}
+use Rattle.nibl.specs.Fronts.{IsColumn}
+use Rattle.nibl.specs.Calls.{Lent, limit}
+use Rattle.demands.specs.Lent.{gatheredLine}
+
+pub record Pointed (x : Lent) (column : ℕ) : Type 0 where
+  pub gathered : Gathered
+  pub line : gatheredLine limit x ≡ some gathered
+  pub overLong : gathered .line .long ≡ true → column ≡ limit
+  pub exact : gathered .line .long ≡ false → IsColumn (gathered .line .bytes) column
