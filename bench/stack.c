@@ -107,6 +107,7 @@ int main(void) {
     fill();
     show("a line stored on a full page", typed("1000 A=A+2:PRINT A,B,\"X\",C\r", 0));
     show("LIST of a full page", typed("LIST\r", 0));
+    show("a refused line, its spot found", typed("PRINT A,B,\"X\",C;D\r", 0));
     start();
     store("10 FOR I=1 TO 3:GOSUB 100:NEXT I:INPUT A,B:PRINT A,B,\"X\",C:END\r");
     store("100 DO:A=A+1:UNTIL A>3:RETURN\r");

@@ -284,13 +284,19 @@ fn alone(line: &[u8]) -> u16 {
     take(&mut [END_MARK[0]; 128], Record::default(), line)
 }
 
-/// Lines for it: two that are refused, whose spots take long to find, and some that are not.
+/// Lines for it: three that are refused, of which the second's spot takes long to find, and some that are not.
 const ALONE: [(&str, &str); 7] = [
-    ("14a", "A=B AND C AND D AND E AND F AND G AND H AND I AND J AND K AND L AND M AN\r"),
-    ("14b", "A \"A STRING WHERE NONE MAY STAND, AS LONG AS A LINE CAN BE MADE BY DIGITS\"\r"),
-    ("14c", "PRIMT A\r"),
-    ("14d", "A=A+1\r"),
-    ("14e", "PRINT;A\r"),
+    ("14a", "PRIMT A\r"),
+    (
+        "14b",
+        "10 IF A=1 IF B=1 IF C=1 IF D=1 X \"#####################################\"\r",
+    ),
+    (
+        "14c",
+        "A=B AND C AND D AND E AND F AND G AND H AND I AND J AND K AND L AND M AN\r",
+    ),
+    ("14d", "LET B=A*2\r"),
+    ("14e", "A=A+1\r"),
     ("14f", "LIST 10\r"),
     ("14g", "10 IF A>B GOTO 10\r"),
 ];
