@@ -5,3 +5,4 @@ pub mod RunTogether
 pub mod Together
 pub mod Spots
 pub mod Columns
+pub mod GaveUp
