@@ -17,17 +17,11 @@ use Rattle.nibl.specs.GaveUp.{common, mostCommon, pastLargest, wordGaveUp, gave
 use Rattle.nibl.proofs.Tests.{if-split, and-left, and-right, between, true-all, front-all, front-past, front-run}
 use Rattle.nibl.proofs.Keywords.{entries, same-self, over-all}
 use Rattle.nibl.proofs.GaveUp.{gave-up-within, most-short}
+use Rattle.changes.specs.Pointed.{GoesOn}
 
 -- a keyword has two letters or more
 abbrev pub isSpelling : List ℕ → Bool
 isSpelling w = leb 2 (length w) && all isCapital w
-
--- the text s goes on to one that begins with a word
-pub record GoesOn (table : List (List ℕ)) (s : List ℕ) : Type 0 where
-  pub rest : List ℕ
-  pub word : Token
-  pub after : List ℕ
-  pub begun : Word table (s ++ rest) word after
 
 -- Digits: those before the one that passes 32,767
 record Fits (v : ℕ) (s r : List ℕ) : Type 0 where
