@@ -80,13 +80,13 @@ someAfter n = ltb 0 (n % afters)
 part-some : (x : ℕ) → x < 29 → all someAfter (part x) ≡ true
 part-some = same-values (λ x. all someAfter (part x)) (λ x. true) true 29 refl
 
-pub part-within : (x : ℕ) → x < 29 → (getD firsts x 0 ≤ getD firsts (x + 1) 0) × (getD firsts (x + 1) 0 ≤ 88)
+pub part-within : (x : ℕ) → x < 29 → (getD firsts x 0 ≤ getD firsts (x + 1) 0) × (getD firsts (x + 1) 0 ≤ length table)
 part-within x h =
     let a = leb (getD firsts x 0) (getD firsts (x + 1) 0) in
-    let b = leb (getD firsts (x + 1) 0) 88 in
+    let b = leb (getD firsts (x + 1) 0) (length table) in
     let e : a && b ≡ true
-    = same-values (λ y. leb (getD firsts y 0) (getD firsts (y + 1) 0) && leb (getD firsts (y + 1) 0) 88) (λ y. true) true 29 refl x h in
-    (leb-true (getD firsts x 0) (getD firsts (x + 1) 0) (and-left a b e), leb-true (getD firsts (x + 1) 0) 88 (and-right a b e))
+    = same-values (λ y. leb (getD firsts y 0) (getD firsts (y + 1) 0) && leb (getD firsts (y + 1) 0) (length table)) (λ y. true) true 29 refl x h in
+    (leb-true (getD firsts x 0) (getD firsts (x + 1) 0) (and-left a b e), leb-true (getD firsts (x + 1) 0) (length table) (and-right a b e))
 
 -- a rule is found among numbers as among cases, and where it is not, among the cases behind them
 abbrev foundOr : ℕ → Cases → ℕ → Option (List ℕ)
