@@ -1,22 +1,29 @@
 -- The table of the rules is the definition's, by computation. Assumes nothing.
-use Prim.Native.Nat.{ℕ, zero, suc, _+_, _*_, _/_, _%_, _≤_, _<_}
+use Prim.Native.Nat.{ℕ, zero, suc, _+_, _-_, _*_, _/_, _%_, _≤_, _<_}
 use mathlib.Core.Path.{_≡_, refl, sym, ap, _∙_}
 use mathlib.Core.Bool.{Bool, true, false, _&&_}
 use mathlib.Core.List.{List, [], _∷_, _++_, map}
-use mathlib.Core.Option.{some}
+use mathlib.Core.Option.{Option, some}
 use native.Mathlib.Omega.{arith}
 use native.Mathlib.Nat.{zero-add, add-zero, add-suc, suc-add}
-use borrow.Author.Tests.{leb-true, ltb-true, ne-eqb}
+use borrow.Author.Tests.{leb-true, ltb-true, eq-eqb, ne-eqb}
 use lib.Dec.{eqb, leb, ltb}
-use lib.ListN.{length, getD}
+use lib.ListN.{length, getD, take}
 use lib.Seq.{slice}
 use Rattle.nibl.specs.Bytes.{if_then_else_, all}
 use Rattle.nibl.specs.Read.{choose}
-use Rattle.nibl.specs.Column.{Cases, rules, casesOf, caseIn}
+use Rattle.nibl.specs.Column.{Cases, factor, firstFactor, target, statement, consequence, typedLine, rules, casesOf, caseIn}
 use Rattle.nibl.proofs.Words.{and-left, and-right}
-use Rattle.column.specs.Rules.{afters, unpackedRule, ruleIn, through, RuleIs}
+use Rattle.column.specs.Rules.{unpacked, mostAfter, afters, unpackedRule, ruleIn, RuleIs}
 
--- the code's two tables: they are compared entry by entry where the code's proof cites the rule
+-- whose rules x has too, and its own: those before them
+abbrev also : ℕ → ℕ
+also x = choose ((firstFactor, factor) ∷ (statement, target) ∷ (consequence, statement) ∷ (typedLine, statement) ∷ []) 0 x
+
+abbrev own : ℕ → Cases
+own x = take (length (casesOf x) - length (casesOf (also x))) (casesOf x)
+
+-- the code's three tables: they are compared entry by entry where the code's proof cites the rule
 abbrev packed : ℕ → List ℕ → ℕ
 packed n [] = n
 packed n (x ∷ xs) = packed (n * 32 + x) xs
@@ -26,14 +33,14 @@ packedRule c = c .0 * afters + packed 1 (c .1)
 
 abbrev rulesFrom : ℕ → ℕ → List ℕ
 rulesFrom x zero = []
-rulesFrom x (suc n) = map packedRule (casesOf x) ++ rulesFrom (suc x) n
+rulesFrom x (suc n) = map packedRule (own x) ++ rulesFrom (suc x) n
 
 abbrev pub table : List ℕ
 table = rulesFrom 0 29
 
 abbrev firstsFrom : ℕ → ℕ → ℕ → List ℕ
 firstsFrom i x zero = []
-firstsFrom i x (suc n) = i ∷ firstsFrom (i + length (casesOf x)) (suc x) n
+firstsFrom i x (suc n) = i ∷ firstsFrom (i + length (own x)) (suc x) n
 
 abbrev pub firsts : List ℕ
 firsts = firstsFrom 0 0 30
@@ -56,8 +63,16 @@ module _ {A : Type 0} where
   same-values : (f g : ℕ → A) (d : A) (n : ℕ) → values f 0 n ≡ values g 0 n → (k : ℕ) → k < n → f k ≡ g k
   same-values f g d n e k h = ap f (sym (zero-add k)) ∙ sym (at-value f d 0 n k h) ∙ ap (λ (l : List A). getD l k d) e ∙ at-value g d 0 n k h ∙ ap g (zero-add k)
 
-part-read : (x : ℕ) → x < 29 → map unpackedRule (part x) ≡ casesOf x
-part-read = same-values (λ x. map unpackedRule (part x)) casesOf [] 29 refl
+abbrev pub alsos : List ℕ
+alsos = values also 0 29
+
+part-read : (x : ℕ) → x < 29 → map unpackedRule (part x) ++ casesOf (getD alsos x 0) ≡ casesOf x
+part-read = same-values (λ x. map unpackedRule (part x) ++ casesOf (getD alsos x 0)) casesOf [] 29 refl
+
+pub also-less : (x : ℕ) → 0 < x → x < 29 → getD alsos x 0 < x
+also-less zero p h = absurd (omega arith)
+also-less (suc y) p h =
+    ltb-true (getD alsos (suc y) 0) (suc y) (same-values (λ z. ltb (getD alsos (suc z) 0) (suc z)) (λ z. true) true 28 refl y (omega arith))
 
 abbrev someAfter : ℕ → Bool
 someAfter n = ltb 0 (n % afters)
@@ -65,21 +80,24 @@ someAfter n = ltb 0 (n % afters)
 part-some : (x : ℕ) → x < 29 → all someAfter (part x) ≡ true
 part-some = same-values (λ x. all someAfter (part x)) (λ x. true) true 29 refl
 
-pub part-within : (x : ℕ) → x < 29 → (getD firsts x 0 ≤ getD firsts (x + 1) 0) × (getD firsts (x + 1) 0 ≤ 139)
+pub part-within : (x : ℕ) → x < 29 → (getD firsts x 0 ≤ getD firsts (x + 1) 0) × (getD firsts (x + 1) 0 ≤ length table)
 part-within x h =
     let a = leb (getD firsts x 0) (getD firsts (x + 1) 0) in
-    let b = leb (getD firsts (x + 1) 0) 139 in
+    let b = leb (getD firsts (x + 1) 0) (length table) in
     let e : a && b ≡ true
-    = same-values (λ y. leb (getD firsts y 0) (getD firsts (y + 1) 0) && leb (getD firsts (y + 1) 0) 139) (λ y. true) true 29 refl x h in
-    (leb-true (getD firsts x 0) (getD firsts (x + 1) 0) (and-left a b e), leb-true (getD firsts (x + 1) 0) 139 (and-right a b e))
+    = same-values (λ y. leb (getD firsts y 0) (getD firsts (y + 1) 0) && leb (getD firsts (y + 1) 0) (length table)) (λ y. true) true 29 refl x h in
+    (leb-true (getD firsts x 0) (getD firsts (x + 1) 0) (and-left a b e), leb-true (getD firsts (x + 1) 0) (length table) (and-right a b e))
 
--- a rule is found among numbers as among cases
-rule-found : (ns : List ℕ) (k : ℕ) → all someAfter ns ≡ true → through (ruleIn ns k) [] ≡ caseIn (map unpackedRule ns) k
-rule-found [] k a = refl
-rule-found (n ∷ ns) k a = go (eqb k (n / afters)) (rule-found ns k (and-right (someAfter n) (all someAfter ns) a))
+-- a rule is found among numbers as among cases, and where it is not, among the cases behind them
+abbrev foundOr : ℕ → Cases → ℕ → Option (List ℕ)
+foundOr r ds k = if eqb r 0 then caseIn ds k else some (unpacked mostAfter r [])
+
+rule-found : (ns : List ℕ) (ds : Cases) (k : ℕ) → all someAfter ns ≡ true → foundOr (ruleIn ns k) ds k ≡ caseIn (map unpackedRule ns ++ ds) k
+rule-found [] ds k a = refl
+rule-found (n ∷ ns) ds k a = go (eqb k (n / afters)) (rule-found ns ds k (and-right (someAfter n) (all someAfter ns) a))
   where
-    go : (t : Bool) → through (ruleIn ns k) [] ≡ caseIn (map unpackedRule ns) k
-        → through (if t then n % afters else ruleIn ns k) [] ≡ (if t then some (unpackedRule n .1) else caseIn (map unpackedRule ns) k)
+    go : (t : Bool) → foundOr (ruleIn ns k) ds k ≡ caseIn (map unpackedRule ns ++ ds) k
+        → foundOr (if t then n % afters else ruleIn ns k) ds k ≡ (if t then some (unpackedRule n .1) else caseIn (map unpackedRule ns ++ ds) k)
     go true ih = rw (ne-eqb (n % afters) 0 (λ e. omega (arith, ltb-true 0 (n % afters) (and-left (someAfter n) (all someAfter ns) a))))
     go false ih = ih
 
@@ -91,11 +109,31 @@ rule-small (n ∷ ns) k = go (eqb k (n / afters)) (rule-small ns k)
     go true ih = omega arith
     go false ih = ih
 
-pub rule-is : (x k : ℕ) → x < 29 → RuleIs x k (ruleIn (part x) k)
-rule-is x k h = record {
-  same = rule-found (part x) k (part-some x h) ∙ ap (λ (cs : Cases). caseIn cs k) (part-read x h);
-  small = rule-small (part x) k;
+part-found : (x k : ℕ) → x < 29 → foundOr (ruleIn (part x) k) (casesOf (getD alsos x 0)) k ≡ caseIn (casesOf x) k
+part-found x k h = rule-found (part x) (casesOf (getD alsos x 0)) k (part-some x h) ∙ ap (λ (cs : Cases). caseIn cs k) (part-read x h)
+
+-- Along what x has too: what y's rules give is what x's give
+pub record Looking (x k y : ℕ) : Type 0 where
+  pub inside : y < 29
+  pub same : caseIn (casesOf y) k ≡ caseIn (casesOf x) k
+
+pub looking-first : (x k : ℕ) → x < 29 → Looking x k x
+looking-first x k h = record { inside = h; same = refl }
+
+pub looking-on : {x k y : ℕ} → Looking x k y → 0 < y → ruleIn (part y) k ≡ 0 → Looking x k (getD alsos y 0)
+looking-on {x} {k} {y} l p e = record {
+  inside = omega (arith, also-less y p (l .inside), l .inside);
+  same = (rw (eq-eqb (ruleIn (part y) k) 0 e) at (part-found y k (l .inside))) ∙ l .same;
 }
+
+pub looking-hit : {x k y : ℕ} → Looking x k y → (ruleIn (part y) k ≡ 0 → ⊥) → RuleIs x k (ruleIn (part y) k)
+looking-hit {x} {k} {y} l n = record {
+  same = rw (ne-eqb (ruleIn (part y) k) 0 n) ((rw (ne-eqb (ruleIn (part y) k) 0 n) at (part-found y k (l .inside))) ∙ l .same);
+  small = rule-small (part y) k;
+}
+
+pub looking-none : {x k y : ℕ} → Looking x k y → y ≡ 0 → RuleIs x k 0
+looking-none l e = record { same = rw e at (l .same); small = omega arith }
 
 -- nothing else may come
 choose-none : (cs : List (ℕ × Cases)) (x : ℕ) → all (λ (c : ℕ × Cases). leb (c .0) 28) cs ≡ true → 28 < x → choose cs [] x ≡ []

@@ -90,10 +90,11 @@ const A_FACTOR: u32 = DIGIT + FACTOR;
 
 const A_RELATION: u32 = (DIGIT + FIRST_FACTOR) * DIGIT + MORE_OF_RELATION;
 
-// A rule is one number too: the word in the high places, what may come after it in the low ones.
+// A rule is one number too: the word in the high places, what may come after it in the low ones. Each thing that may
+// come has its own here, and may have those of another too (ALSO).
 const WORD: u32 = 2097152;
 
-const RULES: [u32; 139] = [
+const RULES: [u32; 88] = [
     // FACTOR
     WORD * NAME as u32 + NOTHING,
     WORD * DECIMAL as u32 + NOTHING,
@@ -107,15 +108,6 @@ const RULES: [u32; 139] = [
     // FIRST_FACTOR
     WORD * sign::PLUS as u32 + A_FACTOR,
     WORD * sign::MINUS as u32 + A_FACTOR,
-    WORD * NAME as u32 + NOTHING,
-    WORD * DECIMAL as u32 + NOTHING,
-    WORD * HEX as u32 + NOTHING,
-    WORD * sign::STAT as u32 + NOTHING,
-    WORD * sign::TOP as u32 + NOTHING,
-    WORD * sign::OPEN as u32 + A_RELATION * DIGIT + CLOSING,
-    WORD * sign::AT as u32 + A_FACTOR,
-    WORD * sign::NOT as u32 + A_FACTOR,
-    WORD * sign::MOD as u32 + DIGIT + MOD_OPEN,
     // CLOSING
     WORD * sign::CLOSE as u32 + NOTHING,
     // MOD_OPEN
@@ -150,10 +142,6 @@ const RULES: [u32; 139] = [
     WORD * sign::INPUT as u32 + DIGIT + INPUT_TARGET,
     WORD * sign::REM as u32 + DIGIT + REMARK,
     WORD * sign::END as u32 + NOTHING,
-    WORD * NAME as u32 + DIGIT + EQUALS,
-    WORD * sign::STAT as u32 + DIGIT + EQUALS,
-    WORD * sign::AT as u32 + A_FACTOR * DIGIT + EQUALS,
-    WORD * sign::DOLLAR as u32 + A_FACTOR * DIGIT + TEXT_EQUALS,
     // AFTER_GO
     WORD * sign::TO as u32 + A_RELATION,
     WORD * sign::SUB as u32 + A_RELATION,
@@ -173,25 +161,6 @@ const RULES: [u32; 139] = [
     WORD * sign::MOD as u32 + (DIGIT + MOD_OPEN) * DIGIT + MORE_OF_RELATION,
     // CONSEQUENCE
     WORD * sign::THEN as u32 + DIGIT + STATEMENT,
-    WORD * sign::LET as u32 + DIGIT + TARGET,
-    WORD * sign::GOTO as u32 + A_RELATION,
-    WORD * sign::GOSUB as u32 + A_RELATION,
-    WORD * sign::GO as u32 + DIGIT + AFTER_GO,
-    WORD * sign::RETURN as u32 + NOTHING,
-    WORD * sign::PR as u32 + (DIGIT + ITEM) * DIGIT + MORE_ITEMS,
-    WORD * sign::PRINT as u32 + (DIGIT + ITEM) * DIGIT + MORE_ITEMS,
-    WORD * sign::IF as u32 + A_RELATION * DIGIT + CONSEQUENCE,
-    WORD * sign::DO as u32 + NOTHING,
-    WORD * sign::UNTIL as u32 + A_RELATION,
-    WORD * sign::FOR as u32 + DIGIT + FOR_VARIABLE,
-    WORD * sign::NEXT as u32 + DIGIT + ONE_VARIABLE,
-    WORD * sign::INPUT as u32 + DIGIT + INPUT_TARGET,
-    WORD * sign::REM as u32 + DIGIT + REMARK,
-    WORD * sign::END as u32 + NOTHING,
-    WORD * NAME as u32 + DIGIT + EQUALS,
-    WORD * sign::STAT as u32 + DIGIT + EQUALS,
-    WORD * sign::AT as u32 + A_FACTOR * DIGIT + EQUALS,
-    WORD * sign::DOLLAR as u32 + A_FACTOR * DIGIT + TEXT_EQUALS,
     // FOR_VARIABLE
     WORD * NAME as u32 + DIGIT + FOR_EQUALS,
     // FOR_EQUALS
@@ -205,25 +174,6 @@ const RULES: [u32; 139] = [
     WORD * NAME as u32 + DIGIT + MORE_VARIABLES,
     // TYPED_LINE
     WORD * DECIMAL as u32 + (DIGIT + STATEMENT) * DIGIT + MORE_MEMBERS,
-    WORD * sign::LET as u32 + DIGIT + TARGET,
-    WORD * sign::GOTO as u32 + A_RELATION,
-    WORD * sign::GOSUB as u32 + A_RELATION,
-    WORD * sign::GO as u32 + DIGIT + AFTER_GO,
-    WORD * sign::RETURN as u32 + NOTHING,
-    WORD * sign::PR as u32 + (DIGIT + ITEM) * DIGIT + MORE_ITEMS,
-    WORD * sign::PRINT as u32 + (DIGIT + ITEM) * DIGIT + MORE_ITEMS,
-    WORD * sign::IF as u32 + A_RELATION * DIGIT + CONSEQUENCE,
-    WORD * sign::DO as u32 + NOTHING,
-    WORD * sign::UNTIL as u32 + A_RELATION,
-    WORD * sign::FOR as u32 + DIGIT + FOR_VARIABLE,
-    WORD * sign::NEXT as u32 + DIGIT + ONE_VARIABLE,
-    WORD * sign::INPUT as u32 + DIGIT + INPUT_TARGET,
-    WORD * sign::REM as u32 + DIGIT + REMARK,
-    WORD * sign::END as u32 + NOTHING,
-    WORD * NAME as u32 + DIGIT + EQUALS,
-    WORD * sign::STAT as u32 + DIGIT + EQUALS,
-    WORD * sign::AT as u32 + A_FACTOR * DIGIT + EQUALS,
-    WORD * sign::DOLLAR as u32 + A_FACTOR * DIGIT + TEXT_EQUALS,
     // TYPED_COMMAND
     WORD * sign::NEW as u32 + NOTHING,
     WORD * sign::CLEAR as u32 + NOTHING,
@@ -264,36 +214,69 @@ const RULES: [u32; 139] = [
 
 // Where the rules of each thing that may come begin.
 const FIRST_RULE: [usize; 30] = [
-    0,
-    0,
-    9,
-    20,
-    21,
-    22,
-    23,
-    27,
-    28,
-    29,
-    31,
-    50,
-    52,
-    65,
-    85,
-    86,
-    87,
-    88,
-    89,
-    91,
-    111,
-    115,
-    115,
-    127,
-    133,
-    135,
-    136,
-    137,
-    138,
-    139,
+    0, // nothing
+    0, // FACTOR
+    9, // FIRST_FACTOR
+    11, // CLOSING
+    12, // MOD_OPEN
+    13, // MOD_COMMA
+    14, // TARGET
+    18, // EQUALS
+    19, // TEXT_EQUALS
+    20, // TEXT_VALUE
+    22, // STATEMENT
+    37, // AFTER_GO
+    39, // ITEM
+    52, // CONSEQUENCE
+    53, // FOR_VARIABLE
+    54, // FOR_EQUALS
+    55, // FOR_TO
+    56, // ONE_VARIABLE
+    57, // INPUT_TARGET
+    59, // TYPED_LINE
+    60, // TYPED_COMMAND
+    64, // REMARK
+    64, // MORE_OF_RELATION
+    76, // MORE_OF_SUM
+    82, // MORE_ITEMS
+    84, // FOR_STEP
+    85, // MORE_VARIABLES
+    86, // MORE_MEMBERS
+    87, // LIST_NUMBER
+    88, // the end
+];
+
+// Whose rules each thing that may come has too, behind its own; 0 for none. It is always one with a smaller number.
+const ALSO: [u8; 29] = [
+    0, // nothing
+    0, // FACTOR
+    FACTOR as u8, // FIRST_FACTOR
+    0, // CLOSING
+    0, // MOD_OPEN
+    0, // MOD_COMMA
+    0, // TARGET
+    0, // EQUALS
+    0, // TEXT_EQUALS
+    0, // TEXT_VALUE
+    TARGET as u8, // STATEMENT
+    0, // AFTER_GO
+    0, // ITEM
+    STATEMENT as u8, // CONSEQUENCE
+    0, // FOR_VARIABLE
+    0, // FOR_EQUALS
+    0, // FOR_TO
+    0, // ONE_VARIABLE
+    0, // INPUT_TARGET
+    STATEMENT as u8, // TYPED_LINE
+    0, // TYPED_COMMAND
+    0, // REMARK
+    0, // MORE_OF_RELATION
+    0, // MORE_OF_SUM
+    0, // MORE_ITEMS
+    0, // FOR_STEP
+    0, // MORE_VARIABLES
+    0, // MORE_MEMBERS
+    0, // LIST_NUMBER
 ];
 
 // What may come after the word k by the rules from one on up to another; 0 where none of them is for it.
@@ -319,8 +302,16 @@ fn rule(x: u8, k: u8) -> u32
     if LAST < x {
         return 0;
     }
-    let i = x as usize;
-    rule_in(&RULES, FIRST_RULE[i], FIRST_RULE[i + 1], k)
+    let mut y = x;
+    while 0 < y {
+        let i = y as usize;
+        let after = rule_in(&RULES, FIRST_RULE[i], FIRST_RULE[i + 1], k);
+        if after != 0 {
+            return after;
+        }
+        y = ALSO[i];
+    }
+    0
 }
 
 // Of what may come: where the first stands that begins with a word, and what may come after that word; 0 where none does.
