@@ -1,19 +1,21 @@
 -- Whether a text is the front of a line, a spelling and a byte at a time. Assumes nothing.
 use Prim.Native.Nat.{ℕ, zero, suc, _+_, _-_, _≤_, _<_, min, max}
 use mathlib.Core.Path.{_≡_, refl, sym, ap, _∙_}
-use mathlib.Core.Bool.{Bool, true, false, _&&_}
+use mathlib.Core.Bool.{Bool, true, false, false≢true, _&&_}
 use mathlib.Core.List.{List, [], _∷_, _++_}
 use native.Mathlib.Nat.{add-zero}
 use native.Mathlib.Omega.{arith}
 use borrow.Author.Tests.{leb-true, leb-false, le-leb, lt-leb, eq-eqb, ne-eqb}
 use lib.Dec.{eqb, leb}
-use lib.ListN.{length, take, drop, getD, set, length-drop, drop-of-length-le}
+use lib.ListN.{length, take, drop, getD, set, length-drop, drop-of-length-le, take-append-drop}
 use lib.Seq.{paste, paste-zero, paste-suc, length-paste, take-paste, length-take-le, take-all, take-take, take-append-le, drop-drop, getD-take, getD-drop}
 use Rattle.nibl.specs.Bytes.{if_then_else_, same, all}
 use Rattle.nibl.specs.Words.{keywords, commands}
 use Rattle.nibl.specs.Column.{typedLine, typedCommand, Verdict, alive, stuck, isAlive, lineRun, allTaken, spellings, endsWith, begunBy, begunIn, isFront, columnDown, columnOf}
 use Rattle.nibl.proofs.Words.{and-left, and-right}
 use Rattle.nibl.proofs.Bound.{begun-hit, begun-miss, begun-here, begun-later, front-taken, front-begun, column-hit, column-miss, column-bound}
+use Rattle.nibl.proofs.FrontSound.{front-of-front}
+use Rattle.nibl.proofs.Spot.{front-exact}
 use Rattle.word.specs.Found.{tableOf}
 use Rattle.word.proofs.Runs.{at-byte}
 use Rattle.column.specs.Runs.{VerdictIs, lineSymbol}
@@ -273,59 +275,88 @@ is-front-taken s e = sym (front-taken s (sym e))
 pub is-front-begun : (s : List ℕ) {b : Bool} → false ≡ allTaken s → b ≡ begunIn spellings s → b ≡ isFront s
 is-front-begun s e f = f ∙ sym (front-begun s (sym e))
 
--- From the longest front part down
-pub record Searching (before : List ℕ) (from : ℕ) (bottom text stack : List ℕ) (n : ℕ) : Type 0 where
-  pub kept : Kept before n text
-  pub size : length stack ≡ length bottom
-  pub high : n ≤ from
-  pub same : columnDown n before ≡ columnDown from before
+-- A front part of a front is a front; so behind one that is none there is none
+front-part : (s : List ℕ) (n m : ℕ) → n ≤ m → isFront (take m s) ≡ true → isFront (take n s) ≡ true
+front-part s n m l e =
+    let d : take n s ++ drop n (take m s) ≡ take m s
+    = ap (λ (x : List ℕ). x ++ drop n (take m s)) (sym (take-take n m s l)) ∙ take-append-drop n (take m s) in
+    front-exact (take n s) .1 (front-of-front (take n s) (drop n (take m s)) (rw d (front-exact (take m s) .0 e)))
 
-pub searching-first : (text : List ℕ) (from : ℕ) (stack : List ℕ) → Searching text from stack text stack from
-searching-first text from stack = record { kept = kept-all text from; size = refl; high = omega arith; same = refl }
-
-module _ {before : List ℕ} {from : ℕ} {bottom text stack : List ℕ} {n : ℕ} (p : Searching before from bottom text stack n) where
-  pub searching-spare : Spare before from bottom → Spare text n stack
-  searching-spare s = record { behind = omega (arith, s .behind, p .high, p .kept .size); deep = omega (arith, s .deep, p .kept .size, p .size) }
-
-  module _ (h : 0 < n) {b : Bool} (a : b ≡ isFront (take n text)) where
-    one : n ≡ suc (n - 1)
-    one = omega arith
-
-    answer-at : isFront (take (suc (n - 1)) before) ≡ b
-    answer-at = ap (λ (k : ℕ). isFront (take k before)) (sym one) ∙ ap isFront (sym (p .kept .front)) ∙ sym a
-
-    at-one : columnDown (suc (n - 1)) before ≡ columnDown from before
-    at-one = ap (λ (k : ℕ). columnDown k before) (sym one) ∙ p .same
-
-    pub searching-hit : true ≡ b → n ≡ columnDown from before
-    searching-hit e = one ∙ sym (column-hit (n - 1) before (answer-at ∙ sym e)) ∙ at-one
-
-    pub searching-on : false ≡ b → {text' stack' : List ℕ} → Kept text n text' → length stack' ≡ length stack → Searching before from bottom text' stack' (n - 1)
-    searching-on e k q =
-        let f = kept-then (p .kept) k in
-        let l : n - 1 ≤ n = omega arith in
-        record {
-          kept = record { front = sym (take-take (n - 1) n _ l) ∙ ap (take (n - 1)) (f .front) ∙ take-take (n - 1) n before l; size = f .size };
-          size = q ∙ p .size;
-          high = omega (arith, p .high);
-          same = sym (column-miss (n - 1) before (answer-at ∙ sym e)) ∙ at-one;
-        }
-
-  pub searching-last : n ≤ 0 → n ≡ columnDown from before
-  unfolding columnDown
-  searching-last h = let d : n ≡ 0 = omega arith in d ∙ (rw d at (p .same))
-
--- The column depends on no byte behind where the search begins
-pub column-agree : (hi : ℕ) (s t : List ℕ) → take hi s ≡ take hi t → columnDown hi s ≡ columnDown hi t
-column-agree zero s t e = unfold columnDown in refl
-column-agree (suc n) s t e = go (isFront (take (suc n) s)) refl (column-agree n s t (sym (take-take n (suc n) s l) ∙ ap (take n) e ∙ take-take n (suc n) t l))
+column-past : (s : List ℕ) (n k : ℕ) → isFront (take (suc n) s) ≡ false → columnDown (k + n) s ≡ columnDown n s
+column-past s n zero e = let d : zero + n ≡ n = omega arith in rw d
+column-past s n (suc k) e =
+    let d : suc k + n ≡ suc (k + n) = omega arith in rw d (column-miss (k + n) s (go (isFront (take (suc (k + n)) s)) refl) ∙ column-past s n k e)
   where
-    l : n ≤ suc n
-    l = omega arith
+    go : (x : Bool) → isFront (take (suc (k + n)) s) ≡ x → isFront (take (suc (k + n)) s) ≡ false
+    go true f = absurd (false≢true (sym e ∙ front-part s (suc n) (suc (k + n)) (omega arith) f))
+    go false f = f
 
-    go : (x : Bool) → isFront (take (suc n) s) ≡ x → columnDown n s ≡ columnDown n t → columnDown (suc n) s ≡ columnDown (suc n) t
-    go true f ih = column-hit n s f ∙ sym (column-hit n t (ap isFront (sym e) ∙ f))
-    go false f ih = column-miss n s f ∙ ih ∙ sym (column-miss n t (ap isFront (sym e) ∙ f))
+-- The search by halves
+pub record Searching (text : List ℕ) (from : ℕ) (room₀ stack₀ room stack : List ℕ) (lo hi : ℕ) : Type 0 where
+  pub size : length room ≡ length room₀
+  pub deep : length stack ≡ length stack₀
+  pub low : lo ≤ hi
+  pub high : hi ≤ from
+  pub front : 0 < lo → isFront (take lo text) ≡ true
+  pub same : columnDown hi text ≡ columnDown from text
+
+pub searching-first : (text : List ℕ) (from : ℕ) (room stack : List ℕ) → Searching text from room stack room stack 0 from
+searching-first text from room stack =
+    record { size = refl; deep = refl; low = omega arith; high = omega arith; front = λ h. absurd (omega arith); same = refl }
+
+module _ {text : List ℕ} {from : ℕ} {room₀ stack₀ room stack : List ℕ} {lo hi : ℕ} (p : Searching text from room₀ stack₀ room stack lo hi)
+    (s : Spare room₀ (length text) stack₀) (l : from ≤ length text) where
+  -- whatever stood in the room, the text laid into it can be tried
+  module _ {laid : List ℕ} (e : laid ≡ paste room 0 (drop 0 text) (length text - 0)) {n : ℕ} (h : n ≤ hi) where
+    fits : 0 + (length text - 0) ≤ length room
+    fits = omega (arith, s .behind, p .size)
+
+    laid-size : length laid ≡ length room₀
+    laid-size = ap length e ∙ laid-kept room 0 text 0 (omega arith) fits .size ∙ p .size
+
+    pub searching-spare : Spare laid n stack
+    searching-spare = record { behind = omega (arith, s .behind, p .high, laid-size); deep = omega (arith, s .deep, p .deep, laid-size) }
+
+    laid-front : take n laid ≡ take n text
+    laid-front =
+        let d : length text ≡ 0 + (length text - 0) = omega arith in
+        sym (take-take n (length text) laid (omega (arith, p .high)))
+        ∙ ap (take n) (ap (λ (k : ℕ). take k laid) d ∙ ap (take (0 + (length text - 0))) e ∙ laid-whole room 0 text 0 (omega arith) fits)
+
+    module _ {b : Bool} (a : b ≡ isFront (take n laid)) {room' stack' : List ℕ} (k : Kept laid n room') (q : length stack' ≡ length stack) where
+      pub searching-up : true ≡ b → Searching text from room₀ stack₀ room' stack' n hi
+      searching-up t = record {
+        size = k .size ∙ laid-size;
+        deep = q ∙ p .deep;
+        low = h;
+        high = p .high;
+        front = λ _. ap isFront (sym laid-front) ∙ sym a ∙ sym t;
+        same = p .same;
+      }
+
+      pub searching-down : false ≡ b → lo < n → Searching text from room₀ stack₀ room' stack' lo (n - 1)
+      searching-down f g =
+          let one : n ≡ suc (n - 1) = omega arith in
+          let gap : hi ≡ hi - (n - 1) + (n - 1) = omega arith in
+          record {
+            size = k .size ∙ laid-size;
+            deep = q ∙ p .deep;
+            low = omega arith;
+            high = omega (arith, p .high);
+            front = p .front;
+            same =
+                sym (column-past text (n - 1) (hi - (n - 1)) (ap (λ (i : ℕ). isFront (take i text)) (sym one) ∙ ap isFront (sym laid-front) ∙ sym a ∙ sym f))
+                ∙ ap (λ (i : ℕ). columnDown i text) (sym gap) ∙ p .same;
+          }
+
+column-top : (s : List ℕ) (n : ℕ) → (0 < n → isFront (take n s) ≡ true) → n ≡ columnDown n s
+column-top s zero f = unfold columnDown in refl
+column-top s (suc n) f = sym (column-hit n s (f (omega arith)))
+
+pub searching-last : {text : List ℕ} {from : ℕ} {room₀ stack₀ room stack : List ℕ} {lo hi : ℕ}
+    → Searching text from room₀ stack₀ room stack lo hi → hi ≤ lo → lo ≡ columnDown from text
+searching-last {text} {lo} {hi} p h =
+    let d : lo ≡ hi = omega (arith, p .low) in column-top text lo (p .front) ∙ ap (λ (i : ℕ). columnDown i text) d ∙ p .same
 
 last-within : (s : List ℕ) → lastTried s ≤ length s
 unfolding lastTried
@@ -352,25 +383,9 @@ column-last s = go (lineRun keywords typedLine s) refl (lineRun commands typedCo
     go (stuck m) e alive f = short (min m 0) (omega arith)
     go (stuck m) e (stuck k) f = both m k e f (leb (min m k) 4) refl
 
--- The whole search: in a room into which the text was laid
-module _ (text room : List ℕ) (l : length text ≤ 72) (m : length room ≡ 77) {room' : List ℕ} (e : room' ≡ paste room 0 (drop 0 text) (length text - 0)) {hi : ℕ} (f : hi ≡ lastTried text) where
-  fits : 0 + (length text - 0) ≤ length room
-  fits = omega arith
+module _ (text : List ℕ) {from : ℕ} (e : from ≡ lastTried text) where
+  pub last-fits : from ≤ length text
+  last-fits = omega (arith, last-within text)
 
-  room-front : take (length text) room' ≡ text
-  room-front =
-      let d : length text ≡ 0 + (length text - 0) = omega arith in
-      ap (λ (k : ℕ). take k room') d ∙ ap (take (0 + (length text - 0))) e ∙ laid-whole room 0 text 0 (omega arith) fits
-
-  hi-within : hi ≤ length text
-  hi-within = omega (arith, last-within text)
-
-  pub room-spare : {stack : List ℕ} → length stack ≡ 232 → Spare room' hi stack
-  room-spare k =
-      let q : length room' ≡ 77 = ap length e ∙ laid-kept room 0 text 0 (omega arith) fits .size ∙ m in
-      record { behind = omega (arith, hi-within); deep = omega arith }
-
-  pub room-column : {r : ℕ} → r ≡ columnDown hi room' → r ≡ columnOf text
-  room-column {r} g =
-      let same : take hi room' ≡ take hi text = sym (take-take hi (length text) room' hi-within) ∙ ap (take hi) room-front in
-      g ∙ column-agree hi room' text same ∙ ap (λ (k : ℕ). columnDown k text) f ∙ sym (column-last text)
+  pub column-found : {r : ℕ} → r ≡ columnDown from text → r ≡ columnOf text
+  column-found f = f ∙ ap (λ (k : ℕ). columnDown k text) e ∙ sym (column-last text)

@@ -204,19 +204,24 @@ fn is_front(text: &mut [u8], n: usize, stack: &mut [u8]) -> bool
     begun_in(text, n, &SPELLED, &LENGTHS, stack)
 }
 
-// The longest front of at most so many bytes. Longer ones are tried first, so what is written behind one is never read again.
-fn longest_front(text: &mut [u8], from: usize, stack: &mut [u8]) -> usize
-    requires { ⌜ Spare (now text) from (now stack) ⌝ }
+// The longest front of at most so many bytes. A front part of a front is a front: so by halves, in a room into which the text is laid anew
+// for each, since the end of a word may have been written behind the one before.
+fn longest_front(text: &[u8], room: &mut [u8], from: usize, stack: &mut [u8]) -> usize
+    requires { ⌜ Spare (now room) (length (now text)) (now stack) × (from ≤ length (now text)) ⌝ }
     ensures { λ r. ⌜ r ≡ columnDown from (now (text .entry)) ⌝ }
 {
-    let mut n = from;
-    while 0 < n {
-        if is_front(text, n, stack) {
-            break;
+    let mut lo = 0;
+    let mut hi = from;
+    while lo < hi {
+        let n = hi - (hi - lo) / 2;
+        lay(room, 0, text, 0);
+        if is_front(room, n, stack) {
+            lo = n;
+        } else {
+            hi = n - 1;
         }
-        n -= 1;
     }
-    n
+    lo
 }
 
 // Where the text could not go on; its end where it could.
@@ -263,7 +268,6 @@ pub fn column_of(text: &[u8]) -> usize
 {
     let mut stack = [0u8; DEPTH];
     let mut room = [0u8; LIMIT + COMPLETION];
-    lay(&mut room, 0, text, 0);
     let from = last_tried(text, &mut stack);
-    longest_front(&mut room, from, &mut stack)
+    longest_front(text, &mut room, from, &mut stack)
 }
