@@ -14,12 +14,13 @@ use Rattle.nibl.specs.Values.{digits}
 use Rattle.nibl.specs.Typing.{Gathered, gather}
 use Rattle.nibl.specs.Record.{mark, pausedAt, withPaused, unpaused, stackless, cleared}
 use Rattle.nibl.specs.Page.{Stored, isEnd, isGood, recordsOf, programBytes, lineOf, fits, hasLine, without, with, onto}
+use Rattle.nibl.specs.Table.{describes, refilled}
 use Rattle.nibl.specs.Meaning.{World, Env, withSession, withInpos, on, skip, go, stop, Done, done, put, went, exec}
 use Rattle.nibl.specs.declared.Session.{Session}
 use Rattle.nibl.specs.declared.Call.{Call}
 use Rattle.nibl.specs.declared.Answer.{Answer}
 
--- All that a call is lent, and all that it leaves
+-- All that a call is lent. The call's numbers say whether the table is: one that is not lent is not looked at
 pub record Lent : Type 0 where
   pub session : Session
   pub page : List ℕ
@@ -27,7 +28,9 @@ pub record Lent : Type 0 where
   pub input : List ℕ
   pub output : List ℕ
   pub call : Call
+  pub table : List ℕ
 
+-- All that it leaves but the table; and with the table
 pub record Outcome : Type 0 where
   pub answer : Answer
   pub session : Session
@@ -35,18 +38,26 @@ pub record Outcome : Type 0 where
   pub memory : List ℕ
   pub output : List ℕ
 
-abbrev pub lentAll : Session → List ℕ → List ℕ → List ℕ → List ℕ → Call → Lent
-lentAll s page memory typed′ output c = record { session = s; page = page; memory = memory; input = typed′; output = output; call = c }
+pub record Left : Type 0 where
+  pub outcome : Outcome
+  pub table : List ℕ
 
-abbrev pub leftAll : Answer → Session → List ℕ → List ℕ → List ℕ → Outcome
-leftAll a s page memory output = record { answer = a; session = s; page = page; memory = memory; output = output }
+abbrev pub lentAll : Session → List ℕ → List ℕ → List ℕ → List ℕ → Call → List ℕ → Lent
+lentAll s page memory typed′ output c table =
+    record { session = s; page = page; memory = memory; input = typed′; output = output; call = c; table = table }
+
+abbrev pub outcomeWith : Answer → Session → List ℕ → List ℕ → List ℕ → Outcome
+outcomeWith a s page memory output = record { answer = a; session = s; page = page; memory = memory; output = output }
+
+abbrev pub leftAll : Answer → Session → List ℕ → List ℕ → List ℕ → List ℕ → Left
+leftAll a s page memory output table = record { outcome = outcomeWith a s page memory output; table = table }
 
 -- a call's numbers with others in their place
 abbrev pub withBudget : ℕ → Call → Call
-withBudget k c = record { inpos = c .inpos; outpos = c .outpos; sense = c .sense; budget = k }
+withBudget k c = record { inpos = c .inpos; outpos = c .outpos; sense = c .sense; budget = k; tabled = c .tabled }
 
 abbrev pub withPositions : ℕ → ℕ → Call → Call
-withPositions i o c = record { inpos = i; outpos = o; sense = c .sense; budget = c .budget }
+withPositions i o c = record { inpos = i; outpos = o; sense = c .sense; budget = c .budget; tabled = c .tabled }
 
 -- an answer: the stop, its line, the steps, both positions, and the column of a refused line
 abbrev pub answerOf : ℕ → ℕ → ℕ → ℕ → ℕ → ℕ → Answer
@@ -106,7 +117,7 @@ runFrom (suc k) e q w =
 
 -- Outcomes. The column is "0 for every other stop" than that of a refused line
 abbrev pub outcome : ℕ → ℕ → ℕ → World → List ℕ → Outcome
-outcome n l steps w page = leftAll (answerOf n l steps (w .inpos) (w .outpos) 0) (w .session) page (w .memory) (w .output)
+outcome n l steps w page = outcomeWith (answerOf n l steps (w .inpos) (w .outpos) 0) (w .session) page (w .memory) (w .output)
 
 -- the line of an answer that has none: no line has this number
 abbrev pub noLine : ℕ
@@ -118,7 +129,7 @@ stops n w page = outcome n noLine 0 w page
 
 -- "A dealer sees 5 .. give the column with it"
 abbrev pub refusedLine : ℕ → World → List ℕ → Outcome
-refusedLine column w page = leftAll (answerOf 5 noLine 0 (w .inpos) (w .outpos) column) (w .session) page (w .memory) (w .output)
+refusedLine column w page = outcomeWith (answerOf 5 noLine 0 (w .inpos) (w .outpos) column) (w .session) page (w .memory) (w .output)
 
 -- the line of the last statement that ran: "there is none for 0, for 14"
 abbrev pub stopAt : ℕ → List ℕ → ℕ
@@ -133,17 +144,31 @@ pausing n q w = if eqb n 14 then withSession w (withPaused (w .session) (pausedA
 abbrev pub runOutcome : Ran → List ℕ → Outcome
 runOutcome r page = outcome (r .stop) (stopAt (r .stop) (r .lines)) (length (r .lines)) (pausing (r .stop) (r .at) (r .world)) page
 
--- The first refusals: "a length, position or budget outside the above", then 18, 19; 0 for none
+-- whether a table is lent
+abbrev pub hasTable : Call → Bool
+hasTable c = not (eqb (c .tabled) 0)
+
+-- "A table of fewer than 1,025 entries is refused with 1"
+abbrev pub tableInRange : Lent → Bool
+tableInRange x = if hasTable (x .call) then leb 1025 (length (x .table)) else true
+
+-- "26, a table that does not describe the page"
+abbrev pub tableIsTrue : Lent → Bool
+tableIsTrue x = if hasTable (x .call) then describes (x .page) (x .table) else true
+
+-- The first refusals: "a length, position or budget outside the above", then 18, 26, 19; 0 for none
 abbrev pub inRange : Lent → Bool
 inRange x =
     leb 2 (length (x .page)) && (leb (length (x .page)) 4096 && (leb (length (x .memory)) 4096
     && (leb (length (x .input)) 65535 && (leb (length (x .output)) 65535
-    && (leb (x .call .inpos) (length (x .input)) && (leb (x .call .outpos) (length (x .output)) && leb (x .call .budget) 65535))))))
+    && (leb (x .call .inpos) (length (x .input)) && (leb (x .call .outpos) (length (x .output))
+    && (leb (x .call .budget) 65535 && tableInRange x)))))))
 
 unfoldable pub firstRefusal : ℕ → Lent → ℕ
 firstRefusal lim x =
     if not (inRange x) then 1
     else if not (isGood lim (x .page)) then 18
+    else if not (tableIsTrue x) then 26
     else if not (fits (x .page) (x .session)) then 19
     else 0
 
@@ -248,3 +273,13 @@ takeLine x = takeLineIn limit x
 
 unfoldable pub continueRun : Lent → Outcome
 continueRun x = continueRunIn limit x
+
+-- What a call leaves, the table with it: "After each edit and NEW it must be what a fresh walk of the page gives". Where no edit
+-- was, that is what it held; a call that is refused at first does not touch it.
+unfoldable pub tableAfter : ℕ → Lent → Outcome → List ℕ
+tableAfter lim x o =
+    if hasTable (x .call) && eqb (firstRefusal lim x) 0 then refilled (o .page) (x .table)
+    else x .table
+
+abbrev pub leaves : (Lent → Outcome) → Lent → Left
+leaves call x = record { outcome = call x; table = tableAfter limit x (call x) }

@@ -25,7 +25,7 @@ pub record Row : Type 0 where
 -- one line typed, with a fresh output
 abbrev pub lentFor : Session → List ℕ → List ℕ → String → Lent
 lentFor s page mem l =
-    lentAll s page mem (bytes l ++ (byteCR ∷ [])) (replicate 100 0) (record { inpos = 0; outpos = 0; sense = 0; budget = 10000 })
+    lentAll s page mem (bytes l ++ (byteCR ∷ [])) (replicate 100 0) (record { inpos = 0; outpos = 0; sense = 0; budget = 10000; tabled = 0 }) []
 
 abbrev pub look : Outcome → Seen
 look o =

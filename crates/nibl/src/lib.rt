@@ -450,13 +450,15 @@ impl Parts {
     }
 }
 
-// The numbers that a call is given: where to read, where to write, the sense byte and the step budget.
+// The numbers that a call is given: where to read, where to write, the sense byte, the step budget, and whether a table of line
+// places is lent: 0 where none is, and any other number where one is.
 #[repr(C)]
 pub struct Call {
     pub inpos: usize,
     pub outpos: usize,
     pub sense: u8,
     pub budget: usize,
+    pub tabled: u8,
 }
 
 impl Call {
