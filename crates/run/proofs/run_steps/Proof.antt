@@ -447,7 +447,7 @@ run-steps-spec =
     run-plain-requires
     (λ c. search needs)
     (λ c. search needs)
-    (λ c κs. search needs)
+    (λ c κs. start (loop (c .before .before .before .before .before .before .before)) .pre .1)
     (λ c. search needs)
     (λ c κs. search needs)
     (λ c. search needs)
