@@ -13,6 +13,9 @@ use borrow.Author.Needs.{needs}
 use Rattle.ending.proofs.run_from.Statement.{statement}
 use Rattle.ending.proofs.run_from.Tie as tie
 
+slice-aggregate-run-steps : tie.Need-slice-aggregate-run-steps
+slice-aggregate-run-steps c = sym (c .before .before .before .before .before .before .before .before .before .before .before .before .before .pre .0 .1 .fits .vars)
+
 run-steps-requires : tie.Need-run-steps-requires
 run-steps-requires c κs =
     let s = c .before .before .before .before .before .before .before .before .before .before .before .before .before .before .before .before .before .before .before in
@@ -32,4 +35,4 @@ returns c =
 pub run-from-spec : {M : Type 1} → statement M
 run-from-spec =
     tie.close
-    (tie.spec (λ c κs. search needs) (λ c. search needs) run-steps-requires (λ c κs. search needs) (λ c. search needs) (λ c. search needs) (λ c. search needs) (λ c. search needs) (λ c. search needs) (λ c. search needs) returns)
+    (tie.spec (λ c κs. search needs) slice-aggregate-run-steps run-steps-requires (λ c κs. search needs) (λ c. search needs) (λ c. search needs) (λ c. search needs) (λ c. search needs) (λ c. search needs) (λ c. search needs) returns)
