@@ -12,7 +12,7 @@ use std::hint::black_box;
 use std::io::{self, Read, Write};
 
 use model::line::LineNumber;
-use model::page::{read_page, store, Program, END_MARK};
+use model::page::{read_page, records, store, Program, END_MARK};
 use model::reader::read_list;
 use model::rules::{empty_page, full_page, RULES, TOGETHER};
 use model::tree::Tree;
@@ -81,18 +81,6 @@ fn read(page: &[u8]) -> Program {
 
 fn add(sum: u16, found: impl Into<usize>) -> u16 {
     sum.wrapping_add(found.into() as u16)
-}
-
-/// The position and the text of each record of a good page.
-fn records(page: &[u8]) -> impl Iterator<Item = (usize, &[u8])> {
-    let mut at = 0;
-    std::iter::from_fn(move || {
-        let start = at;
-        (page[start..start + 2] != END_MARK).then(|| {
-            at += usize::from(page[start + 2]);
-            (start, &page[start + 3..at - 1])
-        })
-    })
 }
 
 /// The sum of where the members of a page's texts end.
@@ -219,6 +207,7 @@ fn steps(page: &mut [u8]) -> u16 {
         output_position: 0,
         sense: 0,
         budget: 32_767,
+        table: None,
     };
     let answer = continue_run(&mut record, lent);
     add(record.variables[0] as u16, answer.steps as usize)
@@ -260,6 +249,7 @@ fn take(page: &mut [u8], mut record: Record, input: &[u8]) -> u16 {
         output_position: 0,
         sense: 0,
         budget: 0,
+        table: None,
     };
     let answer = take_line(&mut record, lent);
     let found = [

@@ -289,5 +289,6 @@ pub fn typed(line: &[u8]) -> Case {
         budget: 5,
         sense: 0,
         record: Record::default(),
+        table: None,
     }
 }
