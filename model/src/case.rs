@@ -61,6 +61,23 @@ pub enum Unread {
 pub type Reading<T> = Result<T, Unread>;
 
 impl Case {
+    /// A line typed on a page in a fresh session, with nothing else lent.
+    pub fn typed(page: Vec<u8>, input: &[u8]) -> Case {
+        Case {
+            call: Call::Line,
+            page,
+            memory: Vec::new(),
+            input: input.to_vec(),
+            output: Vec::new(),
+            input_position: 0,
+            output_position: 0,
+            budget: 0,
+            sense: 0,
+            record: Record::default(),
+            table: None,
+        }
+    }
+
     /// Makes the call. Afterwards the case holds what the call left.
     pub fn run(&mut self) -> Answer {
         let lent = Lent {

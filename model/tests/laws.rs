@@ -240,29 +240,11 @@ fn go_on(case: &mut Case, first: &Answer, whole: u32) -> Answer {
     case.run()
 }
 
-/// A call that types these bytes, CR included, with room for a whole listing.
-fn typing(page: Vec<u8>, input: Vec<u8>) -> Case {
-    Case {
-        call: Call::Line,
-        page,
-        memory: Vec::new(),
-        input,
-        output: vec![0; 65_535],
-        input_position: 0,
-        output_position: 0,
-        budget: 0,
-        sense: 0,
-        record: Record::default(),
-        table: None,
-    }
-}
-
 /// Types all lines of an input into an empty page of this length.
 fn retyped(input: &[u8], length: usize) -> Vec<u8> {
     let mut page = vec![0; length];
     page[..2].fill(255);
-    let mut gate = typing(page, input.to_vec());
-    gate.output.clear();
+    let mut gate = Case::typed(page, input);
     while (gate.input_position as usize) < input.len() {
         let answer = gate.run();
         if answer.stop == Stop::NoCr {
@@ -284,7 +266,10 @@ fn a_listing_retyped_is_the_program() {
         let program = program(&mut random, [Size::Small, Size::Full][round % 2], 100);
         lines += program.len();
         let page = render(&program);
-        let mut listing = typing(page.clone(), b"LIST\r".to_vec());
+        let mut listing = Case {
+            output: vec![0; 65_535],
+            ..Case::typed(page.clone(), b"LIST\r")
+        };
         let answer = listing.run();
         assert_eq!(answer.stop, Stop::Done);
         let listed = &listing.output[..answer.output_position as usize];

@@ -4,13 +4,13 @@
 mod gate;
 
 use gate::{Gate, Reply};
-use model::case::{Call, Case};
+use model::case::Case;
 use model::page::read_page;
 use model::random::edits::{sequences, Sequence};
 use model::random::tables::{edits, jumps, refusals, FALSE};
 use model::random::Random;
 use model::rules::{empty_page, full_page, RULES};
-use model::{continue_run, take_line, Answer, Pause, Place, Record, Stop};
+use model::{continue_run, take_line, Answer, Pause, Place, Stop};
 
 /// What tables hold past the last line here, so that a change shows.
 const PAST: u16 = 777;
@@ -259,33 +259,23 @@ fn runs_with_a_table_and_without_agree() {
 /// Pages of the greatest length: of rule lines, and with the most lines.
 #[test]
 fn tables_of_full_pages() {
-    let mut page = full_page(&RULES);
-    let mut case = typing(&mut page, b"0 REM X\r");
-    assert_eq!(case.run().stop, Stop::Done);
-    holds(&case, 0);
-    let mut page = full_page(&["DO"]);
-    assert_eq!(walked(&page)[0], 682);
-    let mut case = typing(&mut page, b"0\r");
-    assert_eq!(case.run().stop, Stop::Done);
-    holds(&case, 0);
+    let most = full_page(&["DO"]);
+    assert_eq!(walked(&most)[0], 682);
+    for (page, line) in [(full_page(&RULES), "0 REM X\r"), (most, "0\r")] {
+        let mut case = typing(page, line.as_bytes());
+        assert_eq!(case.run().stop, Stop::Done);
+        holds(&case, 0);
+    }
 }
 
 /// A line typed on a page, with a true table of it.
-fn typing(page: &mut Vec<u8>, input: &[u8]) -> Case {
-    let mut table = walked(page);
+fn typing(page: Vec<u8>, input: &[u8]) -> Case {
+    let mut table = walked(&page);
     table.resize(1025, PAST);
     Case {
-        call: Call::Line,
-        page: std::mem::take(page),
-        memory: vec![13; 8],
-        input: input.to_vec(),
         output: vec![0; 900],
-        input_position: 0,
-        output_position: 0,
-        budget: 3,
-        sense: 0,
-        record: Record::default(),
         table: Some(table),
+        ..Case::typed(page, input)
     }
 }
 
@@ -298,8 +288,7 @@ fn holds(case: &Case, at: usize) {
 
 /// All lines of an input, one after the other; after each the table is true.
 fn typed_all(sequence: &Sequence) -> usize {
-    let mut page = empty_page(sequence.length);
-    let mut case = typing(&mut page, &sequence.typed);
+    let mut case = typing(empty_page(sequence.length), &sequence.typed);
     for calls in 0.. {
         let before = case.clone();
         let answer = case.run();

@@ -5,7 +5,7 @@ use super::pages::{render, Lines};
 use super::{Random, Size};
 use crate::case::{Call, Case};
 use crate::page::{read_page, END_MARK};
-use crate::record::{Pause, Place, Record};
+use crate::record::{Pause, Place};
 use crate::stop::Stop;
 use crate::table::{walk, TABLE_LEAST};
 
@@ -104,21 +104,16 @@ fn falsely(page: &[u8], way: Way) -> Vec<u16> {
 
 /// A call with a GOSUB open that fits any page.
 fn call(call: Call, page: Vec<u8>, input: &[u8], table: Option<Vec<u16>>) -> Case {
-    let mut record = Record::default();
-    record.gosubs.push(Place::IMMEDIATE);
-    Case {
+    let mut case = Case {
         call,
-        page,
         memory: vec![13; 8],
-        input: input.to_vec(),
         output: vec![0; 60],
-        input_position: 0,
-        output_position: 0,
         budget: 9,
-        sense: 0,
-        record,
         table,
-    }
+        ..Case::typed(page, input)
+    };
+    case.record.gosubs.push(Place::IMMEDIATE);
+    case
 }
 
 fn program(lines: &[(u16, &str)], room: usize) -> Vec<u8> {
