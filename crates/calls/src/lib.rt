@@ -9,9 +9,9 @@ ghost use Rattle.nibl.specs.Calls.{lentAll, leftAll, outcomeWith, leaves, first
 ghost use Rattle.ending.specs.Ends.{endedIn};
 ghost use Rattle.ending.specs.Lends.{Lists, Accepted};
 ghost use Rattle.calls.specs.Range.{rangeOf};
-ghost use Rattle.calls.specs.Tables.{trueOf, lentEntries, lentPart, tablePast};
+ghost use Rattle.calls.specs.Tables.{trueOf, lentEntries, TableLent, tablePast};
 ghost use Rattle.calls.specs.Past.{pastRefusals};
-ghost use Rattle.table.specs.Indexed.{Indexed};
+ghost use Rattle.table.specs.Index.{Indexed};
 use ending::Ended;
 use nibl::Call;
 use nibl::LIMIT;
@@ -164,7 +164,7 @@ fn accepted_call(
     call: Call,
     table: &mut [u16],
 ) -> Ended
-    requires { ⌜ (Accepted limit (now page) (call .budget) (unpaused rec) × (fitsPaused (placesOf (now page)) (rec .paused) ≡ true)) × Indexed (now page) (lentPart call (now table)) ⌝ }
+    requires { ⌜ (Accepted limit (now page) (call .budget) (unpaused rec) × (fitsPaused (placesOf (now page)) (rec .paused) ≡ true)) × TableLent (now page) call (now table) ⌝ }
     ensures { λ r. ⌜ outcomeWith (r .answer) (r .session) (now (page .exit)) (now (memory .exit)) (now (output .exit)) ≡ pastRefusals typed (lentAll rec (now (page .entry)) (now (memory .entry)) (now (input .entry)) (now (output .entry)) call (now (table .entry))) ⌝ }
     ensures { λ _. ⌜ now (table .exit) ≡ tablePast call (now (page .exit)) (now (table .entry)) ⌝ }
 {

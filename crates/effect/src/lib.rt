@@ -9,7 +9,7 @@ ghost use Rattle.nibl.specs.Bytes.{if_then_else_, byteCR, byteLF};
 ghost use Rattle.nibl.specs.Meaning.{on, skip, stop};
 ghost use Rattle.world.specs.Turns.{wayOf, turned, turnedFor};
 ghost use Rattle.value.specs.Writes.{Writes};
-ghost use Rattle.table.specs.Indexed.{Indexed};
+ghost use Rattle.table.specs.Index.{Indexed};
 ghost use Rattle.operation.specs.Operations.{effectBy};
 ghost use Rattle.effect.specs.Worlds.{envWith, worldWith, did, didIn, withFlagsIn, withGosubsIn, withDosIn, withForsIn, partsAt, storedWay, wroteIn, KeepsVars, putStored, keepReply};
 ghost use Rattle.effect.specs.Acts.{acted, actBy, goesBack, wayAtOnce, callTurn, loopTurn, countTurn};

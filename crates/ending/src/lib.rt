@@ -10,7 +10,7 @@ ghost use Rattle.nibl.specs.Calls.{runFrom, runOutcome, obeyRead};
 ghost use Rattle.effect.specs.Worlds.{envWith};
 ghost use Rattle.page.specs.Standing.{Stands};
 ghost use Rattle.page.specs.Listing.{listing};
-ghost use Rattle.table.specs.Indexed.{Indexed};
+ghost use Rattle.table.specs.Index.{Indexed};
 ghost use Rattle.ending.specs.Ends.{endedIn, worldAt, stopped, refused, editEnd, listEnd, ranEnd};
 ghost use Rattle.ending.specs.Lends.{Lists, Accepted, IsStatement};
 use nibl::Answer;

@@ -10,7 +10,7 @@ ghost use Rattle.nibl.specs.Calls.{stopAt, runFrom, runOutcome};
 ghost use Rattle.nibl.specs.Record.{mark, place, positionOf};
 ghost use Rattle.world.specs.Turns.{wayOf};
 ghost use Rattle.effect.specs.Worlds.{envWith, worldWith};
-ghost use Rattle.table.specs.Indexed.{Indexed};
+ghost use Rattle.table.specs.Index.{Indexed};
 ghost use Rattle.run.specs.StepEnds.{ledTo, nextAfter};
 ghost use Rattle.run.specs.Fetching.{FetchRoom, fetchOf, fetchedIn, fetchedCount};
 ghost use Rattle.run.specs.Running.{MayRun, ranTo, ranIn, pauseOf};

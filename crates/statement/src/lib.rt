@@ -9,7 +9,7 @@ ghost use Rattle.nibl.specs.Page.{used};
 ghost use Rattle.operation.specs.Stacks.{stackOf};
 ghost use Rattle.world.specs.Hearing.{hearing, heardIn};
 ghost use Rattle.effect.specs.Worlds.{envWith, worldWith, didIn};
-ghost use Rattle.table.specs.Indexed.{Indexed};
+ghost use Rattle.table.specs.Index.{Indexed};
 ghost use Rattle.statement.specs.Lending.{Fair, isOn, takesReply};
 ghost use Rattle.statement.specs.Plain.{RunsPlainly, LeftAt};
 use effect::AtOnce;

@@ -11,7 +11,7 @@ ghost use Rattle.effect.specs.Worlds.{envWith};
 ghost use Rattle.line.specs.Answers.{kindOf, lineOps};
 ghost use Rattle.ending.specs.Ends.{endedIn, worldAt};
 ghost use Rattle.ending.specs.Lends.{Lists, Accepted};
-ghost use Rattle.table.specs.Indexed.{Indexed, keptTrue};
+ghost use Rattle.table.specs.Index.{Indexed, keptTrue};
 ghost use Rattle.typing.specs.ReadAs.{ReadAs};
 use ending::Ended;
 use letter::Gathering;

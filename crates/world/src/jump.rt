@@ -6,7 +6,7 @@ ghost use lib.ListN.{getD, set};
 ghost use Rattle.nibl.specs.Page.{find};
 ghost use Rattle.nibl.specs.Meaning.{go, goesOn};
 ghost use Rattle.page.specs.Walk.{reached};
-ghost use Rattle.table.specs.Indexed.{Indexed};
+ghost use Rattle.table.specs.Index.{Indexed};
 ghost use Rattle.world.specs.Turns.{wayOf, turned, turnedFor, stepTaken, wayTo, keepTurn, gosubTurn, returnTurn, doTurn, untilTurn, forTurn, addsStep, nextTurn, backOf, backed, nextBack, untilBack};
 use nibl::ForEntry;
 use nibl::ForStack;
