@@ -1,4 +1,4 @@
--- `delete_line` meets its contract: the part after the record moves to its seat. Assumes nothing.
+-- `delete_at` meets its contract: the part after the record moves to its seat. Assumes nothing.
 use Prim.Native.Nat.{_≤_, ℕ, _-_, _+_}
 use mathlib.Core.List.{List, []}
 use mathlib.Core.Path.{_≡_, ap, _∙_}
@@ -10,8 +10,8 @@ use Rattle.page.specs.Edits.{spliced, changed}
 use Rattle.page.specs.declared.Edited.the-variants as edited
 use Rattle.page.proofs.Edits.{seat-room, delete-absent, delete-endless, delete-done}
 use Rattle.page.proofs.Moves.{part-spliced, front-spliced}
-use Rattle.page.proofs.delete_line.Statement.{statement}
-use Rattle.page.proofs.delete_line.Tie as tie
+use Rattle.page.proofs.delete_at.Statement.{statement}
+use Rattle.page.proofs.delete_at.Tie as tie
 
 -- the used bytes of the whole page, which the walk from the seat on gives
 known : (c : tie.After-used-from) → (c .used-from .result ≡ used (c .before .before .before .before .before .before .args .page .now)) × (c .before .before .before .find-seat .result .at + c .before .before .before .find-seat .result .gone + 2 ≤ used (c .before .before .before .before .before .before .args .page .now))
@@ -73,8 +73,8 @@ returns-3 c =
     ∙ ap (λ (n : ℕ). spliced (a .page .now) (s .at) (s .gone) n []) (k .0))
     ∙ delete-done h (c .before .before .before .before .before .before .before .if1 .left) (omega arith)
 
-pub delete-line-spec : {M : Type 1} → statement M
-delete-line-spec =
+pub delete-at-spec : {M : Type 1} → statement M
+delete-at-spec =
     tie.close
     (tie.spec
     find-seat-requires

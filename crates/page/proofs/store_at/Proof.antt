@@ -1,4 +1,4 @@
--- `store_line` meets its contract: the three refusals leave the page; else the part from the seat on is edited, which is an edit of the page. Assumes nothing.
+-- `store_at` meets its contract: the three refusals leave the page; else the part from the seat on is edited, which is an edit of the page. Assumes nothing.
 use Prim.Native.Nat.{_≤_, ℕ, _-_, _+_}
 use mathlib.Core.List.{List, _++_}
 use mathlib.Core.Path.{_≡_, ap, _∙_}
@@ -8,14 +8,14 @@ use borrow.Author.Needs.{needs}
 use Rattle.nibl.specs.Page.{Stored, recordBytes, used}
 use Rattle.page.specs.Edits.{spliced, changed}
 use Rattle.page.specs.declared.Edited.the-variants as edited
-use Rattle.page.proofs.Edits.{seat-room, store-endless, store-long, store-full, store-done}
+use Rattle.page.proofs.Edits.{store-endless, store-long, store-full, store-done}
 use Rattle.page.proofs.Moves.{part-spliced}
-use Rattle.page.proofs.store_line.Statement.{statement}
-use Rattle.page.proofs.store_line.Tie as tie
+use Rattle.page.proofs.store_at.Statement.{statement}
+use Rattle.page.proofs.store_at.Tie as tie
 
 -- the used bytes of the whole page, which the walk from the seat on gives
-known : (c : tie.After-used-from) → (c .used-from .result ≡ used (c .before .before .before .before .before .before .args .page .now)) × (c .before .before .find-seat .result .at + c .before .before .find-seat .result .gone + 2 ≤ used (c .before .before .before .before .before .before .args .page .now))
-known c = let h = c .before .before .find-seat .ensures in (c .used-from .ensures ∙ h .rest, seat-room h)
+known : (c : tie.After-used-from) → c .used-from .result ≡ used (c .before .before .args .page .now)
+known c = c .used-from .ensures ∙ c .before .before .pre .rest
 
 -- an edit of the part from the seat on, by the number of bytes that stay behind it, is one of the page
 part-kept : (p r last : List ℕ) (at gone top : ℕ) → at ≤ length p → at + gone ≤ top
@@ -23,9 +23,6 @@ part-kept : (p r last : List ℕ) (at gone top : ℕ) → at ≤ length p → at
 part-kept p r last at gone top h k e =
     let f : gone + (top - gone - at) ≡ top - at = omega arith in
     part-spliced p r last at gone top h (e ∙ ap (λ (n : ℕ). spliced (take (length p - at) (drop at p)) 0 gone n r) f)
-
-find-seat-requires : tie.Need-find-seat-requires
-find-seat-requires c κs = search needs
 
 used-from-requires : tie.Need-used-from-requires
 used-from-requires c κs = c .before .find-seat .ensures .inside
@@ -100,8 +97,8 @@ returns-4 c =
     let k = known (c .before .before .before) in
     store-full h (a .text .now) (omega arith) (omega arith) (omega arith)
 
-pub store-line-spec : {M : Type 1} → statement M
-store-line-spec =
+pub store-at-spec : {M : Type 1} → statement M
+store-at-spec =
     tie.close
     (tie.spec
     find-seat-requires
