@@ -1,8 +1,7 @@
 -- What a table says of the first lines of a page: it still does after an edit behind them, and filled up from there it is true.
 -- Assumes nothing.
-use Prim.Native.Nat.{ℕ, suc, _+_, _≤_, _<_}
+use Prim.Native.Nat.{ℕ, _+_, _≤_, _<_}
 use mathlib.Core.Path.{_≡_, refl, sym, ap, subst, _∙_}
-use mathlib.Core.Bool.{true}
 use mathlib.Core.List.{List, [], _∷_, _++_, append-nil}
 use native.Mathlib.Nat.{zero-add}
 use native.Mathlib.Numerals.{add-one}
@@ -15,10 +14,10 @@ use Rattle.nibl.specs.Bytes.{if_then_else_}
 use Rattle.nibl.specs.Page.{Stored, recordsOf, recordBytes, used}
 use Rattle.nibl.specs.Table.{positionsFrom, walkTable, refilled}
 use Rattle.page.specs.declared.Seat.{Seat}
-use Rattle.page.specs.Walk.{recordAt, sizeAt}
+use Rattle.page.specs.Walk.{sizeAt}
 use Rattle.page.specs.Edits.{seatOf, Seatable, Seated, spliced, canStore, storeAt, deleteAt}
 use Rattle.page.specs.Tables.{spanOf}
-use Rattle.page.proofs.Walk.{by-cases, Met, met, past}
+use Rattle.page.proofs.Walk.{by-cases, met}
 use Rattle.page.proofs.Program.{both}
 use Rattle.page.proofs.Ways.{Way, here, way-span, way-records, way-to, way-kept}
 use Rattle.page.proofs.Tables.{lines-most, positions-append, walk-length, table-front}

@@ -5,7 +5,6 @@ use Prim.Native.Nat.{ℕ}
 use borrow.Author.Needs.{needs}
 use lib.ListN.{take}
 use Rattle.nibl.specs.Page.{recordsOf}
-use Rattle.page.specs.declared.Seat.{Seat}
 use Rattle.page.specs.Edits.{deleteAt, deleteOf}
 use Rattle.page.proofs.Ways.{Way}
 use Rattle.page.proofs.Determined.{page-is}

@@ -1,8 +1,8 @@
 -- `find_line` meets its contract: with a table, the first line that is not lower is the one or there is none. Assumes nothing.
 use Prim.Native.Nat.{ℕ, _+_, _<_}
-use mathlib.Core.Path.{_≡_, sym, ap, subst, _∙_}
+use mathlib.Core.Path.{sym, ap, subst, _∙_}
 use native.Mathlib.Omega.{arith}
-use lib.ListN.{length, getD, drop}
+use lib.ListN.{length, getD}
 use borrow.Author.Needs.{needs}
 use Rattle.nibl.specs.Page.{recordsOf}
 use Rattle.page.specs.Walk.{reached}

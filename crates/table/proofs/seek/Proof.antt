@@ -1,6 +1,5 @@
 -- `seek` meets its contract: the lines below the number are at least lo and at most hi, and each turn halves what is between. Assumes nothing.
 use Prim.Native.Nat.{ℕ, _+_, _-_, _/_, _≤_, _<_}
-use mathlib.Core.Path.{_≡_, sym, _∙_}
 use native.Mathlib.Omega.{arith}
 use lib.ListN.{length, getD, drop}
 use Rattle.nibl.specs.Page.{recordsOf, lineAt}
