@@ -83,7 +83,7 @@ answer-is p edited.Done = refl
 answer-is p edited.NoRoom = refl
 answer-is p edited.Absent = refl
 
-page-is : (p : List ℕ) (a : Edited) → changed p a .page ≡ p
+pub page-is : (p : List ℕ) (a : Edited) → changed p a .page ≡ p
 page-is p edited.Done = refl
 page-is p edited.NoRoom = refl
 page-is p edited.Absent = refl

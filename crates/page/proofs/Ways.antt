@@ -2,7 +2,7 @@
 -- Assumes nothing.
 use Prim.Native.Nat.{ℕ, zero, suc, _+_, _-_, _*_, _≤_, _<_}
 use mathlib.Core.Path.{_≡_, refl, sym, ap, subst, _∙_}
-use mathlib.Core.Bool.{true, false, _&&_, _||_}
+use mathlib.Core.Bool.{false, _&&_, _||_}
 use mathlib.Core.List.{List, [], _∷_, _++_}
 use native.Mathlib.Nat.{add-zero, zero-add}
 use native.Mathlib.Omega.{arith}
@@ -13,7 +13,7 @@ use borrow.Author.Tests.{leb-true, leb-false}
 use Rattle.nibl.specs.Page.{Stored, lengthAt, textAt, recordsOf, size}
 use Rattle.page.specs.Walk.{stopsAt, recordAt, sizeAt}
 use Rattle.page.specs.Tables.{spanOf}
-use Rattle.page.proofs.Walk.{by-cases, size-is, size-whole, size-cut, size-some, stop, step}
+use Rattle.page.proofs.Walk.{by-cases, long, size-is, size-whole, size-cut, size-most, size-some, stop, step}
 
 -- The records from position q up to position `at`
 pub data Way (page : List ℕ) : ℕ → ℕ → List Stored → Type 0 where
@@ -29,6 +29,14 @@ way-records here = refl
 way-records {page = page} {q = q} (on e w) =
     let p : List ℕ = drop q page in
     step p e ∙ ap (λ (l : List Stored). recordAt p ∷ l) (ap recordsOf (drop-drop (sizeAt p) q page) ∙ way-records w)
+
+pub way-inside : {page : List ℕ} {q at : ℕ} {rs : List Stored} → q ≤ length page + 1 → Way page q at rs → at ≤ length page + 1
+way-inside h here = h
+way-inside {page = page} {q = q} h (on e w) =
+    let d = length-drop q page in
+    let l = long (drop q page) e in
+    let m = size-most (drop q page) e in
+    way-inside (omega arith) w
 
 -- the way to the k-th record, or to where it would stand
 way-from : (k q : ℕ) (page : List ℕ) → k ≤ length (recordsOf (drop q page))

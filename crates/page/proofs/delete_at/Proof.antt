@@ -1,5 +1,5 @@
 -- `delete_at` meets its contract: the part after the record moves to its seat. Assumes nothing.
-use Prim.Native.Nat.{_≤_, ℕ, _-_, _+_}
+use Prim.Native.Nat.{ℕ, _-_}
 use mathlib.Core.List.{List, []}
 use mathlib.Core.Path.{_≡_, ap, _∙_}
 use native.Mathlib.Omega.{arith}

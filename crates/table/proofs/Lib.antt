@@ -1,0 +1,5 @@
+pub mod Index
+pub mod Compared
+pub mod Below
+pub mod Fronts
+pub mod Determined
