@@ -6,8 +6,8 @@ mod texts;
 mod values;
 
 use model::case::{Call, Case};
-use model::random::damage;
 use model::random::pages::{render, Lines};
+use model::random::{damage, tables};
 use model::{Answer, Record};
 
 /// Takes a case, and how often its run is continued where it is paused.
@@ -19,6 +19,9 @@ pub fn each(visit: &mut Visit) {
     pages::each(visit);
     programs::each(visit);
     damaged(visit);
+    tables::written()
+        .into_iter()
+        .for_each(|case| visit(case, 0));
 }
 
 /// The table of damaged lines of every statement: for their columns.
@@ -41,6 +44,7 @@ fn typed(lines: &Lines, input: &[u8]) -> Case {
         budget: 100,
         sense: 0x5a,
         record: Record::default(),
+        table: None,
     }
 }
 
