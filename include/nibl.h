@@ -109,7 +109,7 @@ typedef struct {
     size_t outpos;  /* where to write in the output: 0 to its length */
     uint8_t sense;  /* the sense byte, of which STAT reads bits 4 and 5 */
     size_t budget;  /* the steps that may run: 0 to NIBL_BUDGET_MOST */
-    uint8_t tabled; /* is a table lent? 0: none is, whatever the pointer is; any other number: one is */
+    uint8_t tabled; /* is a table lent? 0: none is; any other number: one is */
 } nibl_call;
 
 /* What a call answers. */
@@ -127,12 +127,13 @@ typedef struct {
 /*
  * A table of line places may be lent beside the page, so that GOTO and GOSUB need not look for their line record by
  * record. It is the number of lines, and then each line's position in the page, in order: where its record begins. What
- * stands past the last line is free: it is not looked at, and never written. For an empty page a table of zeros is true.
+ * stands past the last line is free: it is not looked at, and never written. So the table of an empty page is one that
+ * begins with 0.
  *
- * Calls keep it true: when a line is stored or deleted, and by NEW, they change the count, and the positions from that line
- * on. A host that changes the page itself, or restores one, makes the table anew: see docs/EMBEDDING.md. One that does not
- * describe the page is refused with NIBL_BAD_TABLE, one that is too short with NIBL_OUT_OF_RANGE. A call answers the
- * same with a true table and with none. To lend none: NULL, 0, and a call whose tabled is 0.
+ * Calls keep it true: when a line is stored or deleted, and by NEW, they write the count, and the positions from that line
+ * on. A host that changes the page itself, or restores one, makes the table anew: make_table in examples/embed/gate.c
+ * does. A table that does not describe the page is refused with NIBL_BAD_TABLE, one that is too short with
+ * NIBL_OUT_OF_RANGE. A call answers the same with a true table and with none. To lend none: NULL, 0, and 0 for tabled.
  */
 
 /* Give either call 72 KiB of stack: it takes less than 8 KiB, and up to 880 bytes for each open bracket, "@" or NOT. */
