@@ -6,6 +6,7 @@ use crate::machine::{Ending, Flow, Machine};
 use crate::page::{delete, read_page, store, Program, END_MARK};
 use crate::record::{Place, Record};
 use crate::stop::Stop;
+use crate::table::{describes, refill, TABLE_LEAST};
 use crate::tree::{StatementId, Tree};
 use crate::typing::{gather, CR, LF};
 
@@ -19,6 +20,8 @@ pub struct Lent<'a> {
     pub output_position: u32,
     pub sense: u8,
     pub budget: u32,
+    /// The table of line places, where one is lent.
+    pub table: Option<&'a mut [u16]>,
 }
 
 /// What a call answers.
@@ -81,6 +84,9 @@ fn checked(record: &Record, lent: &Lent) -> Result<Program, Stop> {
         return Err(Stop::OutOfRange);
     }
     let program = read_page(lent.page).ok_or(Stop::BadPage)?;
+    if !lent.table().is_none_or(|table| describes(table, lent.page)) {
+        return Err(Stop::BadTable);
+    }
     match record.fits(&program) {
         true => Ok(program),
         false => Err(Stop::BadRecord),
@@ -88,6 +94,10 @@ fn checked(record: &Record, lent: &Lent) -> Result<Program, Stop> {
 }
 
 impl Lent<'_> {
+    fn table(&self) -> Option<&[u16]> {
+        self.table.as_deref()
+    }
+
     fn in_range(&self) -> bool {
         (2..=4096).contains(&self.page.len())
             && self.memory.len() <= 4096
@@ -96,6 +106,7 @@ impl Lent<'_> {
             && self.input_position as usize <= self.input.len()
             && self.output_position as usize <= self.output.len()
             && self.budget <= 65_535
+            && self.table().is_none_or(|table| table.len() >= TABLE_LEAST)
     }
 
     fn answer(&self, ending: Ending) -> Answer {
@@ -117,10 +128,10 @@ impl Lent<'_> {
     }
 
     fn delete(&mut self, record: &mut Record, program: &Program, number: LineNumber) -> Ending {
-        if delete(self.page, program, number) {
-            record.clear_stacks();
+        match delete(self.page, program, number) {
+            true => self.edited(record),
+            false => Ending::plain(Stop::Done, 0),
         }
-        Ending::plain(Stop::Done, 0)
     }
 
     fn store(
@@ -130,10 +141,19 @@ impl Lent<'_> {
         number: LineNumber,
         text: &[u8],
     ) -> Ending {
-        if !store(self.page, program, number, text) {
-            return Ending::plain(Stop::PageFull, 0);
+        match store(self.page, program, number, text) {
+            true => self.edited(record),
+            false => Ending::plain(Stop::PageFull, 0),
         }
+    }
+
+    /// What an edit does beside the page: the stacks are cleared, and a lent
+    /// table becomes what a fresh walk gives.
+    fn edited(&mut self, record: &mut Record) -> Ending {
         record.clear_stacks();
+        if let Some(table) = &mut self.table {
+            refill(table, self.page);
+        }
         Ending::plain(Stop::Done, 0)
     }
 
@@ -141,16 +161,18 @@ impl Lent<'_> {
         match command {
             Command::New => {
                 self.page[..END_MARK.len()].copy_from_slice(&END_MARK);
-                record.clear_stacks();
+                self.edited(record)
             }
-            Command::Clear => record.clear(),
+            Command::Clear => {
+                record.clear();
+                Ending::plain(Stop::Done, 0)
+            }
             Command::Run => {
                 record.clear();
-                return self.run(record, program, 0);
+                self.run(record, program, 0)
             }
-            Command::List(from) => return self.list(record, program, from),
+            Command::List(from) => self.list(record, program, from),
         }
-        Ending::plain(Stop::Done, 0)
     }
 
     /// Each line is one output item; those already out stay.

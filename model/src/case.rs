@@ -12,17 +12,19 @@ use crate::json::{parse, push_bytes, push_list, Json};
 use crate::record::{ForEntry, ForStack, Pause, Place, PlaceStack, Record};
 
 /// The last of document 02's items that is in force.
-const LANDED: u8 = 2;
+const LANDED: u8 = 3;
 
 const ITEMS: u8 = 13;
 
 /// What later items add to a case, to a record and to an entry of its FOR
 /// stack.
-const LATER: [&str; 7] = [
-    "table", "tables", "saved", "ranges", "form", "lists", "room",
-];
+const LATER: [&str; 6] = ["tables", "saved", "ranges", "form", "lists", "room"];
 const LATER_IN_RECORD: [&str; 4] = ["page", "gosub_pages", "do_pages", "trace"];
 const LATER_IN_FOR: [&str; 1] = ["page"];
+
+/// The longest table that a few bytes of a case can ask for. The rules have no
+/// limit.
+const TABLE_MOST: usize = 1 << 20;
 
 #[derive(Clone, Copy, Debug, PartialEq, Eq)]
 pub enum Call {
@@ -43,6 +45,8 @@ pub struct Case {
     pub budget: u32,
     pub sense: u8,
     pub record: Record,
+    /// The table of line places, where one is lent.
+    pub table: Option<Vec<u16>>,
 }
 
 /// Why a line does not give a call.
@@ -57,6 +61,23 @@ pub enum Unread {
 pub type Reading<T> = Result<T, Unread>;
 
 impl Case {
+    /// A line typed on a page in a fresh session, with nothing else lent.
+    pub fn typed(page: Vec<u8>, input: &[u8]) -> Case {
+        Case {
+            call: Call::Line,
+            page,
+            memory: Vec::new(),
+            input: input.to_vec(),
+            output: Vec::new(),
+            input_position: 0,
+            output_position: 0,
+            budget: 0,
+            sense: 0,
+            record: Record::default(),
+            table: None,
+        }
+    }
+
     /// Makes the call. Afterwards the case holds what the call left.
     pub fn run(&mut self) -> Answer {
         let lent = Lent {
@@ -68,6 +89,7 @@ impl Case {
             output_position: self.output_position,
             sense: self.sense,
             budget: self.budget,
+            table: self.table.as_deref_mut(),
         };
         match self.call {
             Call::Line => take_line(&mut self.record, lent),
@@ -76,13 +98,13 @@ impl Case {
     }
 
     pub fn read(line: &[u8]) -> Reading<Case> {
-        const KEYS: [&str; 11] = [
+        const KEYS: [&str; 12] = [
             "upto", "call", "page", "mem", "inp", "out", "inpos", "outpos", "budget", "sense",
-            "rec",
+            "table", "rec",
         ];
         let whole = parse(line).map_err(Unread::Error)?;
         check_item(&whole)?;
-        let [_, call, page, mem, inp, out, inpos, outpos, budget, sense, rec] =
+        let [_, call, page, mem, inp, out, inpos, outpos, budget, sense, table, rec] =
             entries(&whole, KEYS, &LATER)?;
         Ok(Case {
             call: read_call(required(call, "call")?)?,
@@ -95,6 +117,7 @@ impl Case {
             budget: or_default(budget, lent_number)?,
             sense: or_default(sense, lent_number)?,
             record: or_default(rec, read_record)?,
+            table: or_default(table, read_table)?,
         })
     }
 
@@ -113,6 +136,7 @@ impl Case {
         push_number(&mut out, "outpos", self.output_position);
         push_number(&mut out, "budget", self.budget);
         push_number(&mut out, "sense", self.sense.into());
+        push_table(&mut out, self.table.as_deref());
         push_record(&mut out, &self.record);
         out.push('}');
         out
@@ -132,6 +156,7 @@ impl Case {
         push_field(&mut out, "page", &self.page);
         push_field(&mut out, "mem", &self.memory);
         push_field(&mut out, "out", &self.output);
+        push_table(&mut out, self.table.as_deref());
         push_record(&mut out, &without_dead_slots(&self.record));
         out.push('}');
         out
@@ -277,14 +302,39 @@ fn read_call(json: &Json) -> Reading<Call> {
     }
 }
 
+/// A list of numbers of any length.
+fn read_numbers<T: TryFrom<i128>>(json: &Json) -> Reading<Vec<T>> {
+    match json {
+        Json::List(list) => list.iter().map(lent_number).collect(),
+        _ => error("no list"),
+    }
+}
+
 /// A list of numbers, or a string of characters below 256.
 fn read_bytes(json: &Json) -> Reading<Vec<u8>> {
     let byte = |character: char| u8::try_from(character).or_else(|_| error("no byte"));
     match json {
-        Json::List(list) => list.iter().map(lent_number).collect(),
         Json::Text(text) => text.chars().map(byte).collect(),
-        _ => error("no bytes"),
+        _ => read_numbers(json),
     }
+}
+
+/// A list of numbers, or packed: its length, the numbers at its head, and the
+/// one that fills the rest. Null if none is lent.
+fn read_table(json: &Json) -> Reading<Option<Vec<u16>>> {
+    match json {
+        Json::Null => return Ok(None),
+        Json::List(_) => return read_numbers(json).map(Some),
+        _ => {}
+    }
+    let [length, head, fill] = entries(json, ["len", "head", "fill"], &[])?;
+    let mut table = or_default(head, read_numbers)?;
+    let length = length.map_or(Ok(table.len()), lent_number)?;
+    if length < table.len() || length > TABLE_MOST {
+        return error(format!("no table of {length}"));
+    }
+    table.resize(length, or_default(fill, lent_number)?);
+    Ok(Some(table))
 }
 
 fn read_record(json: &Json) -> Reading<Record> {
@@ -383,6 +433,24 @@ fn push_number(out: &mut String, key: &str, number: u32) {
 fn push_field(out: &mut String, key: &str, bytes: &[u8]) {
     push(out, format_args!(",\"{key}\":"));
     push_bytes(out, bytes);
+}
+
+/// What stands before the run of the last value at the end, and that value.
+pub fn packed<T: Copy + Default + PartialEq>(whole: &[T]) -> (&[T], T) {
+    let fill = whole.last().copied().unwrap_or_default();
+    let last = whole.iter().rposition(|&value| value != fill);
+    (&whole[..last.map_or(0, |last| last + 1)], fill)
+}
+
+fn push_table(out: &mut String, table: Option<&[u16]>) {
+    let Some(table) = table else {
+        return;
+    };
+    let (head, fill) = packed(table);
+    let length = table.len();
+    push(out, format_args!(",\"table\":{{\"len\":{length},\"head\":"));
+    push_list(out, head, |out, number| push(out, format_args!("{number}")));
+    push(out, format_args!(",\"fill\":{fill}}}"));
 }
 
 fn push_record(out: &mut String, record: &Record) {

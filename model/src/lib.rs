@@ -6,10 +6,10 @@
 //! definitions.
 //!
 //! Reading order: [`value`], [`stop`], [`typing`], [`words`], [`tree`],
-//! [`reader`], [`line`], [`column`], [`page`], [`record`], [`machine`],
-//! [`statements`], [`calls`]. [`session`], [`case`] and [`json`] serve the programs in
-//! `src/bin`, [`random`] makes sessions, cases and lines for comparisons, and
-//! [`rules`] pages to measure on.
+//! [`reader`], [`line`], [`column`], [`page`], [`table`], [`record`],
+//! [`machine`], [`statements`], [`calls`]. [`session`], [`case`] and [`json`]
+//! serve the programs in `src/bin`, [`random`] makes sessions, cases and lines
+//! for comparisons, and [`rules`] pages to measure on.
 
 #![forbid(unsafe_code)]
 
@@ -27,6 +27,7 @@ pub mod rules;
 pub mod session;
 pub mod statements;
 pub mod stop;
+pub mod table;
 pub mod tree;
 pub mod typing;
 pub mod value;

@@ -64,6 +64,18 @@ pub fn read_page(page: &[u8]) -> Option<Program> {
     Some(program)
 }
 
+/// The position and the text of each record of a good page.
+pub fn records(page: &[u8]) -> impl Iterator<Item = (usize, &[u8])> {
+    let mut at = 0;
+    std::iter::from_fn(move || {
+        let start = at;
+        (page[start..start + 2] != END_MARK).then(|| {
+            at += usize::from(page[start + 2]);
+            (start, &page[start + 3..at - 1])
+        })
+    })
+}
+
 /// The number, the text and the length of the record a page goes on with, if
 /// its frame is sound.
 fn frame(rest: &[u8]) -> Option<(LineNumber, &[u8], usize)> {

@@ -35,6 +35,7 @@ pub fn run_session(input: &[u8], sink: &mut impl Write) -> io::Result<()> {
             output_position: 0,
             sense: 0,
             budget: BUDGET,
+            table: None,
         };
         let answer = take_line(&mut record, lent);
         // An INPUT statement's 7 has a line number and is shown.

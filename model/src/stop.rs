@@ -24,11 +24,12 @@ pub enum Stop {
     BadPage = 18,
     BadRecord = 19,
     End = 20,
+    BadTable = 26,
 }
 
 impl Stop {
     /// All of them, in rising number.
-    pub const ALL: [Stop; 20] = [
+    pub const ALL: [Stop; 21] = [
         Stop::Done,
         Stop::OutOfRange,
         Stop::PageFull,
@@ -49,6 +50,7 @@ impl Stop {
         Stop::BadPage,
         Stop::BadRecord,
         Stop::End,
+        Stop::BadTable,
     ];
 
     pub fn number(self) -> u8 {

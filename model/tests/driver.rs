@@ -170,27 +170,26 @@ fn with(field: &str) -> String {
 
 #[test]
 fn the_item_of_a_case() {
-    assert_eq!(drive(with("\"upto\":2").as_bytes()), OUTCOME);
-    for item in (0..=13).filter(|&item| item != 2) {
+    assert_eq!(drive(with("\"upto\":3").as_bytes()), OUTCOME);
+    for item in (0..=13).filter(|&item| item != 3) {
         let case = with(&format!("\"upto\":{item}"));
         assert_eq!(drive(case.as_bytes()), SKIP, "{item}");
         let other = format!("{{\"call\":\"save\",\"saved\":[1],\"upto\":{item}}}");
         assert_eq!(drive(other.as_bytes()), SKIP, "{item}");
     }
     for upto in [
-        "14", "-1", "256", "258", "2.0", "null", "true", "[2]", "{}", "\"2\"",
+        "14", "-1", "256", "259", "3.0", "null", "true", "[3]", "{}", "\"3\"",
     ] {
         let answer = drive(with(&format!("\"upto\":{upto}")).as_bytes());
         assert!(answer.starts_with("{\"error\":"), "{upto}: {answer}");
     }
-    let twice = drive(with("\"upto\":2,\"upto\":2").as_bytes());
+    let twice = drive(with("\"upto\":3,\"upto\":3").as_bytes());
     assert_eq!(twice, r#"{"error":"\"upto\" twice"}"#);
 }
 
 #[test]
 fn what_later_items_add_is_absent_or_null() {
     for (field, value) in [
-        ("table", "[0]"),
         ("tables", "[]"),
         ("saved", "[]"),
         ("ranges", "{}"),
@@ -198,7 +197,7 @@ fn what_later_items_add_is_absent_or_null() {
         ("lists", "[]"),
         ("room", "0"),
     ] {
-        for front in ["", "\"upto\":2,"] {
+        for front in ["", "\"upto\":3,"] {
             let case = with(&format!("{front}\"{field}\":null"));
             assert_eq!(drive(case.as_bytes()), OUTCOME, "{field}");
             let answer = drive(with(&format!("{front}\"{field}\":{value}")).as_bytes());
@@ -232,6 +231,100 @@ fn what_later_items_add_is_absent_or_null() {
     }
 }
 
+/// The outcome with a table in its place.
+fn with_table(table: &str) -> String {
+    OUTCOME.replace(",\"rec\":", &format!(",\"table\":{table},\"rec\":"))
+}
+
+#[test]
+fn a_table_stands_before_the_record() {
+    let zeros = format!("[{}]", vec!["0"; 1025].join(","));
+    let others = format!("[0{},7,8,8]", ",9".repeat(1100));
+    let nines = format!(
+        r#"{{"len":1104,"head":[0{},7],"fill":8}}"#,
+        ",9".repeat(1100)
+    );
+    let (least, tail, alone) = (
+        r#"{"len":1025,"head":[],"fill":0}"#,
+        r#"{"len":1030,"head":[0,5,0,6],"fill":65535}"#,
+        r#"{"len":1025,"head":[0],"fill":1}"#,
+    );
+    for (given, left) in [
+        (zeros.as_str(), least),
+        (r#"{"len":1025}"#, least),
+        (r#"{"len":1025,"head":[0,0,0]}"#, least),
+        (r#"{"fill":0,"head":[],"len":1025}"#, least),
+        (&format!("{{\"head\":{zeros}}}"), least),
+        (tail, tail),
+        (r#"{"len":1030,"head":[0,5,0,6,65535],"fill":65535}"#, tail),
+        (alone, alone),
+        (&others, &nines),
+    ] {
+        let case = with(&format!("\"upto\":3,\"table\":{given}"));
+        assert_eq!(drive(case.as_bytes()), with_table(left), "{given}");
+    }
+    assert_eq!(drive(with("\"table\":null").as_bytes()), OUTCOME);
+}
+
+#[test]
+fn a_table_that_is_refused_comes_back() {
+    for (table, stop) in [
+        (r#"{"len":0,"head":[],"fill":0}"#, 1),
+        (r#"{"len":1024,"head":[],"fill":0}"#, 1),
+        (r#"{"len":1024,"head":[1],"fill":0}"#, 1),
+        (r#"{"len":1025,"head":[1],"fill":0}"#, 26),
+        (r#"{"len":1025,"head":[],"fill":65535}"#, 26),
+    ] {
+        let outcome = drive(with(&format!("\"table\":{table}")).as_bytes());
+        let front =
+            format!("{{\"stop\":{stop},\"line\":null,\"steps\":0,\"column\":0,\"inpos\":0,");
+        assert!(outcome.starts_with(&front), "{outcome}");
+        let back = format!("\"out\":[9,9,9,9],\"table\":{table},\"rec\":");
+        assert!(outcome.contains(&back), "{outcome}");
+        assert!(outcome.ends_with("\"paused\":{\"start\":true}}}"));
+    }
+    assert!(drive(with("\"table\":[]").as_bytes())
+        .contains("\"table\":{\"len\":0,\"head\":[],\"fill\":0}"));
+}
+
+#[test]
+fn a_table_is_written_as_it_was_read() {
+    for table in [vec![], vec![3], vec![0; 1025], vec![2, 0, 8, 7, 7, 7]] {
+        let case = Case::read(CASE.as_bytes()).expect("a case");
+        let case = Case {
+            table: Some(table),
+            ..case
+        };
+        assert_eq!(Case::read(case.write().as_bytes()), Ok(case));
+    }
+}
+
+#[test]
+fn what_is_no_table() {
+    for table in [
+        "0",
+        "true",
+        "\"\"",
+        "[65536]",
+        "[-1]",
+        "[null]",
+        r#"{"len":-1}"#,
+        r#"{"len":null}"#,
+        r#"{"len":2,"head":[0,0,0]}"#,
+        r#"{"len":4294967295,"head":[]}"#,
+        r#"{"len":1025,"head":null}"#,
+        r#"{"len":1025,"head":[65536]}"#,
+        r#"{"len":1025,"fill":65536}"#,
+        r#"{"len":1025,"fill":0,"fill":0}"#,
+        r#"{"len":1025,"tail":[]}"#,
+    ] {
+        let answer = drive(with(&format!("\"table\":{table}")).as_bytes());
+        assert!(answer.starts_with("{\"error\":"), "{table}: {answer}");
+    }
+    let twice = drive(with("\"table\":null,\"table\":null").as_bytes());
+    assert_eq!(twice, r#"{"error":"\"table\" twice"}"#);
+}
+
 #[test]
 fn what_a_case_need_not_say() {
     let case = Case::read(br#"{"call":"continue","page":[255,255]}"#).expect("a case");
@@ -240,7 +333,7 @@ fn what_a_case_need_not_say() {
     assert!(case.memory.is_empty() && case.input.is_empty() && case.output.is_empty());
     assert_eq!((case.input_position, case.output_position), (0, 0));
     assert_eq!((case.budget, case.sense), (0, 0));
-    assert_eq!(case.record, Record::default());
+    assert_eq!((case.record, case.table), (Record::default(), None));
     for line in [r#"{"call":"line"}"#, r#"{"page":[255,255]}"#] {
         assert!(drive(line.as_bytes()).starts_with("{\"error\":\"no "));
     }

@@ -9,6 +9,7 @@ use model::random::pages::{program, render};
 use model::random::sessions::session;
 use model::random::{Random, Size};
 use model::session::run_session;
+use model::table::describes;
 use model::typing::{gather, LINE_LIMIT};
 use model::{Answer, Record, Stop};
 
@@ -28,7 +29,7 @@ fn for_cases(seed: u64, mut law: impl FnMut(&Case, &Answer, &Case)) {
 
 fn is_first_refusal(before: &Case, answer: &Answer) -> bool {
     match answer.stop {
-        Stop::OutOfRange | Stop::BadPage | Stop::BadRecord => true,
+        Stop::OutOfRange | Stop::BadPage | Stop::BadTable | Stop::BadRecord => true,
         Stop::NoCr => before.call == Call::Line && answer.line.is_none(),
         _ => false,
     }
@@ -40,7 +41,13 @@ fn used(page: &[u8]) -> Option<usize> {
 }
 
 fn is_sound(case: &Case) -> bool {
-    read_page(&case.page).is_some_and(|program| case.record.fits(&program))
+    read_page(&case.page).is_some_and(|program| case.record.fits(&program)) && is_true(case)
+}
+
+/// Does the table, if one is lent, describe the page? This is said of good pages.
+fn is_true(case: &Case) -> bool {
+    let table = case.table.as_deref();
+    table.is_none_or(|table| describes(table, &case.page))
 }
 
 /// The record with its pause taken away.
@@ -53,7 +60,7 @@ fn unpaused(record: &Record) -> Record {
 
 #[test]
 fn every_call_keeps_the_laws() {
-    let mut seen = [0usize; 21];
+    let mut seen = [0usize; 27];
     for_cases(1, |before, answer, after| {
         seen[usize::from(answer.stop.number())] += 1;
         refusals_change_nothing(before, answer, after);
@@ -62,6 +69,9 @@ fn every_call_keeps_the_laws() {
         answers_are_well_formed(before, answer, after);
         no_reading_changes_only_position_and_pause(before, answer, after);
         the_column_is_that_of_the_line(before, answer);
+        a_table_is_true_or_refused(before, answer);
+        a_table_keeps_what_it_may(before, after);
+        a_true_table_changes_no_answer(before, answer, after);
     });
     for stop in Stop::ALL {
         let times = seen[usize::from(stop.number())];
@@ -79,10 +89,10 @@ fn refusals_change_nothing(before: &Case, answer: &Answer, after: &Case) {
 }
 
 fn soundness_stays(before: &Case, answer: &Answer, after: &Case) {
-    let refused = [Stop::OutOfRange, Stop::BadPage, Stop::BadRecord].contains(&answer.stop);
-    // Out of range may hide a sound page; otherwise only 18 and 19 speak of it.
+    let unsound = [Stop::BadPage, Stop::BadTable, Stop::BadRecord];
+    // Out of range may hide a sound page; otherwise only 18, 26 and 19 speak of it.
     if answer.stop != Stop::OutOfRange {
-        assert_eq!(is_sound(before), !refused);
+        assert_eq!(is_sound(before), !unsound.contains(&answer.stop));
     }
     assert_eq!(is_sound(before), is_sound(after));
 }
@@ -149,6 +159,48 @@ fn the_column_is_that_of_the_line(before: &Case, answer: &Answer) {
     assert!(column == kept.len() || !is_front(&kept[..column + 1]));
 }
 
+fn a_table_is_true_or_refused(before: &Case, answer: &Answer) {
+    let short = before
+        .table
+        .as_ref()
+        .is_some_and(|table| table.len() < 1025);
+    assert!(!short || answer.stop == Stop::OutOfRange);
+    if ![Stop::OutOfRange, Stop::BadPage].contains(&answer.stop) {
+        assert_eq!(is_true(before), answer.stop != Stop::BadTable);
+    }
+}
+
+/// Only the count and the places from the edited line on may change, and nothing past the last line.
+fn a_table_keeps_what_it_may(before: &Case, after: &Case) {
+    let (Some(old), Some(new)) = (&before.table, &after.table) else {
+        assert_eq!(before.table, after.table);
+        return;
+    };
+    if before.page == after.page {
+        assert_eq!(old, new);
+        return;
+    }
+    let lines = usize::from(new[0]);
+    let bytes = before.page.iter().zip(&after.page);
+    let same = bytes.take_while(|(old, new)| old == new).count();
+    let begun = new[1..=lines].partition_point(|&place| usize::from(place) <= same);
+    // The last that begins in what is the same may be the edited line's.
+    let stay = begun.max(1);
+    assert_eq!(old[1..stay], new[1..stay]);
+    assert_eq!(old[lines + 1..], new[lines + 1..]);
+}
+
+fn a_true_table_changes_no_answer(before: &Case, answer: &Answer, after: &Case) {
+    let refused = [Stop::OutOfRange, Stop::BadTable].contains(&answer.stop);
+    if before.table.is_some() && !refused {
+        let mut without = before.clone();
+        without.table = None;
+        assert_eq!(without.run(), *answer);
+        without.table.clone_from(&after.table);
+        assert_eq!(without, *after);
+    }
+}
+
 #[test]
 fn split_budgets_add_up() {
     let mut random = Random::new(2);
@@ -188,28 +240,11 @@ fn go_on(case: &mut Case, first: &Answer, whole: u32) -> Answer {
     case.run()
 }
 
-/// A call that types these bytes, CR included, with room for a whole listing.
-fn typing(page: Vec<u8>, input: Vec<u8>) -> Case {
-    Case {
-        call: Call::Line,
-        page,
-        memory: Vec::new(),
-        input,
-        output: vec![0; 65_535],
-        input_position: 0,
-        output_position: 0,
-        budget: 0,
-        sense: 0,
-        record: Record::default(),
-    }
-}
-
 /// Types all lines of an input into an empty page of this length.
 fn retyped(input: &[u8], length: usize) -> Vec<u8> {
     let mut page = vec![0; length];
     page[..2].fill(255);
-    let mut gate = typing(page, input.to_vec());
-    gate.output.clear();
+    let mut gate = Case::typed(page, input);
     while (gate.input_position as usize) < input.len() {
         let answer = gate.run();
         if answer.stop == Stop::NoCr {
@@ -231,7 +266,10 @@ fn a_listing_retyped_is_the_program() {
         let program = program(&mut random, [Size::Small, Size::Full][round % 2], 100);
         lines += program.len();
         let page = render(&program);
-        let mut listing = typing(page.clone(), b"LIST\r".to_vec());
+        let mut listing = Case {
+            output: vec![0; 65_535],
+            ..Case::typed(page.clone(), b"LIST\r")
+        };
         let answer = listing.run();
         assert_eq!(answer.stop, Stop::Done);
         let listed = &listing.output[..answer.output_position as usize];

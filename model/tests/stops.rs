@@ -8,7 +8,7 @@ use model::{continue_run, take_line, Answer, ForEntry, Lent, Pause, Place, Recor
 #[test]
 fn numbers_are_those_of_the_table() {
     let numbers: Vec<u8> = Stop::ALL.iter().map(|stop| stop.number()).collect();
-    let expected: Vec<u8> = (0..=20).filter(|&number| number != 4).collect();
+    let expected: Vec<u8> = (0..=20).filter(|&number| number != 4).chain([26]).collect();
     assert_eq!(numbers, expected);
 }
 
@@ -35,6 +35,7 @@ fn sized(lengths: [usize; 4], positions: [u32; 2], budget: u32) -> Answer {
         output_position: positions[1],
         sense: 255,
         budget,
+        table: None,
     };
     take_line(&mut Record::default(), lent)
 }

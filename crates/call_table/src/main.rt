@@ -1,12 +1,13 @@
 // Makes the calls of the cases of standard input by the proved `calls`, and writes what each left, to be held against what the
 // model's calls leave of the same bytes. The input has the number of cases, and then of each its name, after one byte for its
-// length; the page, the memory, the input and the output; where the first call reads and writes; the session record; and the
-// calls, after one byte for their number. The calls of a case are made one after the other, each on what the one before left,
-// from the positions that it answered.
+// length; the page, the memory, the input and the output; the table of line places; where the first call reads and writes; the
+// session record; and the calls, after one byte for their number, each of which says whether it is lent the table. The calls of a
+// case are made one after the other, each on what the one before left, from the positions that it answered.
 //
 // Below a case's name each call has a row: the stop with its line, the steps, the column, both positions, the flags, the pause,
-// the stacks, the variables, the sums of page, memory and output, and the bytes that were written, at most the first 40.
-ghost use Prim.Native.Nat.{_≤_};
+// the stacks, the variables, the sums of page, memory and output, the bytes that were written, at most the first 40, and the
+// table's sum with its first 12 numbers.
+ghost use Prim.Native.Nat.{_≤_, _<_};
 ghost use lib.ListN.{length};
 ghost use mathlib.Core.Path.{_≡_};
 use ending::Ended;
@@ -17,6 +18,9 @@ use nibl::ForStack;
 use nibl::Place;
 use nibl::PlaceStack;
 use nibl::Session;
+
+// The most numbers that a table of these cases has.
+const ENTRIES: usize = 1100;
 
 fn say(s: &[u8]) {
     io::write_all(1, s);
@@ -207,12 +211,38 @@ fn wide(b: u8) -> u32
     b as u32
 }
 
-// The bytes as one number, the first byte highest: what is left of it by 16,777,213, a prime.
+// Bytes as one number, the first byte highest: what is left of it by 16,777,213, a prime, with one byte more.
+fn with_byte(sum: u32, b: u8) -> u32
+    requires { ⌜ sum < 16777213 ⌝ }
+    ensures { λ r. ⌜ r < 16777213 ⌝ }
+{
+    (sum * 256 + wide(b)) % 16777213
+}
+
 fn sum(bytes: &[u8]) -> u32 {
     let mut sum: u32 = 0;
     let mut i = 0;
     while i < bytes.len() {
-        sum = (sum * 256 + wide(bytes[i])) % 16777213;
+        sum = with_byte(sum, bytes[i]);
+        i += 1;
+    }
+    sum
+}
+
+// A number is two bytes, the high one first.
+fn with_number(sum: u32, n: u16) -> u32
+    requires { ⌜ sum < 16777213 ⌝ }
+    ensures { λ r. ⌜ r < 16777213 ⌝ }
+{
+    let high = with_byte(sum, (n / 256) as u8);
+    with_byte(high, (n % 256) as u8)
+}
+
+fn sum_numbers(numbers: &[u16]) -> u32 {
+    let mut sum: u32 = 0;
+    let mut i = 0;
+    while i < numbers.len() {
+        sum = with_number(sum, numbers[i]);
         i += 1;
     }
     sum
@@ -240,8 +270,22 @@ fn show_written(output: &[u8], from: usize, to: usize) {
     }
 }
 
+// The table's sum and its first numbers, at most 12.
+fn show_table(table: &[u16]) {
+    say(b" /");
+    show(sum_numbers(table) as u64);
+    let mut i: usize = 0;
+    while i < 12 {
+        if table.len() <= i {
+            break;
+        }
+        show_var(table[i]);
+        i += 1;
+    }
+}
+
 // The row of a call that wrote from this position on.
-fn row(ended: Ended, from: usize, page: &[u8], memory: &[u8], output: &[u8]) {
+fn row(ended: Ended, from: usize, page: &[u8], memory: &[u8], output: &[u8], table: &[u16]) {
     let answer = ended.answer;
     let rec = ended.session;
     show_answer(answer);
@@ -251,6 +295,7 @@ fn row(ended: Ended, from: usize, page: &[u8], memory: &[u8], output: &[u8]) {
     show(sum(memory) as u64);
     show(sum(output) as u64);
     show_written(output, from, answer.outpos);
+    show_table(table);
     say(b"\n");
 }
 
@@ -263,11 +308,12 @@ fn make_call(
     input: &[u8],
     output: &mut [u8],
     given: Call,
+    table: &mut [u16],
 ) -> Ended {
     if kind == 0 {
-        return calls::take_line(rec, page, memory, input, output, given);
+        return calls::take_line(rec, page, memory, input, output, given, table);
     }
-    calls::continue_run(rec, page, memory, input, output, given)
+    calls::continue_run(rec, page, memory, input, output, given, table)
 }
 
 // The next call, with its row.
@@ -279,30 +325,33 @@ fn next_call(
     output: &mut [u8],
     inpos: usize,
     outpos: usize,
+    table: &mut [u16],
 ) -> Ended {
     let kind = byte();
     let sense = byte();
     let budget = long();
+    let tabled = byte();
     let given = Call {
         inpos: inpos,
         outpos: outpos,
         sense: sense,
         budget: budget,
+        tabled: tabled,
     };
-    let ended = make_call(kind, rec, page, memory, input, output, given);
-    row(ended, outpos, page, memory, output);
+    let ended = make_call(kind, rec, page, memory, input, output, given, table);
+    row(ended, outpos, page, memory, output, table);
     ended
 }
 
 // A case's calls, each on what the one before left.
-fn calls(page: &mut [u8], memory: &mut [u8], input: &[u8], output: &mut [u8]) {
+fn calls(page: &mut [u8], memory: &mut [u8], input: &[u8], output: &mut [u8], table: &mut [u16]) {
     let mut inpos = long();
     let mut outpos = long();
     let mut rec = session();
     let count = byte();
     let mut i: u8 = 0;
     while i < count {
-        let ended = next_call(rec, page, memory, input, output, inpos, outpos);
+        let ended = next_call(rec, page, memory, input, output, inpos, outpos, table);
         let answer = ended.answer;
         rec = ended.session;
         inpos = answer.inpos;
@@ -339,6 +388,41 @@ fn take(room: &mut [u8]) -> usize
     n
 }
 
+fn fill_numbers(room: &mut [u16], filler: u16) {
+    let mut i = 0;
+    while i < room.len() {
+        room[i] = filler;
+        i += 1;
+    }
+}
+
+fn read_numbers(room: &mut [u16]) {
+    let mut i = 0;
+    while i < room.len() {
+        room[i] = number();
+        i += 1;
+    }
+}
+
+// The table, in the same way: its length, a number that fills it, and those that stand before it, after how many they are.
+fn take_table(room: &mut [u16]) -> usize
+    ensures { λ r. ⌜ r ≤ length (now (room .exit)) ⌝ }
+    ensures { λ _. ⌜ length (now (room .exit)) ≡ length (now (room .entry)) ⌝ }
+{
+    let n = long();
+    let filler = number();
+    let given = number() as usize;
+    if room.len() < n {
+        return 0;
+    }
+    if n < given {
+        return 0;
+    }
+    fill_numbers(&mut room[..n], filler);
+    read_numbers(&mut room[..given]);
+    n
+}
+
 fn echo(name: &mut [u8]) {
     io::read_full(0, name);
     say(name);
@@ -357,16 +441,19 @@ fn next_case() {
     let mut memory = io::large_buffer();
     let mut input = io::large_buffer();
     let mut output = io::large_buffer();
+    let mut table = [0u16; ENTRIES];
     show_name();
     let p = take(&mut page);
     let m = take(&mut memory);
     let n = take(&mut input);
     let o = take(&mut output);
+    let t = take_table(&mut table);
     calls(
         &mut page[..p],
         &mut memory[..m],
         &input[..n],
         &mut output[..o],
+        &mut table[..t],
     );
 }
 

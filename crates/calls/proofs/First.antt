@@ -11,7 +11,7 @@ use Rattle.nibl.specs.Typing.{gather}
 use Rattle.nibl.specs.Page.{isGood, placesOf, fits, fitsPaused}
 use Rattle.nibl.specs.Record.{nowhere, pausedAt, pauseNumber, unpaused}
 use Rattle.nibl.specs.Meaning.{World}
-use Rattle.nibl.specs.Calls.{Lent, Outcome, stops, inRange, firstRefusal, lentWorld, lentEnv, begun, runFrom, runOutcome, obeyLine, takeLineIn, takeLine, continueFrom, continueRunIn, continueRun, limit}
+use Rattle.nibl.specs.Calls.{Lent, Outcome, stops, inRange, tableInRange, tableIsTrue, firstRefusal, lentWorld, lentEnv, begun, runFrom, runOutcome, obeyLine, takeLineIn, takeLine, continueFrom, continueRunIn, continueRun, limit}
 use Rattle.nibl.specs.declared.Session.{Session}
 use Rattle.nibl.specs.declared.Paused.{Paused}
 use Rattle.page.proofs.Program.{both}
@@ -19,13 +19,15 @@ use Rattle.record.specs.Sound.{Sized}
 use Rattle.record.proofs.Fitted.{sound-fit, fit-paused}
 use Rattle.ending.specs.Ends.{worldAt}
 use Rattle.ending.specs.Lends.{Lists, Accepted}
+use Rattle.calls.specs.Tables.{TableLent}
+use Rattle.calls.proofs.Tables.{table-lent}
 
 -- the lists that both calls make
 pub lists : Lists (replicate limit 0) (replicate limit 0) (replicate 256 0) (replicate 256 0)
 lists = record { short = omega arith; room = omega arith; stack = omega arith; replyOps = omega arith; replyValues = omega arith }
 
 -- past the first refusals
-in-range : (x : Lent) → inRange x ≡ true → (leb (length (x .page)) 4096 ≡ true) × (leb (x .call .budget) 65535 ≡ true)
+in-range : (x : Lent) → inRange x ≡ true → (leb (length (x .page)) 4096 ≡ true) × (leb (x .call .budget) 65535 ≡ true) × (tableInRange x ≡ true)
 in-range x h =
     let a = both (leb 2 (length (x .page))) _ h in
     let b = both (leb (length (x .page)) 4096) _ (a .1) in
@@ -34,22 +36,25 @@ in-range x h =
     let e = both (leb (length (x .output)) 65535) _ (d .1) in
     let f = both (leb (x .call .inpos) (length (x .input))) _ (e .1) in
     let g = both (leb (x .call .outpos) (length (x .output))) _ (f .1) in
-    (b .0, g .1)
+    let k = both (leb (x .call .budget) 65535) _ (g .1) in
+    (b .0, k .0, k .1)
 
 pub accepted : {lim : ℕ} (x : Lent) → firstRefusal lim x ≡ 0 → Sized (x .session)
-    → Accepted lim (x .page) (x .call .budget) (unpaused (x .session)) × (fitsPaused (placesOf (x .page)) (x .session .paused) ≡ true)
+    → (Accepted lim (x .page) (x .call .budget) (unpaused (x .session)) × (fitsPaused (placesOf (x .page)) (x .session .paused) ≡ true)) × TableLent (x .page) (x .call) (x .table)
 unfolding firstRefusal
-accepted {lim} x h z = by (inRange x) refl (isGood lim (x .page)) refl (fits (x .page) (x .session)) refl h where
-  by : (a : Bool) → inRange x ≡ a → (b : Bool) → isGood lim (x .page) ≡ b → (c : Bool) → fits (x .page) (x .session) ≡ c
-      → _≡_ {A = ℕ} (if not a then 1 else if not b then 18 else if not c then 19 else 0) 0
-      → Accepted lim (x .page) (x .call .budget) (unpaused (x .session)) × (fitsPaused (placesOf (x .page)) (x .session .paused) ≡ true)
-  by true p true q true r e =
+accepted {lim} x h z = by (inRange x) refl (isGood lim (x .page)) refl (tableIsTrue x) refl (fits (x .page) (x .session)) refl h where
+  by : (a : Bool) → inRange x ≡ a → (b : Bool) → isGood lim (x .page) ≡ b → (d : Bool) → tableIsTrue x ≡ d → (c : Bool) → fits (x .page) (x .session) ≡ c
+      → _≡_ {A = ℕ} (if not a then 1 else if not b then 18 else if not d then 26 else if not c then 19 else 0) 0
+      → (Accepted lim (x .page) (x .call .budget) (unpaused (x .session)) × (fitsPaused (placesOf (x .page)) (x .session .paused) ≡ true)) × TableLent (x .page) (x .call) (x .table)
+  by true p true q true t true r e =
       let f = sound-fit {lim = lim} (record { good = q; fitting = r; sized = z }) in
       let i = in-range x p in
-      (record { short = leb-true _ _ (i .0); good = q; fits = fit-paused f nowhere refl; idle = refl; steps = leb-true _ _ (i .1) }, f .paused)
-  by false p b q c r e = absurd (omega arith)
-  by true p false q c r e = absurd (omega arith)
-  by true p true q false r e = absurd (omega arith)
+      let s = leb-true _ _ (i .0) in
+      ((record { short = s; good = q; fits = fit-paused f nowhere refl; idle = refl; steps = leb-true _ _ (i .1) }, f .paused), table-lent lim s q (i .2) t)
+  by false p b q d t c r e = absurd (omega arith)
+  by true p false q d t c r e = absurd (omega arith)
+  by true p true q false t c r e = absurd (omega arith)
+  by true p true q true t false r e = absurd (omega arith)
 
 -- what a call does, where its first refusal is n and o is what it does past them
 abbrev outcomeBy : Lent → Outcome → ℕ → Outcome

@@ -5,11 +5,13 @@ ghost use mathlib.Core.Bool.{true};
 ghost use lib.ListN.{length};
 ghost use Rattle.nibl.specs.Page.{placesOf, fitsPaused};
 ghost use Rattle.nibl.specs.Record.{unpaused};
-ghost use Rattle.nibl.specs.Calls.{lentAll, leftAll, firstRefusal, continueFrom, takeLine, continueRun, limit};
+ghost use Rattle.nibl.specs.Calls.{lentAll, leftAll, outcomeWith, leaves, firstRefusal, continueFrom, takeLine, continueRun, limit};
 ghost use Rattle.ending.specs.Ends.{endedIn};
 ghost use Rattle.ending.specs.Lends.{Lists, Accepted};
 ghost use Rattle.calls.specs.Range.{rangeOf};
+ghost use Rattle.calls.specs.Tables.{trueOf, lentEntries, TableLent, tablePast};
 ghost use Rattle.calls.specs.Past.{pastRefusals};
+ghost use Rattle.table.specs.Index.{Indexed};
 use ending::Ended;
 use nibl::Call;
 use nibl::LIMIT;
@@ -17,9 +19,19 @@ use nibl::Paused;
 use nibl::ROOM;
 use nibl::Session;
 
+// The least entries that a lent table has: a count, and a position for every four bytes of the longest page.
+const TABLE_LEAST: usize = 1025;
+
 // Whether the lengths, the positions and the budget are those that a call may be lent.
-fn in_range(page: usize, memory: usize, input: usize, output: usize, call: Call) -> bool
-    ensures { λ r. ⌜ r ≡ rangeOf page memory input output call ⌝ }
+fn in_range(
+    page: usize,
+    memory: usize,
+    input: usize,
+    output: usize,
+    call: Call,
+    table: usize,
+) -> bool
+    ensures { λ r. ⌜ r ≡ rangeOf page memory input output call table ⌝ }
 {
     if page < 2 {
         return false;
@@ -42,10 +54,26 @@ fn in_range(page: usize, memory: usize, input: usize, output: usize, call: Call)
     if output < call.outpos {
         return false;
     }
-    call.budget <= 65535
+    if 65535 < call.budget {
+        return false;
+    }
+    if call.tabled == 0 {
+        return true;
+    }
+    TABLE_LEAST <= table
 }
 
-// The first refusals, in their order: 1, 18, 19. 0 for none.
+// Whether a table that is lent describes the page.
+fn is_described(page: &[u8], call: Call, table: &[u16]) -> bool
+    ensures { λ r. ⌜ r ≡ trueOf (now (page .entry)) call (now (table .entry)) ⌝ }
+{
+    if call.tabled == 0 {
+        return true;
+    }
+    table::describes(page, table)
+}
+
+// The first refusals, in their order: 1, 18, 26, 19. 0 for none.
 fn first_refusal(
     rec: Session,
     page: &[u8],
@@ -54,14 +82,25 @@ fn first_refusal(
     output: &[u8],
     call: Call,
     lim: usize,
+    table: &[u16],
 ) -> u8
-    ensures { λ r. ⌜ r ≡ firstRefusal lim (lentAll rec (now (page .entry)) (now (memory .entry)) (now (input .entry)) (now (output .entry)) call) ⌝ }
+    ensures { λ r. ⌜ r ≡ firstRefusal lim (lentAll rec (now (page .entry)) (now (memory .entry)) (now (input .entry)) (now (output .entry)) call (now (table .entry))) ⌝ }
 {
-    if !in_range(page.len(), memory.len(), input.len(), output.len(), call) {
+    if !in_range(
+        page.len(),
+        memory.len(),
+        input.len(),
+        output.len(),
+        call,
+        table.len(),
+    ) {
         return 1;
     }
     if !places::is_good(page, lim) {
         return 18;
+    }
+    if !is_described(page, call, table) {
+        return 26;
     }
     if !record::fits(page, rec) {
         return 19;
@@ -81,9 +120,10 @@ fn paused_run(
     replies: &mut [u32],
     values: &mut [u16],
     ops: &mut [u32],
+    table: &[u16],
 ) -> Ended
-    requires { ⌜ Lists (now reply) (now replies) (now values) (now ops) × Accepted (length (now reply)) (now page) (call .budget) (unpaused rec) × (fitsPaused (placesOf (now page)) (rec .paused) ≡ true) ⌝ }
-    ensures { λ r. ⌜ endedIn r (now (page .entry)) (now (memory .exit)) (now (output .exit)) ≡ continueFrom (length (now (reply .entry))) (lentAll rec (now (page .entry)) (now (memory .entry)) (now (input .entry)) (now (output .entry)) call) (rec .paused) ⌝ }
+    requires { ⌜ (Lists (now reply) (now replies) (now values) (now ops) × Accepted (length (now reply)) (now page) (call .budget) (unpaused rec) × (fitsPaused (placesOf (now page)) (rec .paused) ≡ true)) × Indexed (now page) (now table) ⌝ }
+    ensures { λ r. ⌜ endedIn r (now (page .entry)) (now (memory .exit)) (now (output .exit)) ≡ continueFrom (length (now (reply .entry))) (lentAll rec (now (page .entry)) (now (memory .entry)) (now (input .entry)) (now (output .entry)) call (now (table .entry))) (rec .paused) ⌝ }
 {
     match Paused::of(rec.paused) {
         Paused::Nowhere => ending::stopped(0, rec.unpaused(), call.inpos, call.outpos),
@@ -100,12 +140,20 @@ fn paused_run(
             replies,
             values,
             ops,
+            table,
         ),
     }
 }
 
+// How much of the table is lent.
+fn lent_entries(call: Call, table: &[u16]) -> usize
+    ensures { λ r. ⌜ r ≡ lentEntries call (now (table .entry)) ⌝ }
+{
+    if call.tabled == 0 { 0 } else { table.len() }
+}
+
 // A call past its first refusals: it obeys the typed line, or lets a paused run go on. Its lists stand here and not in the calls,
-// so that they take no stack while page and record are checked.
+// so that they take no stack while page and record are checked. Below here no table is one without entries.
 fn accepted_call(
     typed: bool,
     rec: Session,
@@ -114,10 +162,13 @@ fn accepted_call(
     input: &[u8],
     output: &mut [u8],
     call: Call,
+    table: &mut [u16],
 ) -> Ended
-    requires { ⌜ Accepted limit (now page) (call .budget) (unpaused rec) × (fitsPaused (placesOf (now page)) (rec .paused) ≡ true) ⌝ }
-    ensures { λ r. ⌜ leftAll (r .answer) (r .session) (now (page .exit)) (now (memory .exit)) (now (output .exit)) ≡ pastRefusals typed (lentAll rec (now (page .entry)) (now (memory .entry)) (now (input .entry)) (now (output .entry)) call) ⌝ }
+    requires { ⌜ (Accepted limit (now page) (call .budget) (unpaused rec) × (fitsPaused (placesOf (now page)) (rec .paused) ≡ true)) × TableLent (now page) call (now table) ⌝ }
+    ensures { λ r. ⌜ outcomeWith (r .answer) (r .session) (now (page .exit)) (now (memory .exit)) (now (output .exit)) ≡ pastRefusals typed (lentAll rec (now (page .entry)) (now (memory .entry)) (now (input .entry)) (now (output .entry)) call (now (table .entry))) ⌝ }
+    ensures { λ _. ⌜ now (table .exit) ≡ tablePast call (now (page .exit)) (now (table .entry)) ⌝ }
 {
+    let entries = lent_entries(call, table);
     let mut line = [0u8; LIMIT];
     let mut reply = [0u8; LIMIT];
     let mut replies = [0u32; LIMIT];
@@ -136,6 +187,7 @@ fn accepted_call(
             &mut replies,
             &mut values,
             &mut ops,
+            &mut table[..entries],
         );
     }
     paused_run(
@@ -149,10 +201,11 @@ fn accepted_call(
         &mut replies,
         &mut values,
         &mut ops,
+        &table[..entries],
     )
 }
 
-// Take one typed line: all that is left is the definition's `takeLine` of all that was lent.
+// Take one typed line: all that is left is what the definition's `takeLine` leaves of all that was lent.
 pub fn take_line(
     rec: Session,
     page: &mut [u8],
@@ -160,17 +213,18 @@ pub fn take_line(
     input: &[u8],
     output: &mut [u8],
     call: Call,
+    table: &mut [u16],
 ) -> Ended
-    ensures { λ r. ⌜ leftAll (r .answer) (r .session) (now (page .exit)) (now (memory .exit)) (now (output .exit)) ≡ takeLine (lentAll rec (now (page .entry)) (now (memory .entry)) (now (input .entry)) (now (output .entry)) call) ⌝ }
+    ensures { λ r. ⌜ leftAll (r .answer) (r .session) (now (page .exit)) (now (memory .exit)) (now (output .exit)) (now (table .exit)) ≡ leaves takeLine (lentAll rec (now (page .entry)) (now (memory .entry)) (now (input .entry)) (now (output .entry)) call (now (table .entry))) ⌝ }
 {
-    let first = first_refusal(rec, page, memory, input, output, call, LIMIT);
+    let first = first_refusal(rec, page, memory, input, output, call, LIMIT, table);
     if first != 0 {
         return ending::stopped(first, rec, call.inpos, call.outpos);
     }
-    accepted_call(true, rec, page, memory, input, output, call)
+    accepted_call(true, rec, page, memory, input, output, call, table)
 }
 
-// Continue a paused run: all that is left is the definition's `continueRun` of all that was lent.
+// Continue a paused run: all that is left is what the definition's `continueRun` leaves of all that was lent.
 pub fn continue_run(
     rec: Session,
     page: &mut [u8],
@@ -178,12 +232,13 @@ pub fn continue_run(
     input: &[u8],
     output: &mut [u8],
     call: Call,
+    table: &mut [u16],
 ) -> Ended
-    ensures { λ r. ⌜ leftAll (r .answer) (r .session) (now (page .exit)) (now (memory .exit)) (now (output .exit)) ≡ continueRun (lentAll rec (now (page .entry)) (now (memory .entry)) (now (input .entry)) (now (output .entry)) call) ⌝ }
+    ensures { λ r. ⌜ leftAll (r .answer) (r .session) (now (page .exit)) (now (memory .exit)) (now (output .exit)) (now (table .exit)) ≡ leaves continueRun (lentAll rec (now (page .entry)) (now (memory .entry)) (now (input .entry)) (now (output .entry)) call (now (table .entry))) ⌝ }
 {
-    let refusal = first_refusal(rec, page, memory, input, output, call, LIMIT);
+    let refusal = first_refusal(rec, page, memory, input, output, call, LIMIT, table);
     if refusal != 0 {
         return ending::stopped(refusal, rec, call.inpos, call.outpos);
     }
-    accepted_call(false, rec, page, memory, input, output, call)
+    accepted_call(false, rec, page, memory, input, output, call, table)
 }

@@ -135,9 +135,11 @@ fn row(
         outpos: 0,
         sense: 0,
         budget: BUDGET,
+        tabled: 0,
     };
     let before = desk.session;
-    let ended = calls::take_line(before, page, memory, typed, &mut output, given);
+    let mut unlent = [0u16; 1];
+    let ended = calls::take_line(before, page, memory, typed, &mut output, given, &mut unlent);
     let answer = ended.answer;
     let after = ended.session;
     let came = written_of(&output, answer.outpos);

@@ -9,6 +9,7 @@ ghost use Rattle.nibl.specs.Bytes.{if_then_else_, byteCR, byteLF};
 ghost use Rattle.nibl.specs.Meaning.{on, skip, stop};
 ghost use Rattle.world.specs.Turns.{wayOf, turned, turnedFor};
 ghost use Rattle.value.specs.Writes.{Writes};
+ghost use Rattle.table.specs.Index.{Indexed};
 ghost use Rattle.operation.specs.Operations.{effectBy};
 ghost use Rattle.effect.specs.Worlds.{envWith, worldWith, did, didIn, withFlagsIn, withGosubsIn, withDosIn, withForsIn, partsAt, storedWay, wroteIn, KeepsVars, putStored, keepReply};
 ghost use Rattle.effect.specs.Acts.{acted, actBy, goesBack, wayAtOnce, callTurn, loopTurn, countTurn};
@@ -214,7 +215,9 @@ pub fn act(
     vars: &mut [u16],
     dos: PlaceStack,
     fors: ForStack,
+    table: &[u16],
 ) -> AtOnce
+    requires { ⌜ Indexed (now page) (now table) ⌝ }
     ensures { λ r. ⌜ acted r (now (vars .exit)) ≡ actBy (now (page .entry)) dos fors code arg x (now (vars .entry)) ⌝ }
 {
     match code {
@@ -223,7 +226,7 @@ pub fn act(
             AtOnce::Acts(Way::On)
         }
         codes::IF => AtOnce::Acts(if_way(x)),
-        codes::GOTO => AtOnce::Acts(jump::go_to(page, x)),
+        codes::GOTO => AtOnce::Acts(jump::go_to(page, x, table)),
         codes::UNTIL => back_ends(jump::until_back(dos, x)),
         codes::NEXT => back_ends(jump::next_back(fors, vars, low_byte(arg))),
         _ => AtOnce::Not,
@@ -233,11 +236,19 @@ pub fn act(
 // The turns: the operations that end their statement and change one stack. Each is given that stack alone.
 
 // GOSUB, and RETURN for any other code.
-pub fn call_turn(code: u32, x: u16, here: Place, page: &[u8], gosubs: PlaceStack) -> Turn
+pub fn call_turn(
+    code: u32,
+    x: u16,
+    here: Place,
+    page: &[u8],
+    gosubs: PlaceStack,
+    table: &[u16],
+) -> Turn
+    requires { ⌜ Indexed (now page) (now table) ⌝ }
     ensures { λ r. ⌜ turned r ≡ callTurn (now (page .entry)) here gosubs code x ⌝ }
 {
     if code == codes::GOSUB {
-        return jump::go_sub(page, x, here, gosubs);
+        return jump::go_sub(page, x, here, gosubs, table);
     }
     jump::return_from(gosubs)
 }
@@ -308,8 +319,9 @@ pub fn effect(
     output: &mut [u8],
     reply: &mut [u8],
     parts: Parts,
+    table: &[u16],
 ) -> Did
-    requires { ⌜ length (now page) ≤ 65535 ⌝ }
+    requires { ⌜ (length (now page) ≤ 65535) × Indexed (now page) (now table) ⌝ }
     ensures { λ r. ⌜ didIn r (now (vars .exit)) (now (memory .exit)) (now (output .exit)) ≡ effectBy (envWith (length (now (reply .entry))) (now (page .entry)) (now (input .entry)) 0 here) code arg x y z (worldWith (now (vars .entry)) parts (now (memory .entry)) (now (output .entry))) ⌝ }
 {
     match code {
@@ -317,8 +329,8 @@ pub fn effect(
         codes::SET_STAT => set_stat(x, parts),
         codes::SET_BYTE => store_ends(memory::store_byte(memory, y, x), parts),
         codes::COPY_STRING => store_ends(memory::copy_string(memory, y, x), parts),
-        codes::GOTO => ends(jump::go_to(page, x), parts),
-        codes::GOSUB => in_gosubs(jump::go_sub(page, x, here, parts.gosubs), parts),
+        codes::GOTO => ends(jump::go_to(page, x, table), parts),
+        codes::GOSUB => in_gosubs(jump::go_sub(page, x, here, parts.gosubs, table), parts),
         codes::RETURN => in_gosubs(jump::return_from(parts.gosubs), parts),
         codes::PRINT_ROOM => ends(print_room(output, parts.outpos, arg), parts),
         codes::PRINT_BYTE => item_ends(print_byte(output, parts.outpos, low_byte(arg)), parts),

@@ -3,7 +3,7 @@ use Prim.Native.Nat.{ℕ}
 use mathlib.Core.List.{List}
 use Rattle.nibl.specs.Record.{stackless, sessionOf}
 use Rattle.nibl.specs.Meaning.{World}
-use Rattle.nibl.specs.Calls.{Outcome, leftAll, answerOf, noLine}
+use Rattle.nibl.specs.Calls.{Outcome, outcomeWith, answerOf, noLine}
 use Rattle.nibl.specs.declared.Session.{Session}
 use Rattle.page.specs.declared.Edited.{Edited}
 use Rattle.page.specs.declared.Edited.the-variants as edited
@@ -12,7 +12,7 @@ use Rattle.run.specs.declared.Ran.{Ran}
 use Rattle.ending.specs.declared.Ended.{Ended}
 
 abbrev pub endedIn : Ended → List ℕ → List ℕ → List ℕ → Outcome
-endedIn e page memory output = leftAll (e .answer) (e .session) page memory output
+endedIn e page memory output = outcomeWith (e .answer) (e .session) page memory output
 
 -- the world that a statement meets, by its parts
 abbrev pub worldAt : Session → List ℕ → List ℕ → ℕ → ℕ → World

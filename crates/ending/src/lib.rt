@@ -10,6 +10,7 @@ ghost use Rattle.nibl.specs.Calls.{runFrom, runOutcome, obeyRead};
 ghost use Rattle.effect.specs.Worlds.{envWith};
 ghost use Rattle.page.specs.Standing.{Stands};
 ghost use Rattle.page.specs.Listing.{listing};
+ghost use Rattle.table.specs.Index.{Indexed};
 ghost use Rattle.ending.specs.Ends.{endedIn, worldAt, stopped, refused, editEnd, listEnd, ranEnd};
 ghost use Rattle.ending.specs.Lends.{Lists, Accepted, IsStatement};
 use nibl::Answer;
@@ -107,8 +108,9 @@ pub fn run_from<'a>(
     replies: &mut [u32],
     values: &mut [u16],
     ops: &mut [u32],
+    table: &[u16],
 ) -> Ended
-    requires { ⌜ Lists (now reply) (now replies) (now values) (now ops) × Accepted (length (now reply)) (now page) (call .budget) session × Stands (now page) (positionOf from) ⌝ }
+    requires { ⌜ (Lists (now reply) (now replies) (now values) (now ops) × Accepted (length (now reply)) (now page) (call .budget) session × Stands (now page) (positionOf from)) × Indexed (now page) (now table) ⌝ }
     ensures { λ r. ⌜ endedIn r (now (page .entry)) (now (memory .exit)) (now (output .exit)) ≡ runOutcome (runFrom (call .budget) (envWith (length (now (reply .entry))) (now (page .entry)) (now (input .entry)) (call .sense) (place mark)) (positionOf from) (worldAt session (now (memory .entry)) (now (output .entry)) (call .inpos) (call .outpos))) (now (page .entry)) ⌝ }
 {
     let mut vars = session.vars;
@@ -128,6 +130,7 @@ pub fn run_from<'a>(
         ops,
         parts,
         typed,
+        table,
     );
     ran(r, vars)
 }
@@ -146,8 +149,9 @@ pub fn immediate<'a>(
     replies: &mut [u32],
     values: &mut [u16],
     ops: &mut [u32],
+    table: &[u16],
 ) -> Ended
-    requires { ⌜ Lists (now reply) (now replies) (now values) (now ops) × Accepted (length (now reply)) (now page) (call .budget) session × IsStatement (now typed) n (now ops) ⌝ }
+    requires { ⌜ (Lists (now reply) (now replies) (now values) (now ops) × Accepted (length (now reply)) (now page) (call .budget) session × IsStatement (now typed) n (now ops)) × Indexed (now page) (now table) ⌝ }
     ensures { λ r. ⌜ endedIn r (now (page .entry)) (now (memory .exit)) (now (output .exit)) ≡ obeyRead (call .budget) (envWith (length (now (reply .entry))) (now (page .entry)) (now (input .entry)) (call .sense) (place mark)) (worldAt session (now (memory .entry)) (now (output .entry)) (call .inpos) (call .outpos)) (columnOf (now (typed .entry))) (readingOf (now (typed .entry))) ⌝ }
 {
     let mut vars = session.vars;
@@ -165,6 +169,7 @@ pub fn immediate<'a>(
         replies,
         values,
         parts,
+        table,
     );
     let way = d.way;
     let after = d.parts;
@@ -189,6 +194,7 @@ pub fn immediate<'a>(
                 replies,
                 values,
                 ops,
+                table,
             )
         }
     }

@@ -2,7 +2,7 @@
 // answer is written where the host keeps it. Each entry calls the by-value core and stores its result; nothing is asked of what
 // is lent, and what is not in range is refused.
 ghost use mathlib.Core.Path.{_≡_};
-ghost use Rattle.nibl.specs.Calls.{lentAll, leftAll, takeLine, continueRun};
+ghost use Rattle.nibl.specs.Calls.{lentAll, leftAll, leaves, takeLine, continueRun};
 use nibl::Answer;
 use nibl::Call;
 use nibl::Session;
@@ -16,10 +16,11 @@ pub extern "C" fn nibl_take_line(
     output: &mut [u8],
     call: &Call,
     answer: &mut Answer,
+    table: &mut [u16],
 )
-    ensures { λ _. ⌜ leftAll (now (answer .exit)) (now (rec .exit)) (now (page .exit)) (now (memory .exit)) (now (output .exit)) ≡ takeLine (lentAll (now (rec .entry)) (now (page .entry)) (now (memory .entry)) (now (input .entry)) (now (output .entry)) (now (call .entry))) ⌝ }
+    ensures { λ _. ⌜ leftAll (now (answer .exit)) (now (rec .exit)) (now (page .exit)) (now (memory .exit)) (now (output .exit)) (now (table .exit)) ≡ leaves takeLine (lentAll (now (rec .entry)) (now (page .entry)) (now (memory .entry)) (now (input .entry)) (now (output .entry)) (now (call .entry)) (now (table .entry))) ⌝ }
 {
-    let done = calls::take_line(*rec, page, memory, input, output, *call);
+    let done = calls::take_line(*rec, page, memory, input, output, *call, table);
     *rec = done.session;
     *answer = done.answer;
 }
@@ -33,10 +34,11 @@ pub extern "C" fn nibl_continue_run(
     output: &mut [u8],
     call: &Call,
     answer: &mut Answer,
+    table: &mut [u16],
 )
-    ensures { λ _. ⌜ leftAll (now (answer .exit)) (now (rec .exit)) (now (page .exit)) (now (memory .exit)) (now (output .exit)) ≡ continueRun (lentAll (now (rec .entry)) (now (page .entry)) (now (memory .entry)) (now (input .entry)) (now (output .entry)) (now (call .entry))) ⌝ }
+    ensures { λ _. ⌜ leftAll (now (answer .exit)) (now (rec .exit)) (now (page .exit)) (now (memory .exit)) (now (output .exit)) (now (table .exit)) ≡ leaves continueRun (lentAll (now (rec .entry)) (now (page .entry)) (now (memory .entry)) (now (input .entry)) (now (output .entry)) (now (call .entry)) (now (table .entry))) ⌝ }
 {
-    let done = calls::continue_run(*rec, page, memory, input, output, *call);
+    let done = calls::continue_run(*rec, page, memory, input, output, *call, table);
     *rec = done.session;
     *answer = done.answer;
 }

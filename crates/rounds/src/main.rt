@@ -4,6 +4,7 @@
 ghost use Prim.Native.Nat.{_-_, _≤_, _<_};
 ghost use lib.ListN.{length};
 ghost use mathlib.Core.Path.{_≡_};
+ghost use Rattle.table.specs.Index.{Indexed};
 use nibl::Call;
 use nibl::ForEntry;
 use nibl::ForStack;
@@ -17,6 +18,13 @@ use page::FoundLine;
 use reader::MemberRead;
 use word::Cursor;
 use word::Word;
+
+// The works that go by a table, and how many entries that has.
+const LINES_BY_TABLE: u16 = 16;
+
+const STEPS_BY_TABLE: u16 = 17;
+
+const ENTRIES: usize = 1025;
 
 // Where the page's byte stands that a typed line changes: a digit of the middle line.
 const CHANGED: usize = 2005;
@@ -139,7 +147,8 @@ fn members(page: &[u8], ops: &mut [u32]) -> u16 {
 fn edit(page: &mut [u8], text: &[u8]) -> usize
     ensures { λ _. ⌜ length (now (page .exit)) ≡ length (now (page .entry)) ⌝ }
 {
-    let answer = page::store_line(page, LineNumber(510), text);
+    let mut unlent = [0u16; 1];
+    let answer = table::store_line(page, LineNumber(510), text, &mut unlent[..0]);
     match answer {
         Edited::Done => {
             if 2600 < page.len() {
@@ -181,6 +190,20 @@ fn finds(page: &[u8]) -> u16 {
     sum
 }
 
+// The places before the lines of a page of 600 lines: every third number below 660, of which some are not there.
+fn spread(page: &[u8], table: &[u16]) -> u16
+    requires { ⌜ Indexed (now page) (now table) ⌝ }
+{
+    let mut sum: u16 = 0;
+    let mut line: u16 = 0;
+    while line < 660 {
+        let f = table::find_line(page, LineNumber(line), table);
+        sum = add(sum, found(f));
+        line += 3;
+    }
+    sum
+}
+
 fn check(page: &[u8]) -> u16 {
     if places::is_good(page, nibl::LIMIT) {
         1
@@ -189,8 +212,10 @@ fn check(page: &[u8]) -> u16 {
     }
 }
 
-// A run from the program's start, lent no more than the page: its steps, and variable A.
-fn steps(page: &[u8], session: Session) -> u16 {
+// A run from the program's start, lent no more than the page and its table: its steps, and variable A.
+fn steps(page: &[u8], session: Session, table: &[u16]) -> u16
+    requires { ⌜ Indexed (now page) (now table) ⌝ }
+{
     if 4096 < page.len() {
         return 0;
     }
@@ -222,6 +247,7 @@ fn steps(page: &[u8], session: Session) -> u16 {
         &mut ops,
         session.parts(0, 0),
         b"",
+        table,
     );
     std::num::wrapping_add_u16(ran.steps, vars[0])
 }
@@ -267,8 +293,18 @@ fn take(page: &mut [u8], session: Session, input: &[u8]) -> u16
         outpos: 0,
         sense: 0,
         budget: 0,
+        tabled: 0,
     };
-    let ended = calls::take_line(session, page, &mut memory, input, &mut output, call);
+    let mut unlent = [0u16; 1];
+    let ended = calls::take_line(
+        session,
+        page,
+        &mut memory,
+        input,
+        &mut output,
+        call,
+        &mut unlent,
+    );
     let answer = ended.answer;
     let left = ended.session;
     let spot = std::num::wrapping_add_u16(answer.stop as u16, answer.column);
@@ -309,16 +345,18 @@ fn alone(line: &[u8]) -> u16 {
 fn round(work: u16, bytes: &mut [u8], ops: &mut [u32]) -> u16
     ensures { λ _. ⌜ length (now (bytes .exit)) ≡ length (now (bytes .entry)) ⌝ }
 {
+    let unlent = [0u16; 1];
     match work {
         0 => words(bytes),
         1 => members(bytes, ops),
         2..=4 => edits(bytes),
         5..=7 => finds(bytes),
         8 => check(bytes),
-        9 | 12 | 13 => steps(bytes, Session::fresh()),
+        9 | 12 | 13 => steps(bytes, Session::fresh(), &unlent[..0]),
         10 => typed(bytes, Session::fresh()),
         11 => typed(bytes, full()),
         14 => alone(bytes),
+        15 => spread(bytes, &unlent[..0]),
         _ => 0,
     }
 }
@@ -338,6 +376,48 @@ fn rounds(work: u16, n: u16, bytes: &mut [u8]) -> u16
     sum
 }
 
+// The works that go by a table.
+fn round_by_table(work: u16, page: &[u8], table: &[u16]) -> u16
+    requires { ⌜ Indexed (now page) (now table) ⌝ }
+{
+    if work == LINES_BY_TABLE {
+        return spread(page, table);
+    }
+    steps(page, Session::fresh(), table)
+}
+
+// Their rounds: the table is made once, before the first.
+fn rounds_by_table(work: u16, n: u16, bytes: &mut [u8]) -> u16
+    requires { ⌜ 0 < length (now bytes) ⌝ }
+{
+    if 4097 < bytes.len() {
+        return 0;
+    }
+    if !places::is_good(&bytes[1..], nibl::LIMIT) {
+        return 0;
+    }
+    let mut table = [0u16; ENTRIES];
+    table::make(&bytes[1..], &mut table);
+    let mut sum: u16 = 0;
+    let mut i: u16 = 0;
+    while i < n {
+        bytes[0] = (i % 256) as u8;
+        sum = std::num::wrapping_add_u16(sum, round_by_table(work, &bytes[1..], &table));
+        i += 1;
+    }
+    sum
+}
+
+// The sum of the rounds of a work.
+fn sum_of(work: u16, n: u16, bytes: &mut [u8]) -> u16
+    requires { ⌜ 0 < length (now bytes) ⌝ }
+{
+    match work {
+        LINES_BY_TABLE | STEPS_BY_TABLE => rounds_by_table(work, n, bytes),
+        _ => rounds(work, n, bytes),
+    }
+}
+
 fn run(input: &mut [u8]) {
     let Word::Decimal(work, past_work) = word::word_at(input, Cursor { at: 0 }) else {
         return;
@@ -347,7 +427,7 @@ fn run(input: &mut [u8]) {
     };
     let from = past_n.at;
     if from < input.len() {
-        let sum = rounds(work, n, &mut input[from..]);
+        let sum = sum_of(work, n, &mut input[from..]);
         io::print_decimal(1, sum as u64);
         io::write_all(1, b"\n");
     }

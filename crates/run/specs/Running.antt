@@ -8,7 +8,7 @@ use lib.ListN.{length}
 use Rattle.nibl.specs.Bytes.{if_then_else_}
 use Rattle.nibl.specs.Page.{isGood, placesOf}
 use Rattle.nibl.specs.Meaning.{World}
-use Rattle.nibl.specs.Calls.{Outcome, leftAll, answerOf}
+use Rattle.nibl.specs.Calls.{Outcome, outcomeWith, answerOf}
 use Rattle.nibl.specs.Record.{nowhere, pausedAt, sessionOf}
 use Rattle.nibl.specs.declared.Parts.{Parts}
 use Rattle.page.specs.Standing.{Stands}
@@ -21,7 +21,7 @@ ranTo stop line steps paused parts = record { stop = stop; line = line; steps = 
 -- what a run's answer says, with all that it leaves
 abbrev pub ranIn : Ran → List ℕ → List ℕ → List ℕ → List ℕ → Outcome
 ranIn r vars page memory output =
-    leftAll (answerOf (r .stop) (r .line) (r .steps) (r .parts .inpos) (r .parts .outpos) 0) (sessionOf (r .parts) vars (r .paused)) page memory output
+    outcomeWith (answerOf (r .stop) (r .line) (r .steps) (r .parts .inpos) (r .parts .outpos) 0) (sessionOf (r .parts) vars (r .paused)) page memory output
 
 -- When a run may begin: on a good page of 16-bit places, with a record that fits, from a position where a run may stand, with a
 -- budget of 16 bits. The reply's slots are as many as the limit; there is an operation to each, and a value to each operation.

@@ -10,6 +10,7 @@ ghost use Rattle.nibl.specs.Calls.{stopAt, runFrom, runOutcome};
 ghost use Rattle.nibl.specs.Record.{mark, place, positionOf};
 ghost use Rattle.world.specs.Turns.{wayOf};
 ghost use Rattle.effect.specs.Worlds.{envWith, worldWith};
+ghost use Rattle.table.specs.Index.{Indexed};
 ghost use Rattle.run.specs.StepEnds.{ledTo, nextAfter};
 ghost use Rattle.run.specs.Fetching.{FetchRoom, fetchOf, fetchedIn, fetchedCount};
 ghost use Rattle.run.specs.Running.{MayRun, ranTo, ranIn, pauseOf};
@@ -144,8 +145,9 @@ pub fn run_steps<'a>(
     ops: &mut [u32],
     parts: Parts,
     typed: &'a [u8],
+    table: &[u16],
 ) -> Ran
-    requires { ⌜ MayRun (now page) (now ops) (now values) (now reply) (now replies) (positionOf from) budget (worldWith (now vars) parts (now memory) (now output)) ⌝ }
+    requires { ⌜ MayRun (now page) (now ops) (now values) (now reply) (now replies) (positionOf from) budget (worldWith (now vars) parts (now memory) (now output)) × Indexed (now page) (now table) ⌝ }
     ensures { λ r. ⌜ ranIn r (now (vars .exit)) (now (page .entry)) (now (memory .exit)) (now (output .exit)) ≡ runOutcome (runFrom budget (envWith (length (now (reply .entry))) (now (page .entry)) (now (input .entry)) sense (place mark)) (positionOf from) (worldWith (now (vars .entry)) parts (now (memory .entry)) (now (output .entry)))) (now (page .entry)) ⌝ }
 {
     let mut q = from;
@@ -174,11 +176,12 @@ pub fn run_steps<'a>(
             vars,
             memory,
             values,
+            table,
         );
         let way = match r {
             Plain::Ends(way) => way,
             Plain::Calls(code, x) => {
-                let t = effect::call_turn(code, x, at, page, p.gosubs);
+                let t = effect::call_turn(code, x, at, page, p.gosubs, table);
                 let stack = t.stack;
                 p.gosubs = stack;
                 t.way
@@ -211,6 +214,7 @@ pub fn run_steps<'a>(
                     replies,
                     values,
                     p,
+                    table,
                 );
                 let next = d.parts;
                 p = next;

@@ -8,7 +8,8 @@ use nibl::END_MARK;
 use nibl::NO_LINE;
 use nibl::Session;
 
-// What the session lends: standard input's first bytes, a page, a memory, and for each typed line an output and a budget.
+// What the session lends: standard input's first bytes, a page, a memory, and for each typed line an output and a budget. It lends
+// no table of line places.
 const INPUT: usize = 65535;
 
 const PAGE: usize = 4096;
@@ -69,13 +70,15 @@ fn next_line(
     inpos: usize,
 ) -> Ended {
     let mut output = [0u8; OUTPUT];
+    let mut unlent = [0u16; 1];
     let given = Call {
         inpos: inpos,
         outpos: 0,
         sense: 0,
         budget: BUDGET,
+        tabled: 0,
     };
-    let ended = calls::take_line(rec, page, memory, input, &mut output, given);
+    let ended = calls::take_line(rec, page, memory, input, &mut output, given, &mut unlent);
     let answer = ended.answer;
     if !is_over(answer) {
         show_written(&output, answer.outpos);

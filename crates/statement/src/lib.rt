@@ -9,6 +9,7 @@ ghost use Rattle.nibl.specs.Page.{used};
 ghost use Rattle.operation.specs.Stacks.{stackOf};
 ghost use Rattle.world.specs.Hearing.{hearing, heardIn};
 ghost use Rattle.effect.specs.Worlds.{envWith, worldWith, didIn};
+ghost use Rattle.table.specs.Index.{Indexed};
 ghost use Rattle.statement.specs.Lending.{Fair, isOn, takesReply};
 ghost use Rattle.statement.specs.Plain.{RunsPlainly, LeftAt};
 use effect::AtOnce;
@@ -166,8 +167,9 @@ pub fn run_plain(
     vars: &mut [u16],
     memory: &[u8],
     values: &mut [u16],
+    table: &[u16],
 ) -> Plain
-    requires { ⌜ (length (now ops) ≤ length (now values)) × (length (now page) ≤ 65535) × (used (now page) ≤ 65535) ⌝ }
+    requires { ⌜ ((length (now ops) ≤ length (now values)) × (length (now page) ≤ 65535) × (used (now page) ≤ 65535)) × Indexed (now page) (now table) ⌝ }
     ensures { λ r. ⌜ RunsPlainly (now (ops .entry)) (now (page .entry)) sense flags dos fors (now (vars .entry)) (now (memory .entry)) r (now (vars .exit)) (now (values .exit)) ⌝ }
 {
     let mut i: usize = 0;
@@ -190,6 +192,7 @@ pub fn run_plain(
                     vars,
                     dos,
                     fors,
+                    table,
                 );
                 let AtOnce::Acts(way) = a else {
                     return left_at(ops, j, values, height);
@@ -219,8 +222,9 @@ pub fn run_ops_from(
     replies: &mut [u32],
     values: &mut [u16],
     parts: Parts,
+    table: &[u16],
 ) -> Did
-    requires { ⌜ Fair (now page) (now ops) (now values) (now reply) (now replies) × (filled ≤ from) ⌝ }
+    requires { ⌜ (Fair (now page) (now ops) (now values) (now reply) (now replies) × (filled ≤ from)) × Indexed (now page) (now table) ⌝ }
     ensures { λ r. ⌜ didIn r (now (vars .exit)) (now (memory .exit)) (now (output .exit)) ≡ runOps (envWith (length (now (reply .entry))) (now (page .entry)) (now (input .entry)) sense here) (drop from (now (ops .entry))) (worldWith (now (vars .entry)) parts (now (memory .entry)) (now (output .entry))) (stackOf (now (values .entry)) filled) ⌝ }
 {
     let mut p = parts;
@@ -285,6 +289,7 @@ pub fn run_ops_from(
                 output,
                 reply,
                 p,
+                table,
             );
             let way = d.way;
             if !is_on(way) {
@@ -313,8 +318,9 @@ pub fn run_ops(
     replies: &mut [u32],
     values: &mut [u16],
     parts: Parts,
+    table: &[u16],
 ) -> Did
-    requires { ⌜ Fair (now page) (now ops) (now values) (now reply) (now replies) ⌝ }
+    requires { ⌜ Fair (now page) (now ops) (now values) (now reply) (now replies) × Indexed (now page) (now table) ⌝ }
     ensures { λ r. ⌜ didIn r (now (vars .exit)) (now (memory .exit)) (now (output .exit)) ≡ runOps (envWith (length (now (reply .entry))) (now (page .entry)) (now (input .entry)) sense here) (now (ops .entry)) (worldWith (now (vars .entry)) parts (now (memory .entry)) (now (output .entry))) [] ⌝ }
 {
     run_ops_from(
@@ -332,5 +338,6 @@ pub fn run_ops(
         replies,
         values,
         parts,
+        table,
     )
 }

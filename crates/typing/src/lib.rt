@@ -11,6 +11,7 @@ ghost use Rattle.effect.specs.Worlds.{envWith};
 ghost use Rattle.line.specs.Answers.{kindOf, lineOps};
 ghost use Rattle.ending.specs.Ends.{endedIn, worldAt};
 ghost use Rattle.ending.specs.Lends.{Lists, Accepted};
+ghost use Rattle.table.specs.Index.{Indexed, keptTrue};
 ghost use Rattle.typing.specs.ReadAs.{ReadAs};
 use ending::Ended;
 use letter::Gathering;
@@ -34,17 +35,19 @@ fn obey(
     replies: &mut [u32],
     values: &mut [u16],
     ops: &mut [u32],
+    table: &mut [u16],
 ) -> Ended
-    requires { ⌜ Lists (now reply) (now replies) (now values) (now ops) × Accepted (length (now reply)) (now page) (call .budget) session × ReadAs (now typed) kind (now ops) ⌝ }
+    requires { ⌜ (Lists (now reply) (now replies) (now values) (now ops) × Accepted (length (now reply)) (now page) (call .budget) session × ReadAs (now typed) kind (now ops)) × Indexed (now page) (now table) ⌝ }
     ensures { λ r. ⌜ endedIn r (now (page .exit)) (now (memory .exit)) (now (output .exit)) ≡ obeyRead (call .budget) (envWith (length (now (reply .entry))) (now (page .entry)) (now (input .entry)) (call .sense) (place mark)) (worldAt session (now (memory .entry)) (now (output .entry)) (call .inpos) (call .outpos)) (columnOf (now (typed .entry))) (readingOf (now (typed .entry))) ⌝ }
+    ensures { λ _. ⌜ now (table .exit) ≡ keptTrue (now (page .exit)) (now (table .entry)) ⌝ }
 {
     let inpos = call.inpos;
     let outpos = call.outpos;
     match kind {
         LineRead::Blank => ending::stopped(0, session, inpos, outpos),
-        LineRead::New => ending::edited(page::new_page(page), session, inpos, outpos),
+        LineRead::New => ending::edited(table::new_page(page, table), session, inpos, outpos),
         LineRead::Delete(number) => ending::edited(
-            page::delete_line(page, number),
+            table::delete_line(page, number, table),
             session,
             inpos,
             outpos,
@@ -52,7 +55,7 @@ fn obey(
         LineRead::Store(number, c) => {
             let at = c.at;
             ending::edited(
-                page::store_line(page, number, &typed[at..]),
+                table::store_line(page, number, &typed[at..], table),
                 session,
                 inpos,
                 outpos,
@@ -73,6 +76,7 @@ fn obey(
             replies,
             values,
             ops,
+            table,
         ),
         LineRead::Immediate(n, needs) => {
             if needs {
@@ -91,6 +95,7 @@ fn obey(
                 replies,
                 values,
                 ops,
+                table,
             )
         }
         LineRead::NoReading => {
@@ -126,9 +131,11 @@ pub fn typed_line(
     replies: &mut [u32],
     values: &mut [u16],
     ops: &mut [u32],
+    table: &mut [u16],
 ) -> Ended
-    requires { ⌜ Lists (now reply) (now replies) (now values) (now ops) × (length (now line) ≡ length (now reply)) × Accepted (length (now reply)) (now page) (call .budget) (unpaused rec) × (length (now reply) ≤ limit) ⌝ }
-    ensures { λ r. ⌜ endedIn r (now (page .exit)) (now (memory .exit)) (now (output .exit)) ≡ obeyLine (length (now (reply .entry))) (lentAll rec (now (page .entry)) (now (memory .entry)) (now (input .entry)) (now (output .entry)) call) (gathered (length (now (reply .entry))) (drop (call .inpos) (now (input .entry)))) ⌝ }
+    requires { ⌜ (Lists (now reply) (now replies) (now values) (now ops) × (length (now line) ≡ length (now reply)) × Accepted (length (now reply)) (now page) (call .budget) (unpaused rec) × (length (now reply) ≤ limit)) × Indexed (now page) (now table) ⌝ }
+    ensures { λ r. ⌜ endedIn r (now (page .exit)) (now (memory .exit)) (now (output .exit)) ≡ obeyLine (length (now (reply .entry))) (lentAll rec (now (page .entry)) (now (memory .entry)) (now (input .entry)) (now (output .entry)) call (now (table .entry))) (gathered (length (now (reply .entry))) (drop (call .inpos) (now (input .entry)))) ⌝ }
+    ensures { λ _. ⌜ now (table .exit) ≡ keptTrue (now (page .exit)) (now (table .entry)) ⌝ }
 {
     let g = letter::gather(input, call.inpos, line);
     match g {
@@ -154,6 +161,7 @@ pub fn typed_line(
                 replies,
                 values,
                 ops,
+                table,
             )
         }
     }

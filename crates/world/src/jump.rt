@@ -6,6 +6,7 @@ ghost use lib.ListN.{getD, set};
 ghost use Rattle.nibl.specs.Page.{find};
 ghost use Rattle.nibl.specs.Meaning.{go, goesOn};
 ghost use Rattle.page.specs.Walk.{reached};
+ghost use Rattle.table.specs.Index.{Indexed};
 ghost use Rattle.world.specs.Turns.{wayOf, turned, turnedFor, stepTaken, wayTo, keepTurn, gosubTurn, returnTurn, doTurn, untilTurn, forTurn, addsStep, nextTurn, backOf, backed, nextBack, untilBack};
 use nibl::ForEntry;
 use nibl::ForStack;
@@ -79,10 +80,11 @@ fn after(p: Place) -> Way
 }
 
 // GOTO: to the line of a number, or 8.
-pub fn go_to(page: &[u8], n: u16) -> Way
+pub fn go_to(page: &[u8], n: u16, table: &[u16]) -> Way
+    requires { ⌜ Indexed (now page) (now table) ⌝ }
     ensures { λ r. ⌜ wayOf r ≡ wayTo (reached (find (now (page .entry)) n)) ⌝ }
 {
-    match page::find_line(page, LineNumber(n)) {
+    match table::find_line(page, LineNumber(n), table) {
         FoundLine::Nothing => Way::Stop(8),
         FoundLine::At(o) => Way::Go(o),
     }
@@ -107,10 +109,11 @@ fn keep(stack: PlaceStack, here: Place, way: Way) -> Turn
 }
 
 // GOSUB: 8 comes before 10.
-pub fn go_sub(page: &[u8], n: u16, here: Place, stack: PlaceStack) -> Turn
+pub fn go_sub(page: &[u8], n: u16, here: Place, stack: PlaceStack, table: &[u16]) -> Turn
+    requires { ⌜ Indexed (now page) (now table) ⌝ }
     ensures { λ r. ⌜ turned r ≡ gosubTurn here stack (reached (find (now (page .entry)) n)) ⌝ }
 {
-    match page::find_line(page, LineNumber(n)) {
+    match table::find_line(page, LineNumber(n), table) {
         FoundLine::Nothing => Turn {
             way: Way::Stop(8),
             stack: stack,

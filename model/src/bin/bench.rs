@@ -76,6 +76,7 @@ fn time_call(texts: &[&str]) -> f64 {
             output_position: 0,
             sense: 0,
             budget: 0,
+            table: None,
         };
         assert_eq!(take_line(&mut record, lent).stop, Stop::Done);
     })
@@ -101,6 +102,7 @@ fn time_column() -> f64 {
                 output_position: 0,
                 sense: 0,
                 budget: 0,
+                table: None,
             };
             let answer = take_line(&mut Record::default(), lent);
             assert_eq!(black_box(answer).stop, Stop::NoReading);
@@ -133,6 +135,7 @@ fn count_steps() -> f64 {
             output_position: 0,
             sense: 0,
             budget: BUDGET,
+            table: None,
         };
         let answer = continue_run(&mut record, lent);
         assert_eq!((answer.stop, answer.steps), (Stop::Paused, BUDGET));

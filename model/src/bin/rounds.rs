@@ -12,9 +12,10 @@ use std::hint::black_box;
 use std::io::{self, Read, Write};
 
 use model::line::LineNumber;
-use model::page::{read_page, store, Program, END_MARK};
+use model::page::{read_page, records, store, Program, END_MARK};
 use model::reader::read_list;
 use model::rules::{empty_page, full_page, RULES, TOGETHER};
+use model::table::{walk, TABLE_LEAST};
 use model::tree::Tree;
 use model::words::{Word, Words};
 use model::{continue_run, take_line, ForEntry, ForStack, Lent, Pause, Place, PlaceStack, Record};
@@ -63,16 +64,29 @@ fn words(text: &[u8]) -> u16 {
 
 /// A page of 200 lines, each of one statement.
 fn lines() -> Vec<u8> {
-    let mut page = empty_page(4096);
-    for number in numbers() {
-        let program = read(&page);
-        assert!(store(&mut page, &program, number, RULES[0].as_bytes()));
-    }
-    page
+    program(4096, numbers().map(|number| (number.0, RULES[0])))
 }
 
 fn numbers() -> impl Iterator<Item = LineNumber> {
     (0..200).map(|line| LineNumber(line * 7))
+}
+
+/// A page of 600 lines, as short as can be: of the numbers below 660 every eleventh is not there.
+fn short_lines() -> Vec<u8> {
+    let numbers = (0..660).filter(|number| number % 11 != 10);
+    program(3602, numbers.map(|number| (number, "DO")))
+}
+
+/// Every third number, all over that page: 200 are there, and 20 are not.
+fn spread() -> impl Iterator<Item = LineNumber> {
+    (0..660).step_by(3).map(LineNumber)
+}
+
+/// A table of a page, to be lent.
+fn table(page: &[u8]) -> Vec<u16> {
+    let mut table = walk(page);
+    table.resize(TABLE_LEAST, 0);
+    table
 }
 
 fn read(page: &[u8]) -> Program {
@@ -81,18 +95,6 @@ fn read(page: &[u8]) -> Program {
 
 fn add(sum: u16, found: impl Into<usize>) -> u16 {
     sum.wrapping_add(found.into() as u16)
-}
-
-/// The position and the text of each record of a good page.
-fn records(page: &[u8]) -> impl Iterator<Item = (usize, &[u8])> {
-    let mut at = 0;
-    std::iter::from_fn(move || {
-        let start = at;
-        (page[start..start + 2] != END_MARK).then(|| {
-            at += usize::from(page[start + 2]);
-            (start, &page[start + 3..at - 1])
-        })
-    })
 }
 
 /// The sum of where the members of a page's texts end.
@@ -156,12 +158,25 @@ fn finds<P: std::borrow::Borrow<Program>>(read: impl Fn() -> P) -> u16 {
     })
 }
 
-/// The same by a walk along the records.
-fn walks(page: &[u8]) -> u16 {
-    numbers().fold(0, |sum, number| {
+/// The same of these numbers by a walk along the records.
+fn walks(page: &[u8], numbers: impl Iterator<Item = LineNumber>) -> u16 {
+    numbers.fold(0, |sum, number| {
         let number = black_box(number).0.to_be_bytes();
         let found = records(black_box(page)).find(|&(start, _)| page[start..start + 2] == number);
         add(sum, found.map_or(0, |(start, _)| start + 1))
+    })
+}
+
+/// The same by halves over a table of the page.
+fn halves(page: &[u8], table: &[u16], numbers: impl Iterator<Item = LineNumber>) -> u16 {
+    let places = &table[1..=usize::from(table[0])];
+    numbers.fold(0, |sum, number| {
+        let number = black_box(number).0.to_be_bytes();
+        let found = places.binary_search_by_key(&number, |&place| {
+            let at = usize::from(place);
+            [page[at], page[at + 1]]
+        });
+        add(sum, found.map_or(0, |line| usize::from(places[line]) + 1))
     })
 }
 
@@ -204,8 +219,8 @@ fn calling() -> Vec<u8> {
     program(4096, lines.chain([(335, " RETURN")]))
 }
 
-/// A run from the program's start, lent no more than the page: its steps, and variable A.
-fn steps(page: &mut [u8]) -> u16 {
+/// A run from the program's start, lent no more than the page and perhaps its table: its steps, and variable A.
+fn steps(page: &mut [u8], table: Option<&mut [u16]>) -> u16 {
     let mut record = Record {
         paused: Some(Pause::Start),
         ..Record::default()
@@ -219,6 +234,7 @@ fn steps(page: &mut [u8]) -> u16 {
         output_position: 0,
         sense: 0,
         budget: 32_767,
+        table,
     };
     let answer = continue_run(&mut record, lent);
     add(record.variables[0] as u16, answer.steps as usize)
@@ -260,6 +276,7 @@ fn take(page: &mut [u8], mut record: Record, input: &[u8]) -> u16 {
         output_position: 0,
         sense: 0,
         budget: 0,
+        table: None,
     };
     let answer = take_line(&mut record, lent);
     let found = [
@@ -310,7 +327,8 @@ fn input(work: &str) -> Option<Vec<u8>> {
         "5" | "6" | "7" => Some(lines()),
         "9" => Some(assigning()),
         "12" => Some(nested()),
-        "13" => Some(calling()),
+        "13" | "17" => Some(calling()),
+        "15" | "16" => Some(short_lines()),
         _ => {
             let (_, line) = ALONE.iter().find(|(name, _)| *name == work)?;
             Some(line.as_bytes().to_vec())
@@ -356,14 +374,25 @@ fn run(input: &[u8]) -> Option<u16> {
             Some(repeat(rounds, || finds(|| black_box(program))))
         }
         "6" => Some(repeat(rounds, || finds(|| read(black_box(page))))),
-        "7" => Some(repeat(rounds, || walks(page))),
+        "7" => Some(repeat(rounds, || walks(page, numbers()))),
         "8" => Some(repeat(rounds, || {
             read_page(black_box(page)).is_some().into()
         })),
-        "9" | "12" | "13" => Some(repeat(rounds, || steps(black_box(page)))),
+        "9" | "12" | "13" => Some(repeat(rounds, || steps(black_box(page), None))),
         "10" => Some(repeat(rounds, || typed(black_box(page), Record::default()))),
         "11" => Some(repeat(rounds, || typed(black_box(page), full()))),
         "14" => Some(repeat(rounds, || alone(black_box(bytes)))),
+        "15" => Some(repeat(rounds, || walks(page, spread()))),
+        "16" => {
+            let table = &table(page);
+            Some(repeat(rounds, || {
+                halves(black_box(page), black_box(table), spread())
+            }))
+        }
+        "17" => {
+            let table = &mut table(page);
+            Some(repeat(rounds, || steps(black_box(page), Some(table))))
+        }
         _ => None,
     }
 }

@@ -2,6 +2,7 @@
 
 use super::pages::{any_page, program};
 use super::records::{any_record, pause};
+use super::tables::any_table;
 use super::texts::Setting;
 use super::typed::{line_numbers, replies, typed_line};
 use super::{Random, Size};
@@ -131,10 +132,12 @@ pub fn case(random: &mut Random, size: Size) -> Case {
         budget: budget(random, size),
         sense: random.byte(),
         record,
+        table: None,
     };
     if random.percent(25) {
         warm_up(random, &mut case);
     }
+    case.table = any_table(random, size, &case.page);
     if random.percent(3) {
         spoil_numbers(random, &mut case);
     }

@@ -8,9 +8,8 @@ use std::ops::Range;
 use super::pages::{render, squeeze};
 use super::typed::WORDS;
 use super::Random;
-use crate::case::{Call, Case};
+use crate::case::Case;
 use crate::line::read_line;
-use crate::record::Record;
 use crate::tree::Tree;
 use crate::typing::{class, is_text_byte, Class, LINE_LIMIT};
 use crate::words::{Word, Words};
@@ -279,15 +278,9 @@ pub fn typed(line: &[u8]) -> Case {
     let mut page = render(&vec![(20, " END".to_string())]);
     page.resize(100, 0);
     Case {
-        call: Call::Line,
-        page,
         memory: vec![13; 8],
-        input: [line, b"\r"].concat(),
         output: vec![0; 20],
-        input_position: 0,
-        output_position: 0,
         budget: 5,
-        sense: 0,
-        record: Record::default(),
+        ..Case::typed(page, &[line, b"\r"].concat())
     }
 }

@@ -3,6 +3,7 @@
 use std::collections::BTreeMap;
 
 use super::pages::{padded, spoil};
+use super::tables::first_table;
 use super::texts::{Scribe, Setting};
 use super::typed::{line, with_slips};
 use super::{Random, Size};
@@ -10,10 +11,11 @@ use crate::line::{read_line, Command, LineNumber, TypedLine};
 use crate::tree::Tree;
 use crate::typing::{gather, is_text_byte, CR, LINE_LIMIT};
 
-/// The length of a page that holds no line before, and what is typed there.
+/// The length of a page that holds no line before, what is typed there, and its table, where one is lent.
 pub struct Sequence {
     pub length: usize,
     pub typed: Vec<u8>,
+    pub table: Option<Vec<u16>>,
 }
 
 /// The rule desk's lines that edit a page.
@@ -55,6 +57,7 @@ pub fn sequences(random: &mut Random) -> Vec<Sequence> {
     let mut sequences = vec![Sequence {
         length: 96,
         typed: DESK.to_vec(),
+        table: first_table(random),
     }];
     for (length, pages, lines) in PAGES {
         sequences.extend((0..pages).map(|_| sequence(random, length, lines)));
@@ -86,7 +89,11 @@ fn sequence(random: &mut Random, length: usize, lines: usize) -> Sequence {
         // No CR follows.
         typed.extend(b"10 END");
     }
-    Sequence { length, typed }
+    Sequence {
+        length,
+        typed,
+        table: first_table(random),
+    }
 }
 
 impl Typist<'_> {

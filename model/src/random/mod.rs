@@ -11,6 +11,7 @@ pub mod lines;
 pub mod pages;
 pub mod records;
 pub mod sessions;
+pub mod tables;
 pub mod texts;
 pub mod typed;
 

@@ -13,6 +13,8 @@ pub struct Gate {
     pub sense: u8,
     pub budget: u32,
     pub record: Record,
+    /// The table of line places, where one is lent.
+    pub table: Option<Vec<u16>>,
 }
 
 /// What one call answered and put out.
@@ -39,6 +41,7 @@ impl Gate {
             sense: 0,
             budget: 1000,
             record: Record::default(),
+            table: None,
         }
     }
 
@@ -63,6 +66,7 @@ impl Gate {
             output_position: 0,
             sense: self.sense,
             budget: self.budget,
+            table: self.table.as_deref_mut(),
         };
         let answer = call(&mut self.record, lent);
         output.truncate(answer.output_position as usize);

@@ -33,7 +33,7 @@ returns-6 : tie.Need-returns-6
 unfolding actBy
 returns-6 c =
     let k = c .match .rest in
-    let n = c .before .before .before .args .code in
+    let n = c .before .before .before .before .args .code in
     rw (ne-eqb n codeSetVariable (k .0 .0 .0 .0 .1), ne-eqb n codeIf (k .0 .0 .0 .1), ne-eqb n codeGoto (k .0 .0 .1), ne-eqb n codeUntil (k .0 .1), ne-eqb n codeNext (k .1))
 
 pub act-spec : {M : Type 1} → statement M

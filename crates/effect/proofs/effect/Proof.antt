@@ -7,13 +7,13 @@ use Rattle.effect.proofs.effect.Statement.{statement}
 use Rattle.effect.proofs.effect.Tie as tie
 
 -- every arm begins where the lent slices are known
-abbrev given : tie.After-slice-known4 → Given
+abbrev given : tie.After-shared-slice-known3 → Given
 given c =
-    let s = c .before .before .before .before .before .before in
+    let s = c .before .before .before .before .before .before .before in
     let a = s .args in
     record {
       env = envWith (length (a .reply .now)) (a .page .now) (a .input .now) 0 (a .here);
-      short = s .pre;
+      short = s .pre .0;
       arg = a .arg;
       x = a .x;
       y = a .y;

@@ -34,7 +34,7 @@ use Rattle.ending.proofs.immediate.Tie as tie
 -- after the statement: what it was lent, and what it did
 module _ (r : tie.After-run-ops) where
   abbrev start : tie.Start
-  start = r .before .before .before .before .before .before .before .before .before .before .before .before .before .before .before .before .before .before .before .before
+  start = r .before .before .before .before .before .before .before .before .before .before .before .before .before .before .before .before .before .before .before .before .before
 
   abbrev page : List ℕ
   page = start .args .page .now
@@ -60,10 +60,10 @@ module _ (r : tie.After-run-ops) where
   abbrev left : Done
   left = didIn (r .run-ops .result) vars memory output
 
-  did : left ≡ exec env (start .pre .2 .tree) world
+  did : left ≡ exec env (start .pre .0 .2 .tree) world
   did =
       let a = start .args in
-      executes (start .pre .0) (start .pre .1) (start .pre .2) (a .input .now) (a .call .sense) (a .call .inpos) (a .call .outpos) (a .memory .now) (a .output .now) (r .before .before .before .before .before .before .before .before .before .parts .ensures)
+      executes (start .pre .0 .0) (start .pre .0 .1) (start .pre .0 .2) (a .input .now) (a .call .sense) (a .call .inpos) (a .call .outpos) (a .memory .now) (a .output .now) (r .before .before .before .before .before .before .before .before .before .parts .ensures)
       (r .run-ops .ensures
       ∙ ap (λ (p : Place). runOps (envWith (length (a .reply .now)) page (a .input .now) (a .call .sense) p) (take (a .n) (a .ops .now)) (worldWith (a .session .vars) (r .before .before .before .before .before .before .before .before .before .parts .result) (a .memory .now) (a .output .now)) []) (r .before .before .before .before .before .before .before .mark .ensures))
 
@@ -73,18 +73,18 @@ module _ (r : tie.After-run-ops) where
   ends t h =
       let a = start .args in
       h ∙ ap (λ (w : Way). afterImmediate (a .call .budget) env (done (wayOf w) after)) (sym t)
-      ∙ obeyed (start .pre .0) (start .pre .1) (start .pre .2) (a .input .now) (a .call .sense) (a .call .inpos) (a .call .outpos) (a .memory .now) (a .output .now) did
+      ∙ obeyed (start .pre .0 .0) (start .pre .0 .1) (start .pre .0 .2) (a .input .now) (a .call .sense) (a .call .inpos) (a .call .outpos) (a .memory .now) (a .output .now) did
 
   -- where it goes on, a run may stand
   stands : {o : Onward} → r .run-ops .result .way ≡ way.Go o → Stands page (positionOf o) × Fit (placesOf page) (after .session)
   stands t =
       let a = start .args in
-      onto (start .pre .0) (start .pre .1) (start .pre .2) (a .input .now) (a .call .sense) (a .call .inpos) (a .call .outpos) (a .memory .now) (a .output .now) (ap (λ (w : Way). done (wayOf w) after) (sym t) ∙ did)
+      onto (start .pre .0 .0) (start .pre .0 .1) (start .pre .0 .2) (a .input .now) (a .call .sense) (a .call .inpos) (a .call .outpos) (a .memory .now) (a .output .now) (ap (λ (w : Way). done (wayOf w) after) (sym t) ∙ did)
 
   -- the lists are as long as they were
   lists : Lists (r .run-ops .last .1 .1 .1 .1 .1 .1 .1 .1 .0) (r .run-ops .last .1 .1 .1 .1 .1 .1 .1 .1 .1 .0) (r .run-ops .last .1 .1 .1 .1 .1 .1 .1 .1 .1 .1 .0) (start .args .ops .now)
   lists =
-      let l = start .pre .0 in
+      let l = start .pre .0 .0 in
       let u = r .run-ops .kept .1 .1 .1 .1 .1 .1 .1 .1 .0 in
       let v = r .run-ops .kept .1 .1 .1 .1 .1 .1 .1 .1 .1 .0 in
       let x = r .run-ops .kept .1 .1 .1 .1 .1 .1 .1 .1 .1 .1 .0 in
@@ -96,19 +96,19 @@ module _ (r : tie.After-run-ops) where
       record { short = omega arith; room = omega arith; stack = omega arith; replyOps = omega arith; replyValues = omega arith }
 
 slice-aggregate-run-ops : tie.Need-slice-aggregate-run-ops
-slice-aggregate-run-ops c = let s = c .before .before .before .before .before .before .before .before .before .before .before .before in sym (length-take-le (s .args .n) (s .args .ops .now) (s .pre .2 .few))
+slice-aggregate-run-ops c = let s = c .before .before .before .before .before .before .before .before .before .before .before .before .before in sym (length-take-le (s .args .n) (s .args .ops .now) (s .pre .0 .2 .few))
 
 slice-aggregate-run-ops-2 : tie.Need-slice-aggregate-run-ops-2
-slice-aggregate-run-ops-2 c = sym (c .before .before .before .before .before .before .before .before .before .before .before .before .before .before .pre .1 .fits .vars)
+slice-aggregate-run-ops-2 c = sym (c .before .before .before .before .before .before .before .before .before .before .before .before .before .before .before .pre .0 .1 .fits .vars)
 
 slice-reshare-prefix-run-ops : tie.Need-slice-reshare-prefix-run-ops
-slice-reshare-prefix-run-ops c = let s = c .before .before .before .before .before .before .before .before .before .before .before in s .pre .2 .few
+slice-reshare-prefix-run-ops c = let s = c .before .before .before .before .before .before .before .before .before .before .before .before in s .pre .0 .2 .few
 
 run-ops-requires : tie.Need-run-ops-requires
 run-ops-requires c κs =
-    let s = c .before .before .before .before .before .before .before .before .before .before .before .before .before .before .before .before .before .before .before in
+    let s = c .before .before .before .before .before .before .before .before .before .before .before .before .before .before .before .before .before .before .before .before in
     let a = s .args in
-    fair (s .pre .0) (s .pre .1) (s .pre .2) (a .input .now) (a .call .sense) (a .call .inpos) (a .call .outpos) (a .memory .now) (a .output .now)
+    (fair (s .pre .0 .0) (s .pre .0 .1) (s .pre .0 .2) (a .input .now) (a .call .sense) (a .call .inpos) (a .call .outpos) (a .memory .now) (a .output .now), s .pre .1)
 
 run-from-requires : tie.Need-run-from-requires
 run-from-requires c κs =
@@ -117,15 +117,18 @@ run-from-requires c κs =
     let t = stands r (c .before .before .before .before .before .before .before .before .way2 .given .1) in
     let e = c .before .before .before .before .before .before .before .before .before .before .session .ensures in
     let k = r .run-ops .kept .1 .1 .1 .1 .1 .1 .1 .1 .0 in (
-      lists r,
-      record {
-        short = s .pre .1 .short;
-        good = ap (λ (n : ℕ). isGood n (page r)) k ∙ s .pre .1 .good;
-        fits = subst (Fit (placesOf (page r))) (sym e) (t .1);
-        idle = ap (λ (x : Session). x .paused) e;
-        steps = rw (c .before .before .before .before .at .ensures) (s .pre .1 .steps);
-      },
-      t .0,
+      (
+        lists r,
+        record {
+          short = s .pre .0 .1 .short;
+          good = ap (λ (n : ℕ). isGood n (page r)) k ∙ s .pre .0 .1 .good;
+          fits = subst (Fit (placesOf (page r))) (sym e) (t .1);
+          idle = ap (λ (x : Session). x .paused) e;
+          steps = rw (c .before .before .before .before .at .ensures) (s .pre .0 .1 .steps);
+        },
+        t .0,
+      ),
+      s .pre .1,
     )
 
 returns : tie.Need-returns

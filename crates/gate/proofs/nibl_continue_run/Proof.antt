@@ -3,7 +3,7 @@
 use contract.Running.{givenOf, tables, tablesOf}
 use denote.Triple.Spec.{tripleOf}
 use denote.Triple.Table.{entered, cited}
-use Rattle.nibl.specs.Calls.{continueRun}
+use Rattle.nibl.specs.Calls.{leaves, continueRun}
 use Rattle.calls.proofs.continue_run as core
 use Rattle.calls.proofs.continue_run.Symbol as core-def
 use Rattle.calls.proofs.continue_run.Symbol.{name as #calls·continue-run}
@@ -19,5 +19,5 @@ unfolding code.routine tablesOf
 nibl-continue-run-spec 𝓤 H 𝓜 𝓖 𝓡 =
     entered 𝓤 H (tripleOf 𝓤 H (𝓖 .A) here.signature (here.spec 𝓤 H (𝓖 .A) (𝓜 .mem) (𝓡 .run)))
     (tables 𝓤 H 𝓜 𝓡 code.env .C) (tables 𝓤 H 𝓜 𝓡 code.env .Λ) #gate·nibl-continue-run code.function (code.unfolded 𝓤 H 𝓜 𝓡)
-    (meets continueRun #calls·continue-run 𝓤 H (𝓖 .A) (givenOf 𝓤 H 𝓜 𝓖) (tablesOf 𝓤 H 𝓜 (tables 𝓤 H 𝓜 𝓡 code.env))
+    (meets (leaves continueRun) #calls·continue-run 𝓤 H (𝓖 .A) (givenOf 𝓤 H 𝓜 𝓖) (tablesOf 𝓤 H 𝓜 (tables 𝓤 H 𝓜 𝓡 code.env))
     (cited 𝓤 H (tripleOf 𝓤 H (𝓖 .A) core.signature (core.spec 𝓤 H (𝓖 .A) (𝓜 .mem) (𝓡 .run))) 𝓜 𝓡 code.env #calls·continue-run core-def.routine code.calls-calls·continue-run (core-thm.met 𝓤 H 𝓜 𝓖 𝓡)))

@@ -3,7 +3,7 @@
 use contract.Running.{givenOf, tables, tablesOf}
 use denote.Triple.Spec.{tripleOf}
 use denote.Triple.Table.{entered, cited}
-use Rattle.nibl.specs.Calls.{takeLine}
+use Rattle.nibl.specs.Calls.{leaves, takeLine}
 use Rattle.calls.proofs.take_line as core
 use Rattle.calls.proofs.take_line.Symbol as core-def
 use Rattle.calls.proofs.take_line.Symbol.{name as #calls·take-line}
@@ -19,5 +19,5 @@ unfolding code.routine tablesOf
 nibl-take-line-spec 𝓤 H 𝓜 𝓖 𝓡 =
     entered 𝓤 H (tripleOf 𝓤 H (𝓖 .A) here.signature (here.spec 𝓤 H (𝓖 .A) (𝓜 .mem) (𝓡 .run)))
     (tables 𝓤 H 𝓜 𝓡 code.env .C) (tables 𝓤 H 𝓜 𝓡 code.env .Λ) #gate·nibl-take-line code.function (code.unfolded 𝓤 H 𝓜 𝓡)
-    (meets takeLine #calls·take-line 𝓤 H (𝓖 .A) (givenOf 𝓤 H 𝓜 𝓖) (tablesOf 𝓤 H 𝓜 (tables 𝓤 H 𝓜 𝓡 code.env))
+    (meets (leaves takeLine) #calls·take-line 𝓤 H (𝓖 .A) (givenOf 𝓤 H 𝓜 𝓖) (tablesOf 𝓤 H 𝓜 (tables 𝓤 H 𝓜 𝓡 code.env))
     (cited 𝓤 H (tripleOf 𝓤 H (𝓖 .A) core.signature (core.spec 𝓤 H (𝓖 .A) (𝓜 .mem) (𝓡 .run))) 𝓜 𝓡 code.env #calls·take-line core-def.routine code.calls-calls·take-line (core-thm.met 𝓤 H 𝓜 𝓖 𝓡)))

@@ -44,7 +44,7 @@ use Rattle.run.proofs.run_steps.Statement.{statement}
 use Rattle.run.proofs.run_steps.Tie as tie
 
 abbrev Inv-loop : tie.InvT-loop
-Inv-loop budget page input sense vars₀ memory₀ output₀ reply₀ replies₀ values₀ ops₀ typed q₀ p₀ left₀ steps₀ vars memory output reply replies values ops q p left steps =
+Inv-loop budget page input sense vars₀ memory₀ output₀ reply₀ replies₀ values₀ ops₀ typed table q₀ p₀ left₀ steps₀ vars memory output reply replies values ops q p left steps =
     (steps + left ≡ budget) × Stands page (positionOf q) × Fit (placesOf page) (worldWith vars p memory output .session)
     × (length vars ≡ length vars₀) × (length memory ≡ length memory₀) × (length output ≡ length output₀) × (length reply ≡ length reply₀)
     × (length replies ≡ length replies₀) × (length values ≡ length values₀) × (length ops ≡ length ops₀)
@@ -52,12 +52,12 @@ Inv-loop budget page input sense vars₀ memory₀ output₀ reply₀ replies₀
     ≡ tally steps (runFrom left (envWith (length reply₀) page input sense (place mark)) (positionOf q) (worldWith vars p memory output)) page)
 
 abbrev μ-loop : tie.MeasureT-loop
-μ-loop budget page input sense vars₀ memory₀ output₀ reply₀ replies₀ values₀ ops₀ typed q₀ p₀ left₀ steps₀ vars memory output reply replies values ops q p left steps = left
+μ-loop budget page input sense vars₀ memory₀ output₀ reply₀ replies₀ values₀ ops₀ typed table q₀ p₀ left₀ steps₀ vars memory output reply replies values ops q p left steps = left
 
 -- at the head of the loop: where the run stands, and its world
 module _ (l : tie.At-loop Inv-loop μ-loop) where
   abbrev start : tie.Start Inv-loop μ-loop
-  start = l .before .before .before .before .before .before .before .before .before .before .before
+  start = l .before .before .before .before .before .before .before .before .before .before .before .before
 
   abbrev page : List ℕ
   page = start .args .page .now
@@ -75,7 +75,7 @@ module _ (l : tie.At-loop Inv-loop μ-loop) where
   from = positionOf (l .loop .q)
 
   begun : MayRun page (start .args .ops .now) (start .args .values .now) (start .args .reply .now) (start .args .replies .now) (positionOf (start .args .from)) (start .args .budget) (worldWith (start .args .vars .now) (start .args .parts) (start .args .memory .now) (start .args .output .now))
-  begun = start .pre
+  begun = start .pre .0
 
   fair : Fair page (start .args .ops .now) (start .args .values .now) (start .args .reply .now) (start .args .replies .now)
   fair = ready-fair begun
@@ -281,8 +281,8 @@ module _ (s : tie.After-run-plain Inv-loop μ-loop) {vars memory output reply re
 
 loop-holds : tie.Need-loop-holds Inv-loop μ-loop
 loop-holds c =
-    let a = c .before .before .before .before .before .before .before .before .before .before .args in
-    let b = c .before .before .before .before .before .before .before .before .before .before .pre in
+    let a = c .before .before .before .before .before .before .before .before .before .before .before .args in
+    let b = c .before .before .before .before .before .before .before .before .before .before .before .pre .0 in
     let e = envWith (length (a .reply .now)) (a .page .now) (a .input .now) (a .sense) (place mark) in (
       omega arith,
       b .stands,
@@ -338,7 +338,7 @@ add-steps c =
     omega arith
 
 run-plain-requires : tie.Need-run-plain-requires Inv-loop μ-loop
-run-plain-requires c κs = let k = c .before .before .before .before .before .before .before in let f = fair (head k) in let t = f .top in (values-room k, f .places, omega arith)
+run-plain-requires c κs = let k = c .before .before .before .before .before .before .before in let f = fair (head k) in let t = f .top in ((values-room k, f .places, omega arith), start (head k) .pre .1)
 
 run-ops-from-requires : tie.Need-run-ops-from-requires Inv-loop μ-loop
 run-ops-from-requires c κs =
@@ -354,8 +354,11 @@ run-ops-from-requires c κs =
     let r = f .replyOps in
     let u = f .replyValues in
     let w = f .short in (
-      record { places = f .places; top = f .top; stack = omega (arith, values-room k); replyOps = omega arith; replyValues = omega arith; short = omega arith },
-      plain-within (s .run-plain .ensures) (c .before .before .before .before .before .before .before .before .r5 .given .1),
+      (
+        record { places = f .places; top = f .top; stack = omega (arith, values-room k); replyOps = omega arith; replyValues = omega arith; short = omega arith },
+        plain-within (s .run-plain .ensures) (c .before .before .before .before .before .before .before .before .r5 .given .1),
+      ),
+      start l .pre .1,
     )
 
 -- where the ways meet
@@ -444,7 +447,7 @@ run-steps-spec =
     run-plain-requires
     (λ c. search needs)
     (λ c. search needs)
-    (λ c κs. search needs)
+    (λ c κs. start (loop (c .before .before .before .before .before .before .before)) .pre .1)
     (λ c. search needs)
     (λ c κs. search needs)
     (λ c. search needs)

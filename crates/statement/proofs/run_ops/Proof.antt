@@ -10,11 +10,11 @@ use Rattle.statement.proofs.run_ops.Statement.{statement}
 use Rattle.statement.proofs.run_ops.Tie as tie
 
 run-ops-from-requires : tie.Need-run-ops-from-requires
-run-ops-from-requires c κs = (c .before .before .before .before .before .before .before .before .before .before .before .before .before .before .before .pre, omega arith)
+run-ops-from-requires c κs = let p = c .before .before .before .before .before .before .before .before .before .before .before .before .before .before .before .before .pre in ((p .0, omega arith), p .1)
 
 returns : tie.Need-returns
 returns c =
-    let a = c .before .before .before .before .before .before .before .before .before .before .before .before .before .before .before .before .before .before .before .before .before .before .before .before .before .before .before .before .args in
+    let a = c .before .before .before .before .before .before .before .before .before .before .before .before .before .before .before .before .before .before .before .before .before .before .before .before .before .before .before .before .before .args in
     c .before .before .before .before .before .before .before .before .before .before .before .before .run-ops-from .ensures
     ∙ ap (runOps (envWith (length (a .reply .now)) (a .page .now) (a .input .now) (a .sense) (a .here)) (a .ops .now) (worldWith (a .vars .now) (a .parts) (a .memory .now) (a .output .now))) (stack-none (a .values .now))
 

@@ -18,19 +18,19 @@ use Rattle.statement.proofs.run_ops_from.Statement.{statement}
 use Rattle.statement.proofs.run_ops_from.Tie as tie
 
 abbrev Inv-loop : tie.InvT-loop
-Inv-loop ops from filled here page input sense vars₀ memory₀ output₀ reply₀ replies₀ values₀ p₀ height₀ i₀ vars memory output reply replies values p height i =
+Inv-loop ops from filled here page input sense vars₀ memory₀ output₀ reply₀ replies₀ values₀ table p₀ height₀ i₀ vars memory output reply replies values p height i =
     (height ≤ i) × (length vars ≡ length vars₀) × (length memory ≡ length memory₀) × (length output ≡ length output₀)
     × (length reply ≡ length reply₀) × (length replies ≡ length replies₀) × (length values ≡ length values₀)
     × (runOps (envWith (length reply₀) page input sense here) (drop from ops) (worldWith vars₀ p₀ memory₀ output₀) (stackOf values₀ filled)
     ≡ runOps (envWith (length reply₀) page input sense here) (drop i ops) (worldWith vars p memory output) (stackOf values height))
 
 abbrev μ-loop : tie.MeasureT-loop
-μ-loop ops from filled here page input sense vars₀ memory₀ output₀ reply₀ replies₀ values₀ p₀ height₀ i₀ vars memory output reply replies values p height i = length ops - i
+μ-loop ops from filled here page input sense vars₀ memory₀ output₀ reply₀ replies₀ values₀ table p₀ height₀ i₀ vars memory output reply replies values p height i = length ops - i
 
 -- at the head of the loop: the list, the world, the values
 module _ (l : tie.At-loop Inv-loop μ-loop) where
   abbrev start : tie.Start Inv-loop μ-loop
-  start = l .before .before .before .before .before .before .before .before .before .before
+  start = l .before .before .before .before .before .before .before .before .before .before .before
 
   abbrev slots : ℕ
   slots = length (start .args .reply .now)
@@ -67,21 +67,21 @@ abbrev ended : tie.After-ends2 Inv-loop μ-loop → tie.At-loop Inv-loop μ-loop
 ended c = c .before .before
 
 loop-holds : tie.Need-loop-holds Inv-loop μ-loop
-loop-holds c = (c .before .before .before .before .before .before .before .before .before .pre .1, refl, refl, refl, refl, refl, refl, refl)
+loop-holds c = (c .before .before .before .before .before .before .before .before .before .before .pre .0 .1, refl, refl, refl, refl, refl, refl, refl)
 
 shared-slice-read-op : tie.Need-shared-slice-read-op Inv-loop μ-loop
 shared-slice-read-op c = omega arith
 
 value-step-requires : tie.Need-value-step-requires Inv-loop μ-loop
 value-step-requires c κs =
-    let r = c .before .before .before .before .before .before .before .before .before .before .before .before .before .before .before .before .before .before .pre .0 .stack in
+    let r = c .before .before .before .before .before .before .before .before .before .before .before .before .before .before .before .before .before .before .before .pre .0 .0 .stack in
     let v = c .before .before .before .before .before .before .before .before .loop .inv .0 in
     let s = c .before .before .before .before .before .before .before .before .loop .inv .6 in
     let t = c .before .before .before .before .before .before .before .loop-test .taken in
-    (omega arith, c .before .before .before .before .before .before .before .before .before .before .before .before .before .before .before .before .before .before .pre .0 .top, c .before .before .before .before .nth .ensures)
+    (omega arith, c .before .before .before .before .before .before .before .before .before .before .before .before .before .before .before .before .before .before .before .pre .0 .0 .top, c .before .before .before .before .nth .ensures)
 
 add-i : tie.Need-add-i Inv-loop μ-loop
-add-i c = let g = c .before .before .before .before .before .before .before .before .before .before .before .before .before .before .before .before .before .before .before .before .before .before .before .before .good in let t = c .before .before .before .before .before .before .before .before .before .before .before .before .before .loop-test .taken in omega arith
+add-i c = let g = c .before .before .before .before .before .before .before .before .before .before .before .before .before .before .before .before .before .before .before .before .before .before .before .before .before .good in let t = c .before .before .before .before .before .before .before .before .before .before .before .before .before .loop-test .taken in omega arith
 
 loop-less : tie.Need-loop-less Inv-loop μ-loop
 loop-less c = let t = c .before .before .before .before .before .before .before .before .before .before .before .before .before .loop-test .taken in omega arith
@@ -112,7 +112,7 @@ returns c =
     ∙ value-off (env l) (ops l) (world l) (values l) (l .loop .i) (c .before .before .before .before .before .before .before .before .before .before .before .before .before .before .loop-test .taken) (c .before .before .before .before .before .before .before .before .before .before .if1 .taken) (rw (c .before .before .t2 .given .1) at (c .before .before .before .before .before .before .value-step .ensures .0))))
 
 add-last : tie.Need-add-last Inv-loop μ-loop
-add-last c = let g = c .before .before .before .before .before .before .before .before .before .before .before .before .before .before .before .before .before .good in let t = c .before .before .before .before .before .before .loop-test .taken in omega arith
+add-last c = let g = c .before .before .before .before .before .before .before .before .before .before .before .before .before .before .before .before .before .before .good in let t = c .before .before .before .before .before .before .loop-test .taken in omega arith
 
 sub-last : tie.Need-sub-last Inv-loop μ-loop
 sub-last c = let t = c .before .before .before .before .before .before .loop-test .taken in omega arith
@@ -125,7 +125,7 @@ part-last-end c = let t = c .before .before .before .before .before .before .loo
 
 last-requires : tie.Need-last-requires Inv-loop μ-loop
 last-requires c κs =
-    let p = c .before .before .before .before .before .before .before .before .before .before .before .before .before .before .before .before .before .before .before .before .before .before .before .before .pre .0 in
+    let p = c .before .before .before .before .before .before .before .before .before .before .before .before .before .before .before .before .before .before .before .before .before .before .before .before .before .pre .0 .0 in
     let v = c .before .before .before .before .before .before .before .before .before .before .before .before .before .before .loop .inv .4 in
     let u = c .before .before .before .before .before .before .before .before .before .before .before .before .before .before .loop .inv .5 in
     let s = c .before .before .before .before .before .before .before .before .before .before .before .before .before .before .loop .inv .6 in
@@ -145,7 +145,7 @@ returns-2 c =
     (sym (s .before .before .before .before .before .before .before .before .before .is-last .ensures) ∙ s .before .before .before .before .before .before .before .before .if2 .taken) (part-rest (ops l) (l .loop .i + 1)) (s .last .ensures))
 
 effect-requires : tie.Need-effect-requires Inv-loop μ-loop
-effect-requires c κs = c .before .before .before .before .before .before .before .before .before .before .before .before .before .before .before .before .before .before .before .before .before .before .before .before .before .pre .0 .places
+effect-requires c κs = let p = c .before .before .before .before .before .before .before .before .before .before .before .before .before .before .before .before .before .before .before .before .before .before .before .before .before .before .pre in (p .0 .0 .places, p .1)
 
 returns-3 : tie.Need-returns-3 Inv-loop μ-loop
 returns-3 c =
@@ -158,7 +158,7 @@ returns-3 c =
     (sym (s .before .before .before .before .before .before .before .before .before .before .is-last .ensures) ∙ s .before .before .before .before .before .before .before .before .before .if2 .left) (s .before .before .before .before .before .before .before .nth2 .ensures) (s .before .before .before .before .before .nth3 .ensures) (s .effect .ensures) (sym (c .before .is-on .ensures) ∙ not-true _ (c .if3 .taken)))
 
 add-i-2 : tie.Need-add-i-2 Inv-loop μ-loop
-add-i-2 c = let g = c .before .before .before .before .before .before .before .before .before .before .before .before .before .before .before .before .before .before .before .before .before .before .before .before .before .before .before .before .before .before .before .before .before .before .before .before .before .good in let t = c .before .before .before .before .before .before .before .before .before .before .before .before .before .before .before .before .before .before .before .before .before .before .before .before .before .before .loop-test .taken in omega arith
+add-i-2 c = let g = c .before .before .before .before .before .before .before .before .before .before .before .before .before .before .before .before .before .before .before .before .before .before .before .before .before .before .before .before .before .before .before .before .before .before .before .before .before .before .good in let t = c .before .before .before .before .before .before .before .before .before .before .before .before .before .before .before .before .before .before .before .before .before .before .before .before .before .before .loop-test .taken in omega arith
 
 loop-less-2 : tie.Need-loop-less-2 Inv-loop μ-loop
 loop-less-2 c = let t = c .before .before .before .before .before .before .before .before .before .before .before .before .before .before .before .before .before .before .before .before .before .before .before .before .before .before .loop-test .taken in omega arith

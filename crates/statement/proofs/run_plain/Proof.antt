@@ -22,16 +22,16 @@ use Rattle.statement.proofs.run_plain.Statement.{statement}
 use Rattle.statement.proofs.run_plain.Tie as tie
 
 abbrev Inv-loop : tie.InvT-loop
-Inv-loop ops page sense flags dos fors vars₀ memory values₀ i₀ vars values i =
+Inv-loop ops page sense flags dos fors vars₀ memory values₀ table i₀ vars values i =
     (length vars ≡ length vars₀) × (length values ≡ length values₀) × Reaches (viewOf page sense flags dos fors memory) ops vars₀ i vars
 
 abbrev μ-loop : tie.MeasureT-loop
-μ-loop ops page sense flags dos fors vars₀ memory values₀ i₀ vars values i = length ops - i
+μ-loop ops page sense flags dos fors vars₀ memory values₀ table i₀ vars values i = length ops - i
 
 -- at the head of the loop: what is seen, and the list
 module _ (l : tie.At-loop Inv-loop μ-loop) where
   abbrev start : tie.Start Inv-loop μ-loop
-  start = l .before .before .before .before .before .before
+  start = l .before .before .before .before .before .before .before
 
   abbrev ops : List ℕ
   ops = start .args .ops .now
@@ -43,7 +43,7 @@ loop-holds : tie.Need-loop-holds Inv-loop μ-loop
 loop-holds c = (refl, refl, record { at = λ a. refl })
 
 values-first-requires : tie.Need-values-first-requires Inv-loop μ-loop
-values-first-requires c κs = let p = c .before .before .before .before .before .before .before .before .pre in let v = c .before .before .loop .inv .1 in (omega arith, omega arith)
+values-first-requires c κs = let p = c .before .before .before .before .before .before .before .before .before .pre in let v = c .before .before .loop .inv .1 in (omega arith, omega arith)
 
 returns : tie.Need-returns Inv-loop μ-loop
 returns c =
@@ -117,7 +117,7 @@ returns-3 c =
     let l = head k in
     let p = c .left-at .ensures in
     record {
-      runs = λ a. p .runs (sees l) a (d .before .before .before .before .act .last .1 .1 .1 .1 .0) (start l .pre .1)
+      runs = λ a. p .runs (sees l) a (d .before .before .before .before .act .last .1 .1 .1 .1 .0) (start l .pre .0 .1)
           ∙ ap (λ (v : List ℕ). runOps (envFrom (sees l) a) (drop (next k) (ops l)) (worldFrom (sees l) a v) (stack k)) (same-vars d)
           ∙ sym (reached k a);
       within = p .within;
@@ -148,12 +148,12 @@ returns-4 c =
     record {
       runs = λ a. sym
           (reached k a
-          ∙ plain-off (sees l) a (start l .pre .1) (ops l) (l .loop .vars) (stack k) (next k) (some-left b) (top k) (way b) (is-acted b) (sym (c .before .is-on .ensures) ∙ not-true _ (c .if2 .taken)));
+          ∙ plain-off (sees l) a (start l .pre .0 .1) (ops l) (l .loop .vars) (stack k) (next k) (some-left b) (top k) (way b) (is-acted b) (sym (c .before .is-on .ensures) ∙ not-true _ (c .if2 .taken)));
       within = omega arith;
     }
 
 add-i : tie.Need-add-i Inv-loop μ-loop
-add-i c = let g = c .before .before .before .before .before .before .before .before .before .before .before .before .before .before .before .before .before .before .before .before .before .before .before .before .before .good in omega (arith, some-left (c .before))
+add-i c = let g = c .before .before .before .before .before .before .before .before .before .before .before .before .before .before .before .before .before .before .before .before .before .before .before .before .before .before .good in omega (arith, some-left (c .before))
 
 loop-less : tie.Need-loop-less Inv-loop μ-loop
 loop-less c = let f = rw (c .before .before .before .before .before .before .before .before .before .before .before .before .r2 .given .1) at (c .before .before .before .before .before .before .before .before .before .before .before .before .before .before .before .before .values-first .ensures .2) in omega (arith, some-left (c .before))
@@ -167,7 +167,7 @@ loop-again c =
       c .before .before .before .before .before .before .before .before .before .before .before .before .before .before .before .before .values-first .kept .1 .1 .1 .1 .1 .1 .1 .0 ∙ l .loop .inv .1,
       record {
         at = λ a. reached k a
-            ∙ plain-on (sees l) a (start l .pre .1) (ops l) (l .loop .vars) (stack k) (next k) (some-left b) (top k) (way b) (is-acted b) (sym (c .before .is-on .ensures) ∙ not-false _ (c .if2 .left));
+            ∙ plain-on (sees l) a (start l .pre .0 .1) (ops l) (l .loop .vars) (stack k) (next k) (some-left b) (top k) (way b) (is-acted b) (sym (c .before .is-on .ensures) ∙ not-false _ (c .if2 .left));
       },
     )
 

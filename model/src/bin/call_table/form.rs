@@ -1,6 +1,6 @@
 //! The cases as bytes, and back.
 
-use model::case::Call;
+use model::case::{packed, Call};
 use model::{ForEntry, ForStack, Place, PlaceStack, Record};
 
 use crate::gate::{pause, pause_of, Gate, Numbers};
@@ -35,11 +35,12 @@ impl Input {
         (0..count).map(|_| self.byte()).collect()
     }
 
-    fn lent(&mut self) -> Vec<u8> {
+    /// What is lent, of bytes or of numbers.
+    fn lent<T: Clone>(&mut self, value: fn(&mut Input) -> T) -> Vec<T> {
         let length = self.long() as usize;
-        let filler = self.byte();
-        let given = self.number().into();
-        let mut lent = self.bytes(given);
+        let filler = value(self);
+        let given = self.number();
+        let mut lent: Vec<T> = (0..given).map(|_| value(self)).collect();
         lent.resize(length, filler);
         lent
     }
@@ -86,6 +87,7 @@ impl Input {
             },
             sense: self.byte(),
             budget: self.long(),
+            tabled: self.byte() != 0,
         }
     }
 
@@ -93,10 +95,11 @@ impl Input {
         let length = self.byte().into();
         let name = self.bytes(length).into_iter().map(char::from).collect();
         let gate = Gate {
-            page: self.lent(),
-            memory: self.lent(),
-            input: self.lent(),
-            output: self.lent(),
+            page: self.lent(Input::byte),
+            memory: self.lent(Input::byte),
+            input: self.lent(Input::byte),
+            output: self.lent(Input::byte),
+            table: self.lent(Input::number),
             input_position: self.long(),
             output_position: self.long(),
             record: self.record(),
@@ -106,6 +109,7 @@ impl Input {
             name,
             gate,
             calls,
+            lending: false,
             answers: Vec::new(),
         }
     }
@@ -127,15 +131,16 @@ fn push_number(out: &mut Vec<u8>, number: usize) {
     out.extend(u16::try_from(number).expect("two bytes").to_be_bytes());
 }
 
-/// The byte that fills the end of lent bytes is given once.
-fn push_lent(out: &mut Vec<u8>, lent: &[u8]) {
-    let filler = lent.last().copied().unwrap_or(0);
-    let given = lent.iter().rposition(|&byte| byte != filler);
-    let given = &lent[..given.map_or(0, |last| last + 1)];
+/// What fills the end of what is lent is given once.
+fn push_lent<T, const N: usize>(out: &mut Vec<u8>, lent: &[T], bytes: fn(T) -> [u8; N])
+where
+    T: Copy + Default + PartialEq,
+{
+    let (given, filler) = packed(lent);
     out.extend((lent.len() as u32).to_be_bytes());
-    out.push(filler);
+    out.extend(bytes(filler));
     push_number(out, given.len());
-    out.extend(given);
+    out.extend(given.iter().flat_map(|&value| bytes(value)));
 }
 
 fn push_places(out: &mut Vec<u8>, stack: &PlaceStack) {
@@ -165,8 +170,9 @@ fn push_case(out: &mut Vec<u8>, case: &Written) {
     push_count(out, case.name.len());
     out.extend(case.name.bytes());
     for lent in [&gate.page, &gate.memory, &gate.input, &gate.output] {
-        push_lent(out, lent);
+        push_lent(out, lent, u8::to_be_bytes);
     }
+    push_lent(out, &gate.table, u16::to_be_bytes);
     out.extend(gate.input_position.to_be_bytes());
     out.extend(gate.output_position.to_be_bytes());
     push_record(out, &gate.record);
@@ -178,5 +184,6 @@ fn push_case(out: &mut Vec<u8>, case: &Written) {
         };
         out.extend([kind, numbers.sense]);
         out.extend(numbers.budget.to_be_bytes());
+        out.push(numbers.tabled.into());
     }
 }

@@ -14,18 +14,21 @@ pub struct Gate {
     pub input_position: u32,
     pub output_position: u32,
     pub record: Record,
+    pub table: Vec<u16>,
 }
 
-/// Which call is made, with its sense byte and budget.
+/// Which call is made, with its sense byte and budget, and whether the table is lent to it.
 #[derive(Clone, Copy, Debug, PartialEq, Eq)]
 pub struct Numbers {
     pub call: Call,
     pub sense: u8,
     pub budget: u32,
+    pub tabled: bool,
 }
 
-/// How many of the bytes that a call wrote a row has.
+/// How many of the bytes that a call wrote a row has, and of the table's numbers.
 const SHOWN: usize = 40;
+const TABLE_SHOWN: usize = 12;
 
 impl Gate {
     /// Makes a call, and takes over the positions that it leaves.
@@ -39,6 +42,7 @@ impl Gate {
             output_position: self.output_position,
             sense: numbers.sense,
             budget: numbers.budget,
+            table: numbers.tabled.then_some(&mut self.table),
         };
         let answer = match numbers.call {
             Call::Line => take_line(&mut self.record, lent),
@@ -63,9 +67,14 @@ impl Gate {
         row += " /";
         show(&mut row, record.variables.map(|value| value as u16));
         row += " /";
-        show(&mut row, [&self.page, &self.memory, &self.output].map(sum));
+        let lent = [&self.page, &self.memory, &self.output];
+        show(&mut row, lent.map(|bytes| sum(bytes.iter().copied())));
         row += " /";
         show(&mut row, self.written(from, answer.output_position));
+        row += " /";
+        let table = self.table.iter().flat_map(|number| number.to_be_bytes());
+        show(&mut row, [sum(table)]);
+        show(&mut row, self.table.iter().take(TABLE_SHOWN));
         row.push('\n');
         row
     }
@@ -94,9 +103,8 @@ pub fn pause_of(number: u16) -> Option<Pause> {
 }
 
 /// The bytes as one number, the first byte highest: what is left of it by 16,777,213, a prime.
-fn sum(bytes: &Vec<u8>) -> u32 {
-    let add = |sum, &byte| (sum * 256 + u32::from(byte)) % 16_777_213;
-    bytes.iter().fold(0, add)
+fn sum(bytes: impl Iterator<Item = u8>) -> u32 {
+    bytes.fold(0, |sum, byte| (sum * 256 + u32::from(byte)) % 16_777_213)
 }
 
 /// Adds numbers, a space before each.

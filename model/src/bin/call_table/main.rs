@@ -5,18 +5,19 @@
 //!     call_table stops      how often each stop comes up, in typed lines and in continued runs
 //!
 //! The input has the number of cases, and then of each its name, after one byte for its length; the page, the memory,
-//! the input and the output; where the first call reads and writes; the session record; and the calls, after one byte for
-//! their number. The calls of a case are made one after the other, each on what the one before left, from the positions
-//! that it answered.
+//! the input, the output and the table of line places; where the first call reads and writes; the session record; and the
+//! calls, after one byte for their number. The calls of a case are made one after the other, each on what the one before
+//! left, from the positions that it answered.
 //!
-//! Lent bytes are their length, a byte that fills them, and those that stand before it, after their number. A record has
-//! its 26 variables; its flags (a byte); its pause (0 for none, 1 for the program's start, else a place + 2); and the
-//! stacks of GOSUB, DO and FOR, each with its depth and all its slots. A call is a kind (a byte: 0 for a typed line, 1
-//! for a continued run), the sense byte and the budget. A number is two bytes, high first; a length of lent bytes, a
-//! position and a budget are two such numbers.
+//! Lent bytes are their length, a byte that fills them, and those that stand before it, after their number; a table is the
+//! same of numbers. A record has its 26 variables; its flags (a byte); its pause (0 for none, 1 for the program's start,
+//! else a place + 2); and the stacks of GOSUB, DO and FOR, each with its depth and all its slots. A call is a kind (a byte:
+//! 0 for a typed line, 1 for a continued run), the sense byte, the budget, and a byte that is 0 where the table is not
+//! lent. A number is two bytes, high first; a length of what is lent, a position and a budget are two such numbers.
 //!
 //! A row has the stop with its line, the steps, the column, both positions, the flags and the pause; the three stacks; the
-//! variables; the sums of page, memory and output; and the bytes that were written, at most the first 40.
+//! variables; the sums of page, memory and output; the bytes that were written, at most the first 40; and the sum of the
+//! table, lent or not, each number as two bytes, with its first numbers, at most 12.
 
 #![forbid(unsafe_code)]
 

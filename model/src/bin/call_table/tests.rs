@@ -3,6 +3,7 @@
 use std::collections::HashSet;
 
 use model::case::Call;
+use model::table::describes;
 use model::Stop;
 
 use crate::cases::cases;
@@ -31,6 +32,29 @@ fn every_stop_comes_up_in_each_call_that_can_give_it() {
         let by_runs = count(&cases, Call::Continue, stop) > 0;
         assert_eq!(by_runs, !of_lines.contains(&stop), "{stop:?}");
     }
+}
+
+#[test]
+fn a_lent_table_describes_the_page_or_is_refused() {
+    let (mut lent, mut refused) = (0, 0);
+    for mut case in cases() {
+        for &numbers in &case.calls {
+            let before = case.gate.clone();
+            let stop = case.gate.call(numbers).stop;
+            let first = [Stop::OutOfRange, Stop::BadPage, Stop::BadTable].contains(&stop);
+            lent += usize::from(numbers.tabled);
+            if !numbers.tabled {
+                assert_eq!(case.gate.table, before.table, "{}", case.name);
+            } else if first {
+                assert_eq!(case.gate, before, "{}", case.name);
+                refused += 1;
+            } else {
+                let gate = &case.gate;
+                assert!(describes(&gate.table, &gate.page), "{}", case.name);
+            }
+        }
+    }
+    assert!(lent > 60 && refused > 20, "{refused} of {lent} refused");
 }
 
 #[test]

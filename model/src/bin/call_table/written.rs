@@ -2,6 +2,7 @@
 
 use model::case::Call;
 use model::page::{read_page, END_MARK};
+use model::table::walk;
 use model::typing::CR;
 use model::{Answer, ForEntry, Pause, Place, Record};
 
@@ -13,16 +14,19 @@ pub struct Written {
     pub name: String,
     pub gate: Gate,
     pub calls: Vec<Numbers>,
+    /// Is the table lent to the calls that are made from now on?
+    pub lending: bool,
     /// The stop and the column that the documents give each of the calls.
     pub answers: Vec<(u8, u32)>,
 }
 
-/// What stands behind the end mark and behind the memory's strings, what an output is filled with, and what dead slots
-/// hold: a call that touches one of them shows it.
+/// What stands behind the end mark and behind the memory's strings, what an output is filled with, what dead slots hold, and
+/// what a table holds past the last line: a call that touches one of them shows it.
 const BEHIND: u8 = 171;
 const NO_TEXT: u8 = 7;
 const UNWRITTEN: u8 = b'.';
 const DEAD: Place = Place(999);
+const PAST: u16 = 777;
 
 const PAGE: usize = 160;
 const MEMORY: usize = 32;
@@ -96,11 +100,13 @@ pub fn on(name: &str, program: &[&str]) -> Written {
         output: vec![UNWRITTEN; OUTPUT],
         input_position: 1,
         output_position: 2,
+        table: Vec::new(),
     };
     Written {
         name: name.to_string(),
         gate,
         calls: Vec::new(),
+        lending: false,
         answers: Vec::new(),
     }
 }
@@ -142,6 +148,21 @@ impl Written {
         self.with(|gate| gate.output.truncate(gate.output_position as usize + room))
     }
 
+    /// Makes a table of so many numbers that describes the page, and lends it from now on.
+    pub fn table(self, length: usize) -> Written {
+        let case = self.with(|gate| {
+            gate.table = walk(&gate.page);
+            gate.table.resize(length, PAST);
+        });
+        case.lending(true)
+    }
+
+    /// Lends the table from now on, or does not.
+    pub fn lending(mut self, lending: bool) -> Written {
+        self.lending = lending;
+        self
+    }
+
     /// Has the run paused at the program's start.
     pub fn paused(self) -> Written {
         self.with(|gate| gate.record.paused = Some(Pause::Start))
@@ -164,6 +185,7 @@ impl Written {
             call,
             sense: SENSE,
             budget,
+            tabled: self.lending,
         });
         self.answers.push(answer);
         self
@@ -176,6 +198,11 @@ impl Written {
 
     pub fn types_in(self, budget: u32, stop: u8) -> Written {
         self.calls(Call::Line, budget, (stop, 0))
+    }
+
+    /// Takes a typed line without the table.
+    pub fn types_without(self, stop: u8) -> Written {
+        self.lending(false).types(stop).lending(true)
     }
 
     /// Takes a typed line that has no reading, or is over-long, with this column.

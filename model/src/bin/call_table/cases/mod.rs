@@ -1,10 +1,11 @@
 //! The written cases, in the order of the stops that a call looks for: those that both calls refuse, what a typed line
-//! does, runs, and calls that follow one another.
+//! does, runs, calls that follow one another, and all of these with a table of line places.
 
 mod chains;
 mod lines;
 mod refusals;
 mod runs;
+mod tables;
 
 use model::{Pause, Place};
 
@@ -12,7 +13,13 @@ use crate::gate::Gate;
 use crate::written::{fresh, on, Written};
 
 pub fn cases() -> Vec<Written> {
-    let chapters = [refusals::cases, lines::cases, runs::cases, chains::cases];
+    let chapters = [
+        refusals::cases,
+        lines::cases,
+        runs::cases,
+        chains::cases,
+        tables::cases,
+    ];
     chapters.iter().flat_map(|chapter| chapter()).collect()
 }
 
