@@ -82,18 +82,14 @@ fn next(random: &mut Random, mut case: Case, size: Size, answer: &Answer) -> Tri
 pub fn edits(random: &mut Random, sequence: Sequence, hold: &mut Hold) {
     let mut record = Record::default();
     record.gosubs.push(Place::IMMEDIATE);
+    let page = empty_page(random, sequence.length);
     let mut trial = Trial::new(Case {
-        call: Call::Line,
-        page: empty_page(random, sequence.length),
         memory: vec![13; 8],
-        input: sequence.typed,
         output: vec![0; random.below(900)],
-        input_position: 0,
-        output_position: 0,
         budget: 3,
-        sense: 0,
         record,
         table: sequence.table,
+        ..Case::typed(page, &sequence.typed)
     });
     while let Some(answer) = hold(&mut trial) {
         if answer.input_position == trial.case.input_position {
@@ -158,18 +154,16 @@ fn fitted(random: &mut Random) -> Trial {
     let record = near(random, &page);
     let table = any_table(random, Size::Full, &page);
     let typed: [&[u8]; 4] = [b"\r", b"RUN\r", b"RETURN\r", b"GOTO 10\r"];
+    let input = *random.pick(&typed);
     Trial::new(Case {
         call: *random.pick(&[Call::Line, Call::Continue]),
-        page,
         memory: memory(random, Size::Small),
-        input: random.pick(&typed).to_vec(),
         output: vec![0; 100],
-        input_position: 0,
-        output_position: 0,
         budget: random.below(9) as u32,
         sense: random.byte(),
         record,
         table,
+        ..Case::typed(page, input)
     })
 }
 
@@ -256,16 +250,11 @@ fn bits(random: &mut Random) -> Trial {
     };
     let case = Case {
         call: *random.pick(&[Call::Line, Call::Continue]),
-        page,
         memory: bytes(random, 4096),
-        input: bytes(random, 65_535),
         output: bytes(random, 65_535),
-        input_position: 0,
-        output_position: 0,
-        budget: 0,
-        sense: 0,
         record,
         table,
+        ..Case::typed(page, &bytes(random, 65_535))
     };
     let numbers = nibl::Call {
         inpos: number(random, case.input.len()),
@@ -304,20 +293,16 @@ fn gathered(random: &mut Random) -> Trial {
     if random.percent(98) {
         input.push(13);
     }
+    let page = render(&vec![(1, "INPUT $0".to_string())]);
     Trial::new(Case {
         call: Call::Continue,
-        page: render(&vec![(1, "INPUT $0".to_string())]),
         memory: vec![0; random.between(60, 80)],
-        input,
         output: vec![0; 1],
-        input_position: 0,
-        output_position: 0,
         budget: 1,
-        sense: 0,
         record: Record {
             paused: Some(Pause::Start),
             ..Record::default()
         },
-        table: None,
+        ..Case::typed(page, &input)
     })
 }

@@ -112,22 +112,12 @@ fn is_position(model: u32, given: usize, library: usize) -> bool {
 #[cfg(test)]
 mod tests {
     use super::*;
-    use model::case::Call;
-    use model::{Pause, Place, Record, Stop};
+    use model::{Pause, Place, Stop};
 
     fn typed(line: &[u8]) -> Case {
         Case {
-            call: Call::Line,
-            page: vec![255, 255],
-            memory: Vec::new(),
-            input: line.to_vec(),
             output: vec![0; 20],
-            input_position: 0,
-            output_position: 0,
-            budget: 0,
-            sense: 0,
-            record: Record::default(),
-            table: None,
+            ..Case::typed(vec![255, 255], line)
         }
     }
 
