@@ -1,6 +1,7 @@
 /*
- * How much stack a call takes, on the compiled library: each call runs on a stack of its own that was painted, and the
- * deepest byte that changed is looked for. Bytes are counted from the caller's frame on.
+ * How much stack a call takes, on the compiled library, without a table of line places and with one: each call runs on a
+ * stack of its own that was painted, and the deepest byte that changed is looked for. Bytes are counted from the caller's
+ * frame on.
  */
 #include <stdio.h>
 #include <string.h>
