@@ -1,6 +1,7 @@
 /*
- * How much stack a call takes, on the compiled library: each call runs on a stack of its own that was painted, and the
- * deepest byte that changed is looked for. Bytes are counted from the caller's frame on.
+ * How much stack a call takes, on the compiled library, without a table of line places and with one: each call runs on a
+ * stack of its own that was painted, and the deepest byte that changed is looked for. Bytes are counted from the caller's
+ * frame on.
  */
 #include <stdio.h>
 #include <string.h>
@@ -11,6 +12,7 @@
 enum { PAINT = 0xA5, STACK = 1 << 20 };
 
 static uint8_t page[NIBL_PAGE_MOST], memory[NIBL_MEMORY_MOST], output[NIBL_OUTPUT_MOST];
+static uint16_t table[NIBL_TABLE_LEAST];
 static nibl_record record;
 static nibl_answer answer;
 
@@ -22,13 +24,14 @@ static const uint8_t *frame;
 static const char *input;
 static size_t budget;
 static int continues;
+static uint8_t tabled;
 
 static void call(void) {
-    nibl_call numbers = {.inpos = 0, .outpos = 0, .sense = 0, .budget = budget};
+    nibl_call numbers = {.inpos = 0, .outpos = 0, .sense = 0, .budget = budget, .tabled = tabled};
     frame = __builtin_frame_address(0);
     (continues ? nibl_continue_run : nibl_take_line)(&record, page, sizeof page, memory, sizeof memory,
                                                      (const uint8_t *)input, strlen(input), output, sizeof output,
-                                                     &numbers, &answer);
+                                                     &numbers, &answer, table, NIBL_TABLE_LEAST);
 }
 
 static size_t depth(void) {
@@ -63,6 +66,7 @@ static void start(void) {
     memset(&record, 0, sizeof record);
     memset(page, 0, sizeof page);
     page[0] = page[1] = NIBL_END_MARK;
+    table[0] = 0;
 }
 
 static void store(const char *line) {
@@ -101,7 +105,7 @@ static void each(const char *what, const char *first, const char *again, const c
     printf("%7zu  %s\n", (repeated(first, again, middle, close, 12) - repeated(first, again, middle, close, 8)) / 4, what);
 }
 
-int main(void) {
+static void measure(void) {
     start();
     show("a line stored on an empty page", typed("10 A=1\r", 0));
     fill();
@@ -145,5 +149,12 @@ int main(void) {
          typed("RUN\r(((((((((((((((((((((((((((((((((((1)))))))))))))))))))))))))))))))))))\r", NIBL_BUDGET_MOST));
     show("a reply of 72 open brackets",
          typed("RUN\r((((((((((((((((((((((((((((((((((((((((((((((((((((((((((((((((((((((((\r", NIBL_BUDGET_MOST));
+}
+
+int main(void) {
+    for (tabled = 0; tabled < 2; tabled++) {
+        puts(tabled ? "with a table of line places:" : "without a table of line places:");
+        measure();
+    }
     return 0;
 }

@@ -3,8 +3,9 @@
  *
  * Everything is lent by the host and everything is kept by the host: the library has no state of its own, takes nothing
  * from the heap, and needs no other function than C's memcpy and memset. Only numbers, pointers and lengths cross. Any
- * bits may be lent: what is out of range, a bad page and a record that does not fit are refused by a stop number, and
- * change nothing. This header wants C11 or C++11, and a target of 64 bits. docs/EMBEDDING.md says more.
+ * bits may be lent: what is out of range, a bad page, a table of another page and a record that does not fit are refused
+ * by a stop number, and change nothing. This header wants C11 or C++11, and a target of 64 bits. docs/EMBEDDING.md says
+ * more.
  */
 #ifndef NIBL_H
 #define NIBL_H
@@ -23,6 +24,7 @@ enum {
     NIBL_MEMORY_MOST = 4096,   /* bytes of the memory, which may be empty */
     NIBL_INPUT_MOST = 65535,   /* bytes of the input, which may be empty */
     NIBL_OUTPUT_MOST = 65535,  /* bytes of the output, which may be empty */
+    NIBL_TABLE_LEAST = 1025,   /* numbers of a table, where one is lent: at least so many, and any more */
     NIBL_BUDGET_MOST = 65535,  /* steps of one call; 0 is a budget too */
     NIBL_LINE_MOST = 72,       /* bytes of a typed line, or of a reply, that are kept */
     NIBL_LINE_NUMBER_MOST = 32767, /* the highest line number */
@@ -63,7 +65,8 @@ enum {
     NIBL_OUTPUT_FULL = 17,      /* an output item does not fit whole: those before it stay */
     NIBL_BAD_PAGE = 18,         /* bad page: nothing is changed */
     NIBL_BAD_RECORD = 19,       /* session record does not fit the page: nothing is changed */
-    NIBL_END = 20               /* END */
+    NIBL_END = 20,              /* END */
+    NIBL_BAD_TABLE = 26         /* the table does not describe the page: nothing is changed */
 };
 
 /* The stack of GOSUB, and that of DO. A place is the position in the page of the ":" or the CR that ends a statement. */
@@ -102,10 +105,11 @@ typedef struct {
 
 /* The numbers that a call is given. */
 typedef struct {
-    size_t inpos;  /* where to read in the input: 0 to its length */
-    size_t outpos; /* where to write in the output: 0 to its length */
-    uint8_t sense; /* the sense byte, of which STAT reads bits 4 and 5 */
-    size_t budget; /* the steps that may run: 0 to NIBL_BUDGET_MOST */
+    size_t inpos;   /* where to read in the input: 0 to its length */
+    size_t outpos;  /* where to write in the output: 0 to its length */
+    uint8_t sense;  /* the sense byte, of which STAT reads bits 4 and 5 */
+    size_t budget;  /* the steps that may run: 0 to NIBL_BUDGET_MOST */
+    uint8_t tabled; /* is a table lent? 0: none is; any other number: one is */
 } nibl_call;
 
 /* What a call answers. */
@@ -120,18 +124,30 @@ typedef struct {
     uint16_t column;
 } nibl_answer;
 
+/*
+ * A table of line places may be lent beside the page, so that GOTO and GOSUB need not look for their line record by
+ * record. It is the number of lines, and then each line's position in the page, in order: where its record begins. What
+ * stands past the last line is free: it is not looked at, and never written. So the table of an empty page is one that
+ * begins with 0.
+ *
+ * Calls keep it true: when a line is stored or deleted, and by NEW, they write the count, and the positions from that line
+ * on. A host that changes the page itself, or restores one, makes the table anew: make_table in examples/embed/gate.c
+ * does. A table that does not describe the page is refused with NIBL_BAD_TABLE, one that is too short with
+ * NIBL_OUT_OF_RANGE. A call answers the same with a true table and with none. To lend none: NULL, 0, and 0 for tabled.
+ */
+
 /* Give either call 72 KiB of stack: it takes less than 8 KiB, and up to 880 bytes for each open bracket, "@" or NOT. */
 
 /*
  * Takes one typed line from the input, from call->inpos up to its CR, and does what it says: stores or deletes a program
  * line, obeys a command, or runs a statement and the program from where that leads. It ends any pause.
  *
- * The record, the page, the memory and the output are changed where they stand; *answer is written. What is lent must
- * not overlap; a pointer may be null where its length is 0.
+ * The record, the page, the memory, the output and the table are changed where they stand; *answer is written. What is
+ * lent must not overlap; a pointer may be null where its length is 0.
  */
 void nibl_take_line(nibl_record *record, uint8_t *page, size_t page_len, uint8_t *memory, size_t memory_len,
                     const uint8_t *input, size_t input_len, uint8_t *output, size_t output_len, const nibl_call *call,
-                    nibl_answer *answer);
+                    nibl_answer *answer, uint16_t *table, size_t table_len);
 
 /*
  * Goes on with a run that was paused (NIBL_PAUSED), with a new budget. The input is read by INPUT alone. With nothing
@@ -139,7 +155,7 @@ void nibl_take_line(nibl_record *record, uint8_t *page, size_t page_len, uint8_t
  */
 void nibl_continue_run(nibl_record *record, uint8_t *page, size_t page_len, uint8_t *memory, size_t memory_len,
                        const uint8_t *input, size_t input_len, uint8_t *output, size_t output_len,
-                       const nibl_call *call, nibl_answer *answer);
+                       const nibl_call *call, nibl_answer *answer, uint16_t *table, size_t table_len);
 
 /* The layout that the library was compiled for, type by type and field by field. */
 #ifdef __cplusplus

@@ -1,5 +1,6 @@
-//! The library's record and answer as the model's, and back.
+//! The library's record, numbers and answer as the model's, and back.
 
+use model::case::Case;
 use model::{Pause, Place, Stop};
 use nibl::{NOWHERE, START};
 
@@ -77,6 +78,16 @@ pub fn model_record(record: &nibl::Record) -> model::Record {
             START => Some(Pause::Start),
             after => Some(Pause::After(Place(after - 2))),
         },
+    }
+}
+
+/// A case's own numbers.
+pub fn numbers(case: &Case) -> nibl::Call {
+    nibl::Call {
+        inpos: case.input_position as usize,
+        outpos: case.output_position as usize,
+        sense: case.sense,
+        budget: case.budget as usize,
     }
 }
 

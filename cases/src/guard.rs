@@ -1,6 +1,6 @@
 //! Lending what a call needs such that a byte touched outside it shows.
 
-use model::case::{Call, Case};
+use model::case::Case;
 use nibl::Record;
 
 /// How bytes are lent.
@@ -15,24 +15,24 @@ pub enum Lending {
 const GUARD: usize = 64;
 const FILL: u8 = 0xa5;
 
-/// Bytes that are lent.
-struct Lent {
-    block: Box<[u8]>,
+/// Bytes, or a table's numbers, that are lent.
+struct Lent<T> {
+    block: Box<[T]>,
     guard: usize,
 }
 
-impl Lent {
-    fn new(bytes: &[u8], lending: Lending) -> Lent {
+impl<T: Copy + From<u8> + PartialEq> Lent<T> {
+    fn new(values: &[T], lending: Lending) -> Lent<T> {
         let guard = match lending {
             Lending::Guarded => GUARD,
             Lending::Exact => 0,
         };
-        let mut block = vec![FILL; bytes.len() + 2 * guard].into_boxed_slice();
-        block[guard..guard + bytes.len()].copy_from_slice(bytes);
+        let mut block = vec![FILL.into(); values.len() + 2 * guard].into_boxed_slice();
+        block[guard..guard + values.len()].copy_from_slice(values);
         Lent { block, guard }
     }
 
-    fn bytes(&mut self) -> &mut [u8] {
+    fn values(&mut self) -> &mut [T] {
         let end = self.block.len() - self.guard;
         &mut self.block[self.guard..end]
     }
@@ -40,7 +40,7 @@ impl Lent {
     fn is_whole(&self) -> bool {
         let end = self.block.len() - self.guard;
         let mut guards = self.block[..self.guard].iter().chain(&self.block[end..]);
-        guards.all(|&byte| byte == FILL)
+        guards.all(|&value| value == FILL.into())
     }
 }
 
@@ -92,6 +92,7 @@ pub struct Left {
     pub page: Vec<u8>,
     pub memory: Vec<u8>,
     pub output: Vec<u8>,
+    pub table: Option<Vec<u16>>,
 }
 
 /// Makes a call by the library on copies of what the case lends, or says what was touched that was not to be.
@@ -104,35 +105,37 @@ pub fn made_by_library(
     let lend = |bytes: &Vec<u8>| Lent::new(bytes, lending);
     let (mut page, mut memory) = (lend(&case.page), lend(&case.memory));
     let (mut input, mut output) = (lend(&case.input), lend(&case.output));
+    let mut table = case.table.as_ref().map(|table| Lent::new(table, lending));
     let mut record = LentRecord::new(record, lending);
-    let make = match case.call {
-        Call::Line => nibl::take_line,
-        Call::Continue => nibl::continue_run,
+    let lent = nibl::Lent {
+        page: page.values(),
+        memory: memory.values(),
+        input: input.values(),
+        output: output.values(),
+        table: table.as_mut().map(Lent::values),
     };
-    let answer = make(
-        record.record(),
-        page.bytes(),
-        memory.bytes(),
-        input.bytes(),
-        output.bytes(),
-        numbers,
-    );
+    let answer = crate::entry(case.call)(record.record(), lent, numbers);
     let kept = [
         ("bytes beside the record", record.is_whole()),
         ("bytes beside the page", page.is_whole()),
         ("bytes beside the memory", memory.is_whole()),
         ("bytes beside the input", input.is_whole()),
         ("bytes beside the output", output.is_whole()),
-        ("the input", *input.bytes() == *case.input),
+        (
+            "numbers beside the table",
+            table.as_ref().is_none_or(Lent::is_whole),
+        ),
+        ("the input", *input.values() == *case.input),
     ];
     match kept.into_iter().find(|(_, kept)| !kept) {
         Some((touched, _)) => Err(touched),
         None => Ok(Left {
             answer,
             record: *record.record(),
-            page: page.bytes().to_vec(),
-            memory: memory.bytes().to_vec(),
-            output: output.bytes().to_vec(),
+            page: page.values().to_vec(),
+            memory: memory.values().to_vec(),
+            output: output.values().to_vec(),
+            table: table.map(|mut table| table.values().to_vec()),
         }),
     }
 }
@@ -145,10 +148,18 @@ mod tests {
     fn a_byte_touched_on_either_side_shows() {
         for at in [0, GUARD - 1, GUARD + 3, 2 * GUARD + 2] {
             let mut lent = Lent::new(b"COW", Lending::Guarded);
-            assert!(lent.is_whole() && lent.bytes() == b"COW");
+            assert!(lent.is_whole() && lent.values() == b"COW");
             lent.block[at] = 0;
             assert!(!lent.is_whole(), "{at}");
         }
+    }
+
+    #[test]
+    fn a_number_touched_beside_a_table_shows() {
+        let mut lent = Lent::new(&[2, 0, 65_535], Lending::Guarded);
+        assert!(lent.is_whole() && lent.values() == [2, 0, 65_535]);
+        lent.block[GUARD + 3] = 0;
+        assert!(!lent.is_whole());
     }
 
     #[test]

@@ -66,8 +66,8 @@ fn cases_of_the_landed_item_alone_are_answered() {
     let of = |upto: &str| line.replacen('{', &format!("{{\"upto\":{upto},"), 1);
     let answered = by_library(&line);
     assert!(answered.starts_with("{\"stop\":"), "{answered}");
-    assert_eq!(by_library(&of("2")), answered);
-    for item in (0..=13).filter(|&item| item != 2) {
+    assert_eq!(by_library(&of("3")), answered);
+    for item in (0..=13).filter(|&item| item != 3) {
         assert_eq!(by_library(&of(&item.to_string())), SKIP, "{item}");
     }
     for upto in ["14", "-1", "null", "\"1\""] {
@@ -79,9 +79,7 @@ fn cases_of_the_landed_item_alone_are_answered() {
 #[test]
 fn what_later_items_add_is_absent_or_null() {
     let line = case(&mut Random::new(2), Size::Small).write();
-    for field in [
-        "table", "tables", "saved", "ranges", "form", "lists", "room",
-    ] {
+    for field in ["tables", "saved", "ranges", "form", "lists", "room"] {
         let with = |value: &str| line.replacen('{', &format!("{{\"{field}\":{value},"), 1);
         assert_eq!(by_library(&with("null")), by_library(&line), "{field}");
         let outcome = by_library(&with("[]"));
@@ -99,6 +97,39 @@ fn what_a_case_need_not_say() {
     let outcome = by_library(line);
     assert!(outcome.contains("\"out\":[45,49,32,46]"), "{outcome}");
     assert_eq!(outcome, drive(line.as_bytes()));
+}
+
+#[test]
+fn a_table_goes_in_and_comes_back_packed() {
+    let left = |line: &str, table: &str| {
+        let line = format!(
+            r#"{{"upto":3,"call":"line","page":"\u0000\n\u0008 END\r\u00ff\u00ff........","inp":"{line}\r","table":{table}}}"#
+        );
+        let outcome = by_library(&line);
+        assert_eq!(outcome, drive(line.as_bytes()));
+        outcome
+    };
+    let packed = |head: &str| format!(r#"{{"len":1025,"head":{head},"fill":7}}"#);
+    for (line, given, stop, back) in [
+        ("20 END", "[1,0]", 0, "[2,0,8]"),
+        ("10", "[1,0]", 0, "[0,0]"),
+        ("RUN", "[1,0,9]", 14, "[1,0,9]"),
+        ("RUN", "[2,0]", 26, "[2,0]"),
+        ("RUN", "[1,1]", 26, "[1,1]"),
+    ] {
+        let outcome = left(line, &packed(given));
+        let front = format!("{{\"stop\":{stop},");
+        assert!(outcome.starts_with(&front), "{line}: {outcome}");
+        let table = format!(",\"table\":{},\"rec\":", packed(back));
+        assert!(outcome.contains(&table), "{line}: {outcome}");
+    }
+    let short = left("RUN", "[1,0,7,7]");
+    assert!(short.starts_with("{\"stop\":1,"), "{short}");
+    assert!(
+        short.contains(r#","table":{"len":4,"head":[1,0],"fill":7},"rec":"#),
+        "{short}"
+    );
+    assert!(!left("RUN", "null").contains("table"));
 }
 
 #[test]

@@ -8,8 +8,7 @@ pub const NO_LINE: u16 = 65535;
 /// How many bytes of a typed line, or of a reply, are kept. It is the column of an over-long line.
 pub const LINE_MOST: u16 = 72;
 
-/// The numbers of a call. In C's layout: `nibl_call` in `include/nibl.h`.
-#[repr(C)]
+/// The numbers of a call.
 #[derive(Clone, Copy, Debug, Default, PartialEq, Eq)]
 pub struct Call {
     /// Where to read in the input: 0 to its length.

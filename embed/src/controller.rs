@@ -1,8 +1,9 @@
 //! A controller with all that it keeps between calls.
 
 use crate::answer::{Answer, Call};
-use crate::gate;
+use crate::gate::{self, Lent};
 use crate::record::Record;
+use crate::table::table_of;
 
 /// A page, a memory and the record that goes with them: vectors, arrays or borrowed slices. The fields may be read and
 /// changed between calls; what no longer belongs together is refused by the next call.
@@ -14,6 +15,9 @@ pub struct Controller<P, M> {
     pub memory: M,
     /// What the controller keeps between calls.
     pub record: Record,
+    /// The page's table of line places, if one is lent. Calls keep it true; a host that changes the page itself makes it
+    /// anew, or the next call is refused with [`Stop::BadTable`](crate::Stop::BadTable).
+    pub table: Option<Vec<u16>>,
 }
 
 /// A page of this length with no program: the two bytes of the end mark, then zeros. One shorter than 2 has no room for
@@ -40,7 +44,7 @@ where
     P: AsRef<[u8]> + AsMut<[u8]>,
     M: AsRef<[u8]> + AsMut<[u8]>,
 {
-    /// A new session on this page as it is, with a fresh record.
+    /// A new session on this page as it is, with a fresh record and no table.
     ///
     /// ```
     /// use nibl::{Call, Controller, Stop};
@@ -55,7 +59,37 @@ where
             page,
             memory,
             record: Record::fresh(),
+            table: None,
         }
+    }
+
+    /// The same session with a table of its page as it is, which is lent from now on. No answer is another one by that,
+    /// but GOTO and GOSUB find their lines sooner.
+    ///
+    /// ```
+    /// use nibl::{Call, Controller};
+    ///
+    /// let mut gate = Controller::owned(4096, 0).with_table();
+    /// gate.take_line(b"10 END\r", &mut [], Call::default());
+    /// gate.take_line(b"20 END\r", &mut [], Call::default());
+    /// let table = gate.table.expect("it was lent");
+    /// assert_eq!(table[..3], [2, 0, 8]); // two lines, and where they stand
+    /// ```
+    pub fn with_table(mut self) -> Self {
+        self.table = Some(table_of(self.page.as_ref()));
+        self
+    }
+
+    /// The record, and all else that a call is lent.
+    fn lend<'a>(&'a mut self, input: &'a [u8], output: &'a mut [u8]) -> (&'a mut Record, Lent<'a>) {
+        let lent = Lent {
+            page: self.page.as_mut(),
+            memory: self.memory.as_mut(),
+            input,
+            output,
+            table: self.table.as_deref_mut(),
+        };
+        (&mut self.record, lent)
     }
 
     /// Takes one typed line from the input, from `call.inpos` up to its CR, and does what it says: stores or deletes a
@@ -73,8 +107,8 @@ where
     /// assert_eq!(answer.column, 3); // "PRI" could become a line, "PRIM" could not
     /// ```
     pub fn take_line(&mut self, input: &[u8], output: &mut [u8], call: Call) -> Answer {
-        let (page, memory) = (self.page.as_mut(), self.memory.as_mut());
-        gate::take_line(&mut self.record, page, memory, input, output, call)
+        let (record, lent) = self.lend(input, output);
+        gate::take_line(record, lent, call)
     }
 
     /// Goes on with a run that was paused, with a new budget. The input is read by INPUT alone. With nothing paused it
@@ -93,7 +127,7 @@ where
     /// assert_eq!(gate.record.vars[..2], [1, 2]);
     /// ```
     pub fn continue_run(&mut self, input: &[u8], output: &mut [u8], call: Call) -> Answer {
-        let (page, memory) = (self.page.as_mut(), self.memory.as_mut());
-        gate::continue_run(&mut self.record, page, memory, input, output, call)
+        let (record, lent) = self.lend(input, output);
+        gate::continue_run(record, lent, call)
     }
 }

@@ -10,6 +10,31 @@ use crate::answer::{Answer, Call, NO_LINE};
 use crate::record::Record;
 use crate::stop::Stop;
 
+/// What a call is lent beside the record.
+pub struct Lent<'a> {
+    /// The program: 2 to 4,096 bytes.
+    pub page: &'a mut [u8],
+    /// What `@` and `$` reach: 0 to 4,096 bytes.
+    pub memory: &'a mut [u8],
+    /// Is read: 0 to 65,535 bytes.
+    pub input: &'a [u8],
+    /// Is written: 0 to 65,535 bytes.
+    pub output: &'a mut [u8],
+    /// The table of line places, where one is lent: at least [`TABLE_LEAST`](crate::TABLE_LEAST) numbers.
+    pub table: Option<&'a mut [u16]>,
+}
+
+/// `nibl_call` of `include/nibl.h`.
+#[repr(C)]
+#[derive(Default)]
+pub(crate) struct Given {
+    pub(crate) inpos: usize,
+    pub(crate) outpos: usize,
+    pub(crate) sense: u8,
+    pub(crate) budget: usize,
+    pub(crate) tabled: u8,
+}
+
 /// `nibl_answer` of `include/nibl.h`.
 #[repr(C)]
 #[derive(Default)]
@@ -35,8 +60,17 @@ impl Written {
     }
 }
 
-/// Both calls have this signature.
-type Entry = unsafe extern "C" fn(
+/// Declares the library's calls, which have one signature.
+macro_rules! entries {
+    ($($name:ident)*: $parameters:tt) => {
+        type Entry = unsafe extern "C" fn $parameters;
+        extern "C" {
+            $(fn $name $parameters;)*
+        }
+    };
+}
+
+entries!(nibl_take_line nibl_continue_run: (
     record: *mut Record,
     page: *mut u8,
     page_len: usize,
@@ -46,91 +80,89 @@ type Entry = unsafe extern "C" fn(
     input_len: usize,
     output: *mut u8,
     output_len: usize,
-    call: *const Call,
+    call: *const Given,
     answer: *mut Written,
-);
+    table: *mut u16,
+    table_len: usize,
+));
 
-extern "C" {
-    fn nibl_take_line(
-        record: *mut Record,
-        page: *mut u8,
-        page_len: usize,
-        memory: *mut u8,
-        memory_len: usize,
-        input: *const u8,
-        input_len: usize,
-        output: *mut u8,
-        output_len: usize,
-        call: *const Call,
-        answer: *mut Written,
-    );
-    fn nibl_continue_run(
-        record: *mut Record,
-        page: *mut u8,
-        page_len: usize,
-        memory: *mut u8,
-        memory_len: usize,
-        input: *const u8,
-        input_len: usize,
-        output: *mut u8,
-        output_len: usize,
-        call: *const Call,
-        answer: *mut Written,
-    );
+impl Given {
+    fn of(call: Call, lent: &Lent) -> Given {
+        Given {
+            inpos: call.inpos,
+            outpos: call.outpos,
+            sense: call.sense,
+            budget: call.budget,
+            tabled: lent.table.is_some().into(),
+        }
+    }
 }
 
-fn make(
-    entry: Entry,
-    record: &mut Record,
-    page: &mut [u8],
-    memory: &mut [u8],
-    input: &[u8],
-    output: &mut [u8],
-    call: Call,
-) -> Answer {
+fn make(entry: Entry, record: &mut Record, given: Given, lent: Lent) -> Answer {
+    let table = lent.table.unwrap_or_default();
     let mut written = Written::default();
     // SAFETY: the pointers are of live, disjoint slices and structs in C's layout, which the library uses within their
     // lengths and only until it returns; it asks nothing of what they hold.
     unsafe {
         entry(
             record,
-            page.as_mut_ptr(),
-            page.len(),
-            memory.as_mut_ptr(),
-            memory.len(),
-            input.as_ptr(),
-            input.len(),
-            output.as_mut_ptr(),
-            output.len(),
-            &call,
+            lent.page.as_mut_ptr(),
+            lent.page.len(),
+            lent.memory.as_mut_ptr(),
+            lent.memory.len(),
+            lent.input.as_ptr(),
+            lent.input.len(),
+            lent.output.as_mut_ptr(),
+            lent.output.len(),
+            &given,
             &mut written,
+            table.as_mut_ptr(),
+            table.len(),
         );
     }
     written.answer()
 }
 
-/// Takes one typed line, for a host that keeps page, memory and record apart:
+/// Takes one typed line, for a host that keeps what it lends apart:
 /// see [`Controller::take_line`](crate::Controller::take_line).
-pub fn take_line(
-    record: &mut Record,
-    page: &mut [u8],
-    memory: &mut [u8],
-    input: &[u8],
-    output: &mut [u8],
-    call: Call,
-) -> Answer {
-    make(nibl_take_line, record, page, memory, input, output, call)
+pub fn take_line(record: &mut Record, lent: Lent, call: Call) -> Answer {
+    make(nibl_take_line, record, Given::of(call, &lent), lent)
 }
 
-/// Goes on with a paused run, for a host that keeps page, memory and record apart:
+/// Goes on with a paused run, for a host that keeps what it lends apart:
 /// see [`Controller::continue_run`](crate::Controller::continue_run).
-pub fn continue_run(
-    record: &mut Record,
-    page: &mut [u8],
-    memory: &mut [u8],
-    input: &[u8],
-    output: &mut [u8],
-    call: Call,
-) -> Answer {
-    make(nibl_continue_run, record, page, memory, input, output, call)
+pub fn continue_run(record: &mut Record, lent: Lent, call: Call) -> Answer {
+    make(nibl_continue_run, record, Given::of(call, &lent), lent)
+}
+
+#[cfg(test)]
+mod tests {
+    use super::*;
+
+    #[test]
+    fn a_table_is_lent_by_any_number_but_0() {
+        let stop = |entry: Entry, tabled| {
+            let mut table = [7; 3];
+            let lent = Lent {
+                page: &mut [255, 255],
+                memory: &mut [],
+                input: b"NEW\r",
+                output: &mut [],
+                table: Some(&mut table),
+            };
+            let given = Given {
+                tabled,
+                ..Given::of(Call::default(), &lent)
+            };
+            let answer = make(entry, &mut Record::fresh(), given, lent);
+            assert_eq!(table, [7; 3]);
+            answer.stop
+        };
+        for entry in [nibl_take_line as Entry, nibl_continue_run] {
+            assert_eq!(stop(entry, 0), Stop::Done);
+            for tabled in 1..=255 {
+                assert_eq!(stop(entry, tabled), Stop::OutOfRange);
+            }
+        }
+    }
 }

@@ -5,7 +5,7 @@
 
 use std::mem::{align_of, offset_of, size_of};
 
-use crate::answer::Call as nibl_call;
+use crate::gate::Given as nibl_call;
 use crate::gate::Written as nibl_answer;
 use crate::record::ForEntry as nibl_for;
 use crate::record::ForStack as nibl_fors;
@@ -91,7 +91,8 @@ mod tests {
                 inpos,
                 outpos,
                 sense,
-                budget
+                budget,
+                tabled
             }),
             rows!(nibl_answer {
                 stop,

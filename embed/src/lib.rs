@@ -37,6 +37,9 @@
 //! assert_eq!(gate.record.vars[0], 1000);
 //! ```
 //!
+//! A table of line places may be lent too ([`Controller::with_table`]): a GOTO then finds its line without a walk along the
+//! page. Nothing else is different.
+//!
 //! The calls themselves are proved; this crate hands what is lent across, and is not.
 
 #![deny(unsafe_code)]
@@ -48,6 +51,7 @@ mod gate;
 mod layout;
 mod record;
 mod stop;
+mod table;
 
 /// The examples of the page for hosts.
 #[cfg(doctest)]
@@ -56,6 +60,7 @@ struct Embedding;
 
 pub use answer::{Answer, Call, LINE_MOST, NO_LINE};
 pub use controller::{empty_page, Controller};
-pub use gate::{continue_run, take_line};
+pub use gate::{continue_run, take_line, Lent};
 pub use record::{ForEntry, ForStack, PlaceStack, Record, MARK, NOWHERE, START};
 pub use stop::Stop;
+pub use table::{empty_table, table_of, TABLE_LEAST};

@@ -2,7 +2,7 @@
 
 use std::fmt;
 
-/// Why a call came back. The discriminant is document 01's number.
+/// Why a call came back. The discriminant is the documents' number.
 #[derive(Clone, Copy, Debug, PartialEq, Eq, Hash, PartialOrd, Ord)]
 #[repr(u8)]
 pub enum Stop {
@@ -46,10 +46,12 @@ pub enum Stop {
     BadRecord = 19,
     /// END.
     End = 20,
+    /// A table that does not describe the page.
+    BadTable = 26,
 }
 
 /// Every stop with what it means and what it did, in order of the numbers.
-const TABLE: [(Stop, &str, &str); 20] = [
+const ROWS: [(Stop, &str, &str); 21] = [
     (Stop::Done, "done", "all that was asked was done"),
     (
         Stop::OutOfRange,
@@ -130,21 +132,26 @@ const TABLE: [(Stop, &str, &str); 20] = [
         "nothing was changed",
     ),
     (Stop::End, "END", "nothing was run after it"),
+    (
+        Stop::BadTable,
+        "the table does not describe the page",
+        "nothing was changed",
+    ),
 ];
 
 impl Stop {
     /// All of them, in order of their numbers.
-    pub const ALL: [Stop; TABLE.len()] = {
-        let mut all = [Stop::Done; TABLE.len()];
+    pub const ALL: [Stop; ROWS.len()] = {
+        let mut all = [Stop::Done; ROWS.len()];
         let mut at = 0;
-        while at < TABLE.len() {
-            all[at] = TABLE[at].0;
+        while at < ROWS.len() {
+            all[at] = ROWS[at].0;
             at += 1;
         }
         all
     };
 
-    /// Document 01's number.
+    /// The documents' number.
     pub fn number(self) -> u8 {
         self as u8
     }
@@ -162,9 +169,8 @@ impl Stop {
     }
 
     fn row(self) -> &'static (Stop, &'static str, &'static str) {
-        // The numbers rise by one but for 4, which is none.
-        let number = usize::from(self.number());
-        &TABLE[number - usize::from(number > 4)]
+        let row = ROWS.iter().find(|row| row.0 == self);
+        row.expect("every stop has a row")
     }
 
     /// What it means.
@@ -198,19 +204,12 @@ mod tests {
     use super::*;
 
     #[test]
-    fn each_stop_has_its_own_row() {
-        for stop in Stop::ALL {
-            assert_eq!(stop.row().0, stop);
-            assert_eq!(Stop::of(stop.number()), Some(stop));
+    fn the_stops_are_the_numbers_up_to_20_without_4_and_then_26() {
+        let wanted: Vec<u8> = (0..=3).chain(5..=20).chain([26]).collect();
+        assert_eq!(Stop::ALL.map(Stop::number).to_vec(), wanted);
+        for number in 0..=255 {
+            let known = wanted.contains(&number).then_some(number);
+            assert_eq!(Stop::of(number).map(Stop::number), known);
         }
-    }
-
-    #[test]
-    fn all_numbers_but_4_up_to_20_are_stops() {
-        let numbers: Vec<u8> = (0..=255)
-            .filter(|&number| Stop::of(number).is_some())
-            .collect();
-        let wanted: Vec<u8> = (0..=20).filter(|&number| number != 4).collect();
-        assert_eq!(numbers, wanted);
     }
 }

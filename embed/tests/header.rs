@@ -85,6 +85,7 @@ fn the_named_numbers_are_the_same() {
     for (name, number) in wanted {
         assert_eq!(header(name), usize::from(number), "{name}");
     }
+    assert_eq!(header("NIBL_TABLE_LEAST"), nibl::TABLE_LEAST);
 }
 
 #[test]
@@ -116,6 +117,18 @@ fn lengths_and_budgets_at_and_past_their_limits() {
     for (page, memory, input, output, budget) in past {
         assert_eq!(stop(page, memory, input, output, budget), Stop::OutOfRange);
     }
+}
+
+#[test]
+fn a_table_has_a_least_length_and_no_most() {
+    let least = header("NIBL_TABLE_LEAST");
+    let stop = |numbers| {
+        let mut gate = Controller::owned(header("NIBL_PAGE_LEAST"), 0);
+        gate.table = Some(vec![0; numbers]);
+        gate.continue_run(&[], &mut [], Call::default()).stop
+    };
+    assert_eq!([0, 1, least - 1].map(stop), [Stop::OutOfRange; 3]);
+    assert_eq!([least, least + 1, 100_000].map(stop), [Stop::Done; 3]);
 }
 
 #[test]

@@ -1,6 +1,6 @@
 //! What is lent to the controller, and how one reply comes about: a run in slices, an INPUT that waits.
 
-use nibl::{Answer, Call, Controller, Record, Stop};
+use nibl::{Answer, Call, Controller, Stop};
 
 use crate::page::{change, Change};
 
@@ -74,13 +74,6 @@ enum Entry {
     Continue,
 }
 
-/// All that a call changes and that must be put back before it is repeated.
-struct Lent {
-    page: Vec<u8>,
-    memory: Vec<u8>,
-    record: Record,
-}
-
 /// A reply under way.
 struct Run {
     entry: Entry,
@@ -117,11 +110,11 @@ impl Run {
     }
 }
 
-/// What document 01's session lends.
+/// What document 01's session lends, and a table: lines are typed, so that it stays true.
 impl Default for Desk {
     fn default() -> Desk {
         Desk {
-            controller: Controller::owned(PAGE, MEMORY),
+            controller: Controller::owned(PAGE, MEMORY).with_table(),
             sense: 0,
             budget: BUDGET,
             slice: SLICE,
@@ -195,7 +188,7 @@ impl Desk {
     ///
     /// 7 with a line number is always an INPUT of the program: the typed line itself has its CR, and a typed INPUT is 3.
     fn slice(&mut self, run: &mut Run, dealer: &mut impl Dealer) -> (Answer, bool) {
-        let lent = self.lent();
+        let before = self.controller.clone();
         let budget = u64::from(self.slice.max(1)).min(self.budget - run.steps) as usize;
         let answer = self.call(run, budget);
         run.show(&answer, dealer);
@@ -205,7 +198,7 @@ impl Desk {
         let Some(reply) = dealer.reply(line) else {
             return (answer, false);
         };
-        self.put_back(lent);
+        self.controller = before;
         run.input.extend(reply);
         run.input.push(CR);
         let answer = self.call(run, usize::from(answer.steps));
@@ -226,25 +219,12 @@ impl Desk {
             Entry::Continue => self.controller.continue_run(input, output, call),
         }
     }
-
-    fn lent(&self) -> Lent {
-        Lent {
-            page: self.controller.page.clone(),
-            memory: self.controller.memory.clone(),
-            record: self.controller.record,
-        }
-    }
-
-    fn put_back(&mut self, lent: Lent) {
-        self.controller.page = lent.page;
-        self.controller.memory = lent.memory;
-        self.controller.record = lent.record;
-    }
 }
 
 #[cfg(test)]
 mod tests {
     use super::*;
+    use crate::words::sentence;
 
     /// Replies in order, and after how many looks the run is ended.
     #[derive(Default)]
@@ -440,6 +420,26 @@ mod tests {
         }
         let listed = desk.listing().expect("a listing");
         assert!(listed.starts_with(b"31000DO\r\n") && listed.len() == 9 * ((PAGE - 2) / 6));
+    }
+
+    #[test]
+    fn the_table_stays_true_and_a_false_one_is_told() {
+        let mut desk = Desk::default();
+        let mut script = Script {
+            replies: vec!["5"],
+            ..Script::default()
+        };
+        let lines = ["10 INPUT A", "30 END", "20 GOTO 30", "RUN", "25 A=1", "10"];
+        assert_eq!(typed(&mut desk, &lines, &mut script).stop, Stop::Done);
+        let table = desk.controller.table.clone().expect("it is lent");
+        assert_eq!(table[..4], nibl::table_of(&desk.controller.page)[..4]);
+        desk.controller.page = nibl::empty_page(PAGE);
+        let reply = typed(&mut desk, &["A=1"], &mut script);
+        assert_eq!(told(&reply), (26, None, 0, Cause::Answered));
+        assert_eq!(
+            sentence(&reply),
+            "26: the table does not describe the page; nothing was changed"
+        );
     }
 
     #[test]

@@ -27,21 +27,17 @@ const HEAD: usize = 3;
 
 /// The lines in order. What is no good page ends where it stops being one.
 pub fn lines(page: &[u8]) -> Vec<Line> {
-    let mut lines = Vec::new();
-    let mut at = 0;
-    while let Some([high, low, length]) = page.get(at..at + HEAD) {
-        let (begin, next) = (at + HEAD, at + usize::from(*length));
-        if [*high, *low] == END_MARK || next <= begin || next > page.len() {
-            break;
+    let table = nibl::table_of(page);
+    let line = |at: &u16| {
+        let at = usize::from(*at);
+        Line {
+            number: u16::from_be_bytes([page[at], page[at + 1]]),
+            begin: at + HEAD,
+            end: at + usize::from(page[at + 2]) - 1,
         }
-        lines.push(Line {
-            number: u16::from_be_bytes([*high, *low]),
-            begin,
-            end: next - 1,
-        });
-        at = next;
-    }
-    lines
+    };
+    let count = usize::from(table[0]);
+    table[1..=count].iter().map(line).collect()
 }
 
 /// The bytes that the program takes, with its end mark: what TOP says.

@@ -7,11 +7,13 @@ use model::random::edits::{any_sequence, Sequence};
 use model::random::faults::{FAULTY, SOUND};
 use model::random::pages::{any_page, program, render, Lines};
 use model::random::records::{any_record, crowd, fitting, misplace, overdo};
+use model::random::tables::any_table;
 use model::random::texts::Setting;
 use model::random::{Random, Size};
-use model::{Answer, ForEntry, ForStack, Pause, Place, PlaceStack, Record};
+use model::table::TABLE_LEAST;
+use model::{Answer, ForEntry, ForStack, Pause, Place, PlaceStack, Record, Stop};
 
-use crate::trial::{self, Trial};
+use crate::trial::Trial;
 
 /// Holds a trial, and hands back what it answered unless the two differ.
 pub type Hold<'a> = dyn FnMut(&mut Trial) -> Option<Answer> + 'a;
@@ -68,6 +70,9 @@ fn next(random: &mut Random, mut case: Case, size: Size, answer: &Answer) -> Tri
         let lines = program_of_two(random);
         case.page = any_page(random, size, &lines);
     }
+    if answer.stop == Stop::BadTable || random.percent(15) {
+        case.table = any_table(random, size, &case.page);
+    }
     case.budget = budget(random, size);
     case.sense = random.byte();
     Trial::new(case)
@@ -77,17 +82,14 @@ fn next(random: &mut Random, mut case: Case, size: Size, answer: &Answer) -> Tri
 pub fn edits(random: &mut Random, sequence: Sequence, hold: &mut Hold) {
     let mut record = Record::default();
     record.gosubs.push(Place::IMMEDIATE);
+    let page = empty_page(random, sequence.length);
     let mut trial = Trial::new(Case {
-        call: Call::Line,
-        page: empty_page(random, sequence.length),
         memory: vec![13; 8],
-        input: sequence.typed,
         output: vec![0; random.below(900)],
-        input_position: 0,
-        output_position: 0,
         budget: 3,
-        sense: 0,
         record,
+        table: sequence.table,
+        ..Case::typed(page, &sequence.typed)
     });
     while let Some(answer) = hold(&mut trial) {
         if answer.input_position == trial.case.input_position {
@@ -140,7 +142,7 @@ pub fn near(random: &mut Random, page: &[u8]) -> Record {
     record
 }
 
-/// A page made in one way, and a record for it.
+/// A page made in one way, a record for it and a table.
 fn fitted(random: &mut Random) -> Trial {
     let lines = program_of_two(random);
     let ways = match random.percent(60) {
@@ -150,18 +152,18 @@ fn fitted(random: &mut Random) -> Trial {
     let way = *random.pick(ways);
     let page = way(random, lines);
     let record = near(random, &page);
+    let table = any_table(random, Size::Full, &page);
     let typed: [&[u8]; 4] = [b"\r", b"RUN\r", b"RETURN\r", b"GOTO 10\r"];
+    let input = *random.pick(&typed);
     Trial::new(Case {
         call: *random.pick(&[Call::Line, Call::Continue]),
-        page,
         memory: memory(random, Size::Small),
-        input: random.pick(&typed).to_vec(),
         output: vec![0; 100],
-        input_position: 0,
-        output_position: 0,
         budget: random.below(9) as u32,
         sense: random.byte(),
         record,
+        table,
+        ..Case::typed(page, input)
     })
 }
 
@@ -181,6 +183,12 @@ fn bytes(random: &mut Random, most: usize) -> Vec<u8> {
         _ => random.below(most.min(200)),
     };
     (0..length).map(|_| random.byte()).collect()
+}
+
+/// Any numbers for a table, of the least length or beside it.
+fn numbers(random: &mut Random) -> Vec<u16> {
+    let length = random.between(TABLE_LEAST - 2, TABLE_LEAST + 2);
+    (0..length).map(|_| short(random)).collect()
 }
 
 /// A number at or beside its limit, or any bits.
@@ -236,17 +244,17 @@ fn bits(random: &mut Random) -> Trial {
         true => any_bits(random),
         false => any_record(random, &page),
     };
+    let table = match random.percent(20) {
+        true => Some(numbers(random)),
+        false => any_table(random, Size::Full, &page),
+    };
     let case = Case {
         call: *random.pick(&[Call::Line, Call::Continue]),
-        page,
         memory: bytes(random, 4096),
-        input: bytes(random, 65_535),
         output: bytes(random, 65_535),
-        input_position: 0,
-        output_position: 0,
-        budget: 0,
-        sense: 0,
         record,
+        table,
+        ..Case::typed(page, &bytes(random, 65_535))
     };
     let numbers = nibl::Call {
         inpos: number(random, case.input.len()),
@@ -260,7 +268,7 @@ fn bits(random: &mut Random) -> Trial {
 /// A case with one number past 32 bits, whose low 32 bits would be in range.
 fn far(random: &mut Random) -> Trial {
     let case = case(random, Size::Full);
-    let mut numbers = trial::numbers(&case);
+    let mut numbers = cases::numbers(&case);
     let by = (1 << 32) * random.between(1, 9);
     match random.below(3) {
         0 => numbers.inpos += by,
@@ -285,19 +293,16 @@ fn gathered(random: &mut Random) -> Trial {
     if random.percent(98) {
         input.push(13);
     }
+    let page = render(&vec![(1, "INPUT $0".to_string())]);
     Trial::new(Case {
         call: Call::Continue,
-        page: render(&vec![(1, "INPUT $0".to_string())]),
         memory: vec![0; random.between(60, 80)],
-        input,
         output: vec![0; 1],
-        input_position: 0,
-        output_position: 0,
         budget: 1,
-        sense: 0,
         record: Record {
             paused: Some(Pause::Start),
             ..Record::default()
         },
+        ..Case::typed(page, &input)
     })
 }

@@ -8,6 +8,9 @@ use model::{Answer, Stop};
 /// From so many cases on, each stop must have come up in each call that can give it.
 const ENOUGH: usize = 1000;
 
+/// The stops' numbers are less than this.
+const NUMBERS: usize = Stop::BadTable as usize + 1;
+
 /// How often it is said on standard error how far it is.
 const EVERY: Duration = Duration::from_secs(2);
 
@@ -21,7 +24,7 @@ pub struct Tally {
     pub rewritten: usize,
     pub differ: usize,
     /// By stop number: typed lines, continued runs.
-    stops: [[usize; 2]; 21],
+    stops: [[usize; 2]; NUMBERS],
 }
 
 /// A continued run reads no typed line and edits nothing.
@@ -41,7 +44,7 @@ impl Tally {
             skipped: 0,
             rewritten: 0,
             differ: 0,
-            stops: [[0; 2]; 21],
+            stops: [[0; 2]; NUMBERS],
         }
     }
 

@@ -1,6 +1,6 @@
 //! One call, made by the library and by the model.
 
-use cases::{convert, made_by_library, Left, Lending};
+use cases::{convert, made_by_library, numbers, Left, Lending};
 use model::case::Case;
 use model::Answer;
 
@@ -20,16 +20,6 @@ pub enum Outcome {
     /// The library's record cannot say the case's.
     Skipped,
     Differs(String),
-}
-
-/// A case's own numbers.
-pub fn numbers(case: &Case) -> nibl::Call {
-    nibl::Call {
-        inpos: case.input_position as usize,
-        outpos: case.output_position as usize,
-        sense: case.sense,
-        budget: case.budget as usize,
-    }
 }
 
 /// The model's numbers have 32 bits. A wider one of the library's is the highest there, which is out of range as well.
@@ -105,6 +95,7 @@ impl Trial {
             ("page", self.case.page == left.page),
             ("memory", self.case.memory == left.memory),
             ("output", self.case.output == left.output),
+            ("table", self.case.table == left.table),
         ];
         same.into_iter()
             .find(|(_, same)| !same)
@@ -121,21 +112,12 @@ fn is_position(model: u32, given: usize, library: usize) -> bool {
 #[cfg(test)]
 mod tests {
     use super::*;
-    use model::case::Call;
-    use model::{Pause, Place, Record, Stop};
+    use model::{Pause, Place, Stop};
 
     fn typed(line: &[u8]) -> Case {
         Case {
-            call: Call::Line,
-            page: vec![255, 255],
-            memory: Vec::new(),
-            input: line.to_vec(),
             output: vec![0; 20],
-            input_position: 0,
-            output_position: 0,
-            budget: 0,
-            sense: 0,
-            record: Record::default(),
+            ..Case::typed(vec![255, 255], line)
         }
     }
 

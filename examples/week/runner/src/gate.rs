@@ -67,7 +67,7 @@ impl Gate {
     /// A gate with this rule book typed into an empty page.
     pub fn with(book: &[u8]) -> Result<Gate, String> {
         let mut gate = Gate {
-            controller: Controller::owned(PAGE, MEMORY),
+            controller: Controller::owned(PAGE, MEMORY).with_table(),
             output: vec![0; OUTPUT],
         };
         gate.type_in(book)?;

@@ -6,9 +6,9 @@ mod texts;
 mod values;
 
 use model::case::{Call, Case};
-use model::random::damage;
 use model::random::pages::{render, Lines};
-use model::{Answer, Record};
+use model::random::{damage, tables};
+use model::Answer;
 
 /// Takes a case, and how often its run is continued where it is paused.
 pub type Visit<'a> = dyn FnMut(Case, usize) + 'a;
@@ -19,6 +19,9 @@ pub fn each(visit: &mut Visit) {
     pages::each(visit);
     programs::each(visit);
     damaged(visit);
+    tables::written()
+        .into_iter()
+        .for_each(|case| visit(case, 0));
 }
 
 /// The table of damaged lines of every statement: for their columns.
@@ -31,16 +34,11 @@ fn damaged(visit: &mut Visit) {
 /// A line typed on a page with these lines, much lent of everything.
 fn typed(lines: &Lines, input: &[u8]) -> Case {
     Case {
-        call: Call::Line,
-        page: render(lines),
         memory: vec![13; 64],
-        input: input.to_vec(),
         output: vec![0; 200],
-        input_position: 0,
-        output_position: 0,
         budget: 100,
         sense: 0x5a,
-        record: Record::default(),
+        ..Case::typed(render(lines), input)
     }
 }
 

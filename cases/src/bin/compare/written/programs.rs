@@ -1,6 +1,7 @@
-//! Programs that reach what chance seldom does, with little or much budget and room.
+//! Programs that reach what chance seldom does, with little or much budget and room, without a table and with one.
 
 use super::{typed, Visit};
+use model::case::Case;
 use model::random::pages::Lines;
 
 /// A statement, a stop or an edge of one each. Lines stand 10 apart, and each program is run with the replies beside it.
@@ -58,7 +59,12 @@ pub fn each(visit: &mut Visit) {
                 case.memory[50] = 13;
                 case.budget = budget;
                 case.output.truncate(room);
+                let tabled = Case {
+                    table: Some(nibl::table_of(&case.page)),
+                    ..case.clone()
+                };
                 visit(case, ROUNDS);
+                visit(tabled, ROUNDS);
             }
         }
     }
