@@ -2,24 +2,21 @@
 use Prim.Native.Nat.{ℕ, _≤_}
 use mathlib.Core.Path.{_≡_, refl, sym, ap, _∙_}
 use mathlib.Core.Bool.{Bool, true, false, not, _&&_, and-false}
-use mathlib.Core.List.{List, [], _∷_, _++_, append-nil}
+use mathlib.Core.List.{List, _++_}
 use native.Mathlib.Omega.{arith}
-use lib.ListN.{length, take, drop, drop-of-length-le}
-use lib.Seq.{take-all}
+use lib.ListN.{length, drop}
+use lib.Seq.{take-length}
 use lib.Dec.{leb, eqb}
 use borrow.Author.Tests.{leb-true, eq-eqb, ne-eqb}
 use Rattle.nibl.specs.Bytes.{if_then_else_}
 use Rattle.nibl.specs.Page.{isGood}
-use Rattle.nibl.specs.Table.{describes, refilled}
 use Rattle.nibl.specs.Calls.{Lent, Outcome, Left, hasTable, firstRefusal, tableAfter, limit}
 use Rattle.nibl.specs.declared.Call.{Call}
 use Rattle.page.proofs.Walk.{by-cases}
-use Rattle.page.proofs.Tables.{good-rising, refilled-same}
-use Rattle.table.specs.Index.{Described, Indexed, unlent, lent, keptTrue}
+use Rattle.page.proofs.Tables.{good-rising}
+use Rattle.table.specs.Index.{Indexed, unlent, lent, keptTrue}
+use Rattle.table.proofs.Index.{kept-some, kept-same, kept-none, kept-whole}
 use Rattle.calls.specs.Tables.{longEnough, trueOf, lentEntries, lentPart, TableLent, tablePast}
-
-whole : (t : List ℕ) → take (length t) t ≡ t
-whole t = take-all (length t) t (omega arith)
 
 -- a search may go by a table past the first refusals
 pub table-lent : (lim : ℕ) {page table : List ℕ} {c : Call} → length page ≤ 4096 → isGood lim page ≡ true → longEnough c (length table) ≡ true
@@ -28,35 +25,25 @@ table-lent lim {page} {table} {c} s g l t =
     record {
       long = l;
       indexed = by-cases (hasTable c)
-          (λ e. rw (e, whole table) (lent (record { long = leb-true _ _ (rw e at l); short = s; is = rw e at t; rising = good-rising lim page g })))
+          (λ e. rw (e, take-length table) (lent (record { long = leb-true _ _ (rw e at l); short = s; is = rw e at t; rising = good-rising lim page g })))
           (λ e. rw e (unlent refl));
     }
-
--- none is kept as none, and one with entries is made true
-kept-some : (page table : List ℕ) → 1 ≤ length table → keptTrue page table ≡ refilled page table
-kept-some page [] h = absurd (omega arith)
-kept-some page (n ∷ ns) h = refl
 
 -- the part that was lent is kept true, and what was not is as it was
 pub table-kept : (c : Call) (page table part : List ℕ) → longEnough c (length table) ≡ true → part ≡ keptTrue page (lentPart c table)
     → part ++ drop (lentEntries c table) table ≡ tablePast c page table
 table-kept c page table part l e =
-    by-cases (hasTable c)
-    (λ f.
-    let k = leb-true _ _ (rw f at l) in
-    let p : part ≡ refilled page table = (rw (f, whole table) at e) ∙ kept-some page table (omega arith) in
-    rw (f, p, drop-of-length-le table {i = length table} (omega arith)) (append-nil (refilled page table)))
-    (λ f. let p : part ≡ [] = rw f at e in rw (f, p))
+    by-cases (hasTable c) (λ f. rw (e, f) (kept-whole page table (leb-true _ _ (rw f at l)))) (λ f. rw (e, f) (kept-none page table))
 
 -- a call that leaves the page leaves the table
 pub table-still : (c : Call) (page table : List ℕ) → TableLent page c table → tablePast c page table ≡ table
 table-still c page table h =
     by-cases (hasTable c)
-    (λ f. let k = leb-true _ _ (rw f at (h .long)) in rw f (still (rw (f, whole table) at (h .indexed)) (omega arith)))
-    (λ f. rw f) where
-      still : Indexed page table → 1 ≤ length table → refilled page table ≡ table
-      still (unlent e) k = absurd (omega (arith, ap length e))
-      still (lent d) k = refilled-same page table (d .is)
+    (λ f.
+    let k = leb-true _ _ (rw f at (h .long)) in
+    let i : Indexed page table = rw (f, take-length table) at (h .indexed) in
+    rw f (sym (kept-some page table (omega arith)) ∙ kept-same i))
+    (λ f. rw f)
 
 -- What is left, by the first refusal n
 abbrev left : Outcome → List ℕ → Left

@@ -397,7 +397,7 @@ fn rounds_by_table(work: u16, n: u16, bytes: &mut [u8]) -> u16
         return 0;
     }
     let mut table = [0u16; ENTRIES];
-    table::make(&bytes[1..], &mut table);
+    table::refill(&bytes[1..], &mut table, 0, 0);
     let mut sum: u16 = 0;
     let mut i: u16 = 0;
     while i < n {

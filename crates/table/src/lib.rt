@@ -137,7 +137,7 @@ fn find_spot(page: &[u8], number: LineNumber, table: &[u16]) -> Spot
 
 // The table is made true of a page whose first k lines it describes, and that go up to `from`: only the count and what follows those
 // lines is written.
-fn refill(page: &[u8], table: &mut [u16], first: usize, from: usize)
+pub fn refill(page: &[u8], table: &mut [u16], first: usize, from: usize)
     requires { ⌜ (1 ≤ length (now table) → Front (now page) (now table) first from) ⌝ }
     ensures { λ _. ⌜ now (table .exit) ≡ keptTrue (now (page .entry)) (now (table .entry)) ⌝ }
 {
