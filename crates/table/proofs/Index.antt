@@ -1,22 +1,33 @@
 -- A table that is lent, and one that is not; what an edit leaves of each. Assumes nothing.
 use Prim.Native.Nat.{ℕ, _≤_, _<_}
 use mathlib.Core.Path.{_≡_, refl, ap, _∙_}
-use mathlib.Core.Bool.{false, _&&_}
+use mathlib.Core.Bool.{true, false, _&&_}
 use mathlib.Core.List.{List, [], _∷_, _++_, append-nil}
 use native.Mathlib.Omega.{arith}
 use lib.ListN.{length, getD, take, drop}
 use lib.Seq.{take-length, drop-length}
 use lib.Dec.{eqb}
 use Rattle.nibl.specs.Words.{begins}
-use Rattle.nibl.specs.Page.{recordsOf}
+use Rattle.nibl.specs.Page.{isGood, recordsOf}
 use Rattle.nibl.specs.Table.{positionsFrom, walkTable, describes, refilled}
-use Rattle.page.proofs.Tables.{refilled-same}
+use Rattle.page.proofs.Tables.{good-rising, refilled-same}
 use Rattle.table.specs.Index.{Described, Indexed, unlent, lent, keptTrue}
 
 -- a table that has a number is lent
 pub described : {page table : List ℕ} → Indexed page table → 1 ≤ length table → Described page table
 described (unlent e) h = absurd (omega (arith, ap length e))
 described (lent d) h = d
+
+-- one that describes a good page
+pub good-described : (lim : ℕ) {page table : List ℕ} → isGood lim page ≡ true → length page ≤ 4096 → 1025 ≤ length table → describes page table ≡ true → Described page table
+good-described lim {page = page} good short long is = record { long = long; short = short; is = is; rising = good-rising lim page good }
+
+-- none of a table, and all of it
+pub indexed-none : (page table : List ℕ) → Indexed page (take 0 table)
+indexed-none page table = unlent refl
+
+pub indexed-whole : {page table : List ℕ} → Described page table → Indexed page (take (length table) table)
+indexed-whole {table = table} d = rw (take-length table) (lent d)
 
 -- what is left of a table
 pub kept-empty : (page table : List ℕ) → length table < 1 → table ≡ keptTrue page table
@@ -33,7 +44,7 @@ kept-same {page = page} (unlent e) = rw e
 kept-same {page = page} {table = table} (lent d) =
     kept-some page table (omega (arith, d .long)) ∙ refilled-same page table (d .is)
 
--- A part of a table is lent, none of it or all, and comes back
+-- the part that was lent, none of it or all, has come back
 pub kept-none : (page table : List ℕ) → keptTrue page (take 0 table) ++ drop 0 table ≡ table
 kept-none page table = refl
 
