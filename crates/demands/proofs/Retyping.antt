@@ -15,7 +15,7 @@ use Rattle.nibl.specs.Read.{typed}
 use Rattle.nibl.specs.Readings.{LineReading}
 use Rattle.nibl.specs.Typing.{Gathered}
 use Rattle.nibl.specs.Page.{Stored, programBytes, fits, recordsOf, size, used, usedBy, hasLine, with, without, onto}
-use Rattle.nibl.specs.Calls.{Lent, stops, begun, lentEnv, edited, obey, takeLine, takeLineIn, limit}
+use Rattle.nibl.specs.Calls.{Lent, stops, begun, lentEnv, edited, obey, takeLine, takeLineIn, leaves, limit}
 use Rattle.nibl.specs.Record.{stackless}
 use Rattle.nibl.specs.Meaning.{World, withSession}
 use Rattle.nibl.proofs.Whole.{typed-complete}
@@ -29,6 +29,7 @@ use Rattle.demands.specs.Leaves.{ofLine, others, Rising, alone, rises, l
 use Rattle.demands.proofs.Storing.{stored-storable}
 use Rattle.demands.proofs.Good.{good-exact}
 use Rattle.demands.proofs.Accepted.{accepted-of}
+use Rattle.demands.proofs.Tables.{left-kept}
 
 -- what a line that was read does
 pub line-read : (x : Lent) (g : Gathered) (y : Typed) → Typing limit x g → typed (g .line .bytes) ≡ some y
@@ -185,8 +186,9 @@ module _ (x : Lent) (g : Gathered) (h : Typing limit x g) where
         )
 
     -- "No room: 2, page and stacks kept"
-    pub no-room : length (x .page) < usedBy (others n (recordsOf (x .page))) + (length t + 4) → takeLine x ≡ lineTaken x 2 (g .taken)
-    no-room full = stores ∙ edited-full (x .page) (begun x (g .taken)) (with q (recordsOf (x .page))) (omega (arith, with-is q program .room))
+    pub no-room : length (x .page) < usedBy (others n (recordsOf (x .page))) + (length t + 4) → leaves takeLine x ≡ lineTaken x 2 (g .taken)
+    no-room full =
+        left-kept takeLine x _ (stores ∙ edited-full (x .page) (begun x (g .taken)) (with q (recordsOf (x .page))) (omega (arith, with-is q program .room))) (h .sound) refl
 
   -- NEW
   pub new-empties : LineReading (g .line .bytes) new → Edits x (g .taken) (takeLine x) × (recordsOf (takeLine x .page) ≡ [])
@@ -198,7 +200,7 @@ module _ (x : Lent) (g : Gathered) (h : Typing limit x g) where
 
   module _ (n : ℕ) (r : LineReading (g .line .bytes) (delete n)) where
     deletes : (b : Bool) → hasLine n (recordsOf (x .page)) ≡ b
-        → takeLine x ≡ elim b [ true ↦ edited (x .page) (begun x (g .taken)) (without n (recordsOf (x .page))) | false ↦ lineTaken x 0 (g .taken) ]
+        → takeLine x ≡ elim b [ true ↦ edited (x .page) (begun x (g .taken)) (without n (recordsOf (x .page))) | false ↦ stops 0 (begun x (g .taken)) (x .page) ]
     unfolding obey
     deletes b e = line-read x g (delete n) h (typed-complete r) ∙ rw (e, obey)
 
@@ -218,5 +220,5 @@ module _ (x : Lent) (g : Gathered) (h : Typing limit x g) where
           )
 
     -- "deleting an absent line keeps page and stacks"
-    pub absent-kept : ofLine n (recordsOf (x .page)) ≡ [] → takeLine x ≡ lineTaken x 0 (g .taken)
-    absent-kept there = deletes false (none-absent n (recordsOf (x .page)) there)
+    pub absent-kept : ofLine n (recordsOf (x .page)) ≡ [] → leaves takeLine x ≡ lineTaken x 0 (g .taken)
+    absent-kept there = left-kept takeLine x _ (deletes false (none-absent n (recordsOf (x .page)) there)) (h .sound) refl

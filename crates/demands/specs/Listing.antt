@@ -8,7 +8,7 @@ use Rattle.nibl.specs.Values.{digits}
 use Rattle.nibl.specs.Typing.{Gathered}
 use Rattle.nibl.specs.Page.{Stored, recordsOf, used}
 use Rattle.nibl.specs.Record.{unpaused}
-use Rattle.nibl.specs.Calls.{Lent, Outcome, lentAll, withPositions, answerOf, noLine, listed, takeLine}
+use Rattle.nibl.specs.Calls.{Lent, Outcome, lentAll, withPositions, answerOf, noLine, listed, takeLine, tableAfter, limit}
 use Rattle.nibl.specs.declared.Answer.{Answer}
 
 -- "each line as digits without leading zeros, text, CR, LF"
@@ -25,9 +25,10 @@ listingRoom (r ∷ rs) = length (digits (r .line)) + length (r .text) + 2 + list
 abbrev pub written : Lent → Outcome → List ℕ
 written x o = take (o .answer .outpos - x .call .outpos) (drop (x .call .outpos) (o .output))
 
--- what is lent to the next call: all that one left, and the same input, sense byte and budget
+-- what is lent to the next call: all that one left, the table with it, and the same input, sense byte and budget
 abbrev pub lentNext : Lent → Outcome → Lent
-lentNext x o = lentAll (o .session) (o .page) (o .memory) (x .input) (o .output) (withPositions (o .answer .inpos) (o .answer .outpos) (x .call))
+lentNext x o =
+    lentAll (o .session) (o .page) (o .memory) (x .input) (o .output) (withPositions (o .answer .inpos) (o .answer .outpos) (x .call)) (tableAfter limit x o)
 
 -- n lines typed one after the other: what is lent after them, and the answers
 unfoldable pub afterLines : ℕ → Lent → Lent
