@@ -3,6 +3,7 @@ use Prim.Native.Nat.{ℕ}
 use mathlib.Core.Path.{_≡_, refl, sym, ap, _∙_}
 use mathlib.Core.Bool.{Bool}
 use mathlib.Core.List.{List}
+use mathlib.Core.Option.{some}
 use lib.ListN.{length, drop}
 use lib.Dec.{eqb}
 use native.Mathlib.Omega.{arith}
@@ -18,12 +19,13 @@ use Rattle.page.specs.declared.FoundLine.the-variants as line
 use Rattle.page.specs.declared.Begins.{Begins}
 use Rattle.page.specs.declared.Begins.the-variants as begins
 use Rattle.page.specs.declared.Where.{Where}
+use Rattle.page.specs.declared.Seat.{Seat}
 use Rattle.page.specs.declared.Edited.{Edited}
 use Rattle.page.specs.declared.Edited.the-variants as edited
 use Rattle.page.specs.declared.Listed.{Listed}
 use Rattle.page.specs.declared.Listed.the-variants as lines
 use Rattle.page.specs.Walk.{sizeAt, foundAt, reached, beginOf, textOf}
-use Rattle.page.specs.Edits.{Changed, changed, moved, canMove, storeOf, deleteOf, newOf}
+use Rattle.page.specs.Edits.{seatOf, Seated, Changed, changed, moved, canMove, storeAt, deleteAt, newOf}
 use Rattle.page.specs.Listing.{Shown, shown, listing}
 
 pub end-determined : (page : List ℕ) (at : ℕ) (a b : Bool) → a ≡ isEnd (drop at page) → b ≡ isEnd (drop at page) → a ≡ b
@@ -46,6 +48,12 @@ found-same line.Nothing line.Nothing e = refl
 found-same (line.At o) (line.At p) e = let k : positionOf o ≡ positionOf p = cc in let h = onward-same o p k in cc
 found-same line.Nothing (line.At p) e = let z : _≡_ {A = ℕ} 0 1 = cc in absurd (omega arith)
 found-same (line.At o) line.Nothing e = let z : _≡_ {A = ℕ} 0 1 = cc in absurd (omega arith)
+
+pub found-determined : (at : ℕ) (r s : FoundLine) → foundAt r ≡ reached (some at) → foundAt s ≡ reached (some at) → r ≡ s
+found-determined at r s p q = found-same r s (determined (reached (some at)) (foundAt r) (foundAt s) p q)
+
+pub seat-determined : (page : List ℕ) (n : ℕ) (r s : Seat) → Seated page n r → Seated page n s → r ≡ s
+seat-determined page n r s p q = determined (seatOf page n) r s (p .is) (q .is)
 
 pub find-determined : (page : List ℕ) (n : ℕ) (r s : FoundLine) → foundAt r ≡ reached (find page n) → foundAt s ≡ reached (find page n) → r ≡ s
 find-determined page n r s p q = found-same r s (determined (reached (find page n)) (foundAt r) (foundAt s) p q)
@@ -86,11 +94,11 @@ changed-determined c p q a b u v =
     let e = determined c (changed p a) (changed q b) u v in
     (sym (page-is p a) ∙ (λ i. e i .page) ∙ page-is q b, sym (answer-is p a) ∙ ap answerOf e ∙ answer-is q b)
 
-pub store-determined : (page : List ℕ) (n : ℕ) (t p q : List ℕ) (a b : Edited) → changed p a ≡ storeOf page n t → changed q b ≡ storeOf page n t → (p ≡ q) × (a ≡ b)
-store-determined page n t = changed-determined (storeOf page n t)
+pub store-determined : (page : List ℕ) (s : Seat) (n : ℕ) (t p q : List ℕ) (a b : Edited) → changed p a ≡ storeAt page s n t → changed q b ≡ storeAt page s n t → (p ≡ q) × (a ≡ b)
+store-determined page s n t = changed-determined (storeAt page s n t)
 
-pub delete-determined : (page : List ℕ) (n : ℕ) (p q : List ℕ) (a b : Edited) → changed p a ≡ deleteOf page n → changed q b ≡ deleteOf page n → (p ≡ q) × (a ≡ b)
-delete-determined page n = changed-determined (deleteOf page n)
+pub delete-determined : (page : List ℕ) (s : Seat) (p q : List ℕ) (a b : Edited) → changed p a ≡ deleteAt page s → changed q b ≡ deleteAt page s → (p ≡ q) × (a ≡ b)
+delete-determined page s = changed-determined (deleteAt page s)
 
 pub new-determined : (page p q : List ℕ) (a b : Edited) → changed p a ≡ newOf page → changed q b ≡ newOf page → (p ≡ q) × (a ≡ b)
 new-determined page = changed-determined (newOf page)

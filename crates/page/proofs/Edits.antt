@@ -4,14 +4,14 @@ use mathlib.Core.Path.{_≡_, sym}
 use mathlib.Core.Bool.{false}
 use mathlib.Core.List.{List, [], _∷_}
 use native.Mathlib.Omega.{arith}
-use lib.ListN.{length}
+use lib.ListN.{length, drop}
 use lib.Dec.{ltb, eqb}
 use borrow.Author.Tests.{le-leb, lt-leb, lt-ltb, le-ltb}
 use Rattle.nibl.specs.Bytes.{if_then_else_}
 use Rattle.nibl.specs.Page.{Stored, recordBytes, recordsOf, size, used, usedBy}
 use Rattle.page.specs.declared.Seat.{Seat}
 use Rattle.page.specs.declared.Edited.the-variants as edited
-use Rattle.page.specs.Edits.{seatIn, seatOf, Seated, spliced, changed, canStore, storeOf, deleteOf}
+use Rattle.page.specs.Edits.{seatIn, seatOf, Seated, spliced, changed, canStore, storeAt, deleteAt}
 use Rattle.page.proofs.Walk.{by-cases}
 
 pub used-two : (rs : List Stored) → 2 ≤ usedBy rs
@@ -26,42 +26,43 @@ seat-fits n at (r ∷ rs) =
     (λ e. rw (e, if_then_else_) (omega (arith, seat-fits n (at + size r) rs)))
     (λ e. by-cases (eqb (r .line) n) (λ f. rw (e, f, if_then_else_) (omega (arith, used-two rs))) (λ f. rw (e, f, if_then_else_) (omega (arith, used-two rs))))
 
-module _ {page : List ℕ} {n : ℕ} {s : Seat} (h : Seated page n s) where
-  pub seat-room : s .at + s .gone + 2 ≤ used page
-  unfolding seatOf used
-  seat-room = rw (h .is) (omega (arith, seat-fits n 0 (recordsOf page)))
+-- a seat that was walked to
+pub seated : {page : List ℕ} {n : ℕ} {s : Seat} → s ≡ seatOf page n → s .at ≤ length page + 1 → s .at + usedBy (recordsOf (drop (s .at) page)) ≡ used page → Seated page n s
+unfolding seatOf used
+seated {page = page} {n = n} e i r = record { is = e; sits = record { inside = i; rest = r; room = rw e (omega (arith, seat-fits n 0 (recordsOf page))) } }
 
-  -- how a store ends
-  module _ (t : List ℕ) where
-    full : canStore page s (length t + 4) ≡ false → changed page edited.NoRoom ≡ storeOf page n t
-    unfolding storeOf
-    full e = sym (rw (← h .is, e))
+-- how a store ends
+module _ (page : List ℕ) (s : Seat) (n : ℕ) (t : List ℕ) where
+  full : canStore page s (length t + 4) ≡ false → changed page edited.NoRoom ≡ storeAt page s n t
+  unfolding storeAt
+  full e = sym (rw e)
 
-    pub store-endless : length page < used page → changed page edited.NoRoom ≡ storeOf page n t
-    store-endless a = full (rw (lt-leb (used page) (length page) a))
+  pub store-endless : length page < used page → changed page edited.NoRoom ≡ storeAt page s n t
+  store-endless a = full (rw (lt-leb (used page) (length page) a))
 
-    pub store-long : used page ≤ length page → 255 < length t + 4 → changed page edited.NoRoom ≡ storeOf page n t
-    store-long a b = full (rw (le-leb (used page) (length page) a, lt-leb (length t + 4) 255 b))
+  pub store-long : used page ≤ length page → 255 < length t + 4 → changed page edited.NoRoom ≡ storeAt page s n t
+  store-long a b = full (rw (le-leb (used page) (length page) a, lt-leb (length t + 4) 255 b))
 
-    pub store-full : used page ≤ length page → length t + 4 ≤ 255 → length page < used page - s .gone + (length t + 4) → changed page edited.NoRoom ≡ storeOf page n t
-    store-full a b c =
-        full (rw (le-leb (used page) (length page) a, le-leb (length t + 4) 255 b, lt-leb (used page - s .gone + (length t + 4)) (length page) c))
+  pub store-full : used page ≤ length page → length t + 4 ≤ 255 → length page < used page - s .gone + (length t + 4) → changed page edited.NoRoom ≡ storeAt page s n t
+  store-full a b c =
+      full (rw (le-leb (used page) (length page) a, le-leb (length t + 4) 255 b, lt-leb (used page - s .gone + (length t + 4)) (length page) c))
 
-    pub store-done : used page ≤ length page → length t + 4 ≤ 255 → used page - s .gone + (length t + 4) ≤ length page
-        → changed (spliced page (s .at) (s .gone) (used page) (recordBytes (record { line = n; text = t }))) edited.Done ≡ storeOf page n t
-    unfolding storeOf
-    store-done a b c =
-        sym (rw (← h .is, le-leb (used page) (length page) a, le-leb (length t + 4) 255 b, le-leb (used page - s .gone + (length t + 4)) (length page) c))
+  pub store-done : used page ≤ length page → length t + 4 ≤ 255 → used page - s .gone + (length t + 4) ≤ length page
+      → changed (spliced page (s .at) (s .gone) (used page) (recordBytes (record { line = n; text = t }))) edited.Done ≡ storeAt page s n t
+  unfolding storeAt
+  store-done a b c =
+      sym (rw (le-leb (used page) (length page) a, le-leb (length t + 4) 255 b, le-leb (used page - s .gone + (length t + 4)) (length page) c))
 
-  -- how a delete ends
-  pub delete-absent : s .gone < 1 → changed page edited.Absent ≡ deleteOf page n
-  unfolding deleteOf
-  delete-absent a = sym (rw (← h .is, lt-ltb (s .gone) 1 a))
+-- how a delete ends
+module _ (page : List ℕ) (s : Seat) where
+  pub delete-absent : s .gone < 1 → changed page edited.Absent ≡ deleteAt page s
+  unfolding deleteAt
+  delete-absent a = sym (rw (lt-ltb (s .gone) 1 a))
 
-  pub delete-endless : 1 ≤ s .gone → length page < used page → changed page edited.NoRoom ≡ deleteOf page n
-  unfolding deleteOf
-  delete-endless a b = sym (rw (← h .is, le-ltb (s .gone) 1 a, lt-leb (used page) (length page) b))
+  pub delete-endless : 1 ≤ s .gone → length page < used page → changed page edited.NoRoom ≡ deleteAt page s
+  unfolding deleteAt
+  delete-endless a b = sym (rw (le-ltb (s .gone) 1 a, lt-leb (used page) (length page) b))
 
-  pub delete-done : 1 ≤ s .gone → used page ≤ length page → changed (spliced page (s .at) (s .gone) (used page) []) edited.Done ≡ deleteOf page n
-  unfolding deleteOf
-  delete-done a b = sym (rw (← h .is, le-ltb (s .gone) 1 a, le-leb (used page) (length page) b))
+  pub delete-done : 1 ≤ s .gone → used page ≤ length page → changed (spliced page (s .at) (s .gone) (used page) []) edited.Done ≡ deleteAt page s
+  unfolding deleteAt
+  delete-done a b = sym (rw (le-ltb (s .gone) 1 a, le-leb (used page) (length page) b))

@@ -15,7 +15,7 @@ use Rattle.nibl.specs.Calls.{stops}
 use Rattle.nibl.specs.Calls as calls
 use Rattle.nibl.specs.Meaning.{World}
 use Rattle.page.specs.declared.Edited.the-variants as edited
-use Rattle.page.specs.Edits.{seatIn, seatOf, spliced, changed, storeOf, deleteOf, newOf, outcomeOf}
+use Rattle.page.specs.Edits.{seatIn, seatOf, spliced, changed, storeAt, deleteAt, storeOf, deleteOf, newOf, outcomeOf}
 use Rattle.page.proofs.Walk.{by-cases}
 use Rattle.page.proofs.Program.{Bytes, Program, none, each, program-length, record-length}
 use Rattle.page.proofs.Laid.{good-program, good-bytes, good-fits}
@@ -162,7 +162,7 @@ module _ (lim : ℕ) (page : List ℕ) (bytes : Bytes page) (good : isGood lim p
   pub store-is : (n : ℕ) (t : List ℕ) → length t ≤ 251
       → (let rs : List Stored = with (record { line = n; text = t }) (recordsOf page) in
       storeOf page n t ≡ (if leb (length (programBytes rs)) (length page) then changed (onto page rs) edited.Done else changed page edited.NoRoom))
-  unfolding storeOf
+  unfolding storeOf storeAt
   store-is n t h =
       let q : Stored = record { line = n; text = t } in
       let f = good-fits lim page bytes good in
@@ -180,7 +180,7 @@ module _ (lim : ℕ) (page : List ℕ) (bytes : Bytes page) (good : isGood lim p
 
   pub delete-is : (n : ℕ)
       → deleteOf page n ≡ (if hasLine n (recordsOf page) then changed (onto page (without n (recordsOf page))) edited.Done else changed page edited.Absent)
-  unfolding deleteOf
+  unfolding deleteOf deleteAt
   delete-is n =
       let p = good-program lim page bytes good in
       by-cases (hasLine n (recordsOf page))

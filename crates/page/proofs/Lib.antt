@@ -10,4 +10,6 @@ pub mod Good
 pub mod Listings
 pub mod Standing
 pub mod Kept
+pub mod Ways
+pub mod Tables
 pub mod Determined

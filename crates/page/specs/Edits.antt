@@ -25,11 +25,16 @@ seatIn n at (r ∷ rs) =
 unfoldable pub seatOf : List ℕ → ℕ → Seat
 seatOf page n = seatIn n 0 (recordsOf page)
 
--- a seat that was walked to
-pub record Seated (page : List ℕ) (n : ℕ) (s : Seat) : Type 0 where
-  pub is : s ≡ seatOf page n
+-- a seat at which the page can be edited: at a record's boundary, and what goes there lies before the end mark
+pub record Seatable (page : List ℕ) (s : Seat) : Type 0 where
   pub inside : s .at ≤ length page + 1
   pub rest : s .at + usedBy (recordsOf (drop (s .at) page)) ≡ used page
+  pub room : s .at + s .gone + 2 ≤ used page
+
+-- the seat of a line
+pub record Seated (page : List ℕ) (n : ℕ) (s : Seat) : Type 0 where
+  pub is : s ≡ seatOf page n
+  pub sits : Seatable page s
 
 -- n bytes from `from` on stand at `to` too, as if taken whole first
 abbrev pub moved : List ℕ → ℕ → ℕ → ℕ → List ℕ
@@ -64,18 +69,24 @@ changed p edited.Absent = record { page = p; stop = 0; edits = false }
 abbrev pub canStore : List ℕ → Seat → ℕ → Bool
 canStore page s n = leb (used page) (length page) && (leb n 255 && leb (used page - s .gone + n) (length page))
 
-unfoldable pub storeOf : List ℕ → ℕ → List ℕ → Changed
-storeOf page n t =
-    let s = seatOf page n in
+-- an edit at a seat
+unfoldable pub storeAt : List ℕ → Seat → ℕ → List ℕ → Changed
+storeAt page s n t =
     let p = spliced page (s .at) (s .gone) (used page) (recordBytes (record { line = n; text = t })) in
     if canStore page s (length t + 4) then changed p edited.Done else changed page edited.NoRoom
 
-unfoldable pub deleteOf : List ℕ → ℕ → Changed
-deleteOf page n =
-    let s = seatOf page n in
+unfoldable pub deleteAt : List ℕ → Seat → Changed
+deleteAt page s =
     if ltb (s .gone) 1 then changed page edited.Absent
     else if leb (used page) (length page) then changed (spliced page (s .at) (s .gone) (used page) []) edited.Done
     else changed page edited.NoRoom
+
+-- an edit of a line
+unfoldable pub storeOf : List ℕ → ℕ → List ℕ → Changed
+storeOf page n t = storeAt page (seatOf page n) n t
+
+unfoldable pub deleteOf : List ℕ → ℕ → Changed
+deleteOf page n = deleteAt page (seatOf page n)
 
 unfoldable pub newOf : List ℕ → Changed
 newOf page = if leb 2 (length page) then changed (onto page []) edited.Done else changed page edited.NoRoom

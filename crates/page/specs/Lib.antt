@@ -2,3 +2,4 @@ pub mod Walk
 pub mod Edits
 pub mod Listing
 pub mod Standing
+pub mod Tables

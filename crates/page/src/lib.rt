@@ -14,7 +14,7 @@ ghost use Rattle.nibl.specs.Record.{positionOf};
 ghost use Rattle.nibl.specs.Calls.{lineFrom, textFrom, listed};
 ghost use Rattle.nibl.specs.Values.{digits};
 ghost use Rattle.value.specs.Writes.{Writes};
-ghost use Rattle.page.specs.Edits.{Seated, moved, canMove, spliced, changed, storeOf, deleteOf, newOf};
+ghost use Rattle.page.specs.Edits.{Seated, Seatable, moved, canMove, spliced, changed, storeAt, deleteAt, newOf};
 ghost use Rattle.page.specs.Listing.{shown, listing, Here};
 ghost use Rattle.page.specs.Walk.{stopsAt, sizeAt, recordAt, cut, reached, foundAt, beginOf, textOf};
 use nibl::COLON;
@@ -171,7 +171,7 @@ pub fn line_at(page: &[u8], at: usize) -> u16
 }
 
 // The same where a record stands: its bytes are there, and the walks need not ask again.
-fn number_at(page: &[u8], at: usize) -> u16
+pub fn number_at(page: &[u8], at: usize) -> u16
     requires { ⌜ at + 2 ≤ length (now page) ⌝ }
     ensures { λ r. ⌜ r ≡ lineAt (drop at (now (page .entry))) ⌝ }
 {
@@ -200,7 +200,7 @@ pub fn used_bytes(page: &[u8]) -> usize
 }
 
 // A record's position, by the place before it. Past what a place can name there is none.
-fn found_at(at: usize) -> FoundLine
+pub fn found_at(at: usize) -> FoundLine
     ensures { λ r. ⌜ foundAt r ≡ reached (some at) ⌝ }
 {
     if at == 0 {
@@ -310,7 +310,7 @@ pub fn text_from(page: &[u8], from: Onward) -> Begins
 }
 
 // The walk to a line's seat.
-fn find_seat(page: &[u8], number: LineNumber) -> Seat
+pub fn find_seat(page: &[u8], number: LineNumber) -> Seat
     ensures { λ r. ⌜ Seated (now (page .entry)) (number .0) r ⌝ }
 {
     let n = number.0;
@@ -421,11 +421,11 @@ fn put_in(s: &mut [u8], gone: usize, rest: usize, number: LineNumber, text: &[u8
     put_record(s, number, text);
 }
 
-// A record is inserted, or replaces the one of its number, whose room counts as free.
-pub fn store_line(page: &mut [u8], number: LineNumber, text: &[u8]) -> Edited
-    ensures { λ r. ⌜ changed (now (page .exit)) r ≡ storeOf (now (page .entry)) (number .0) (now (text .entry)) ⌝ }
+// A record is inserted at its line's seat, or replaces the one of its number, whose room counts as free.
+pub fn store_at(page: &mut [u8], seat: Seat, number: LineNumber, text: &[u8]) -> Edited
+    requires { ⌜ Seatable (now page) seat ⌝ }
+    ensures { λ r. ⌜ changed (now (page .exit)) r ≡ storeAt (now (page .entry)) seat (number .0) (now (text .entry)) ⌝ }
 {
-    let seat = find_seat(page, number);
     let at = seat.at;
     let gone = seat.gone;
     let top = used_from(page, at);
@@ -445,11 +445,11 @@ pub fn store_line(page: &mut [u8], number: LineNumber, text: &[u8]) -> Edited
     Edited::NoRoom
 }
 
-// The record of a line goes.
-pub fn delete_line(page: &mut [u8], number: LineNumber) -> Edited
-    ensures { λ r. ⌜ changed (now (page .exit)) r ≡ deleteOf (now (page .entry)) (number .0) ⌝ }
+// The record at a line's seat goes.
+pub fn delete_at(page: &mut [u8], seat: Seat) -> Edited
+    requires { ⌜ Seatable (now page) seat ⌝ }
+    ensures { λ r. ⌜ changed (now (page .exit)) r ≡ deleteAt (now (page .entry)) seat ⌝ }
 {
-    let seat = find_seat(page, number);
     let at = seat.at;
     let gone = seat.gone;
     if gone < 1 {

@@ -11,6 +11,7 @@ use Rattle.page.specs.declared.Seat.{Seat}
 use Rattle.page.specs.Edits.{Seated, seatIn, seatOf}
 use Rattle.page.specs.Walk.{recordAt, cut}
 use Rattle.page.proofs.Walk.{Stood, stood, stops, cut-in, cut-most, drop-cut, not-true, size-is}
+use Rattle.page.proofs.Edits.{seated}
 use Rattle.page.proofs.find_seat.Statement.{statement}
 use Rattle.page.proofs.find_seat.Tie as tie
 
@@ -26,22 +27,21 @@ turn : (c : tie.Then1 Inv-loop μ-loop) →
 turn c = stood _ _ _ refl (sym (c .before .has-record .ensures) ∙ c .if1 .taken)
 
 -- a seat that a turn finds at the record that it is at
-seated : (c : tie.Then1 Inv-loop μ-loop) (gone : ℕ) →
+here : (c : tie.Then1 Inv-loop μ-loop) (gone : ℕ) →
     (let p = c .before .before .before .before .args .page .now in
     let n = c .before .before .before .before .args .number .0 in
     let at = c .before .before .loop .at in
     let s : Seat = record { at = at; gone = gone } in
     seatIn n at (recordsOf (drop at p)) ≡ s → Seated p n s)
-seated c gone e =
+here c gone e =
     let p = c .before .before .before .before .args .page .now in
     let n = c .before .before .before .before .args .number .0 in
     let l = c .before .before .loop in
     let m = turn c in
-    record {
-      is = sym e ∙ ap (λ (x : ℕ). seatIn n x (recordsOf (drop (l .at) p))) (sym (m .here)) ∙ l .inv .0;
-      inside = omega (arith, m .inside);
-      rest = ap (λ (x : ℕ). x + usedBy (recordsOf (drop (l .at) p))) (sym (m .here)) ∙ l .inv .1;
-    }
+    seated
+    (sym e ∙ ap (λ (x : ℕ). seatIn n x (recordsOf (drop (l .at) p))) (sym (m .here)) ∙ l .inv .0)
+    (omega (arith, m .inside))
+    (ap (λ (x : ℕ). x + usedBy (recordsOf (drop (l .at) p))) (sym (m .here)) ∙ l .inv .1)
 
 loop-holds : tie.Need-loop-holds Inv-loop μ-loop
 unfolding seatOf used
@@ -69,7 +69,7 @@ returns c =
     let m = turn t in
     let e = sym (c .before .before .number-at .ensures) ∙ c .before .if2 .taken in
     let s = c .size-at .ensures ∙ size-is q (not-true _ (sym (t .before .has-record .ensures) ∙ t .if1 .taken)) in
-    seated t (c .size-at .result) (rw (m .records, le-ltb (lineAt q) n (omega arith), eq-eqb (lineAt q) n e, s))
+    here t (c .size-at .result) (rw (m .records, le-ltb (lineAt q) n (omega arith), eq-eqb (lineAt q) n e, s))
 
 returns-2 : tie.Need-returns-2 Inv-loop μ-loop
 returns-2 c =
@@ -80,7 +80,7 @@ returns-2 c =
     let m = turn (c .before .before .before) in
     let e = c .before .before .number-at .ensures in
     let no : lineAt q ≡ n → ⊥ = λ f. c .before .if2 .left (e ∙ f) in
-    seated (c .before .before .before) 0 (rw (m .records, le-ltb (lineAt q) n (omega arith), ne-eqb (lineAt q) n no))
+    here (c .before .before .before) 0 (rw (m .records, le-ltb (lineAt q) n (omega arith), ne-eqb (lineAt q) n no))
 
 length-at-requires : tie.Need-length-at-requires Inv-loop μ-loop
 length-at-requires c κs = turn (c .before .before .before) .inside
@@ -126,11 +126,10 @@ returns-3 c =
     let n = a .number .0 in
     let e = stops p (l .at) (sym (c .before .before .has-record .ensures) ∙ c .before .if1 .left) in
     let r = c .reach .ensures in
-    record {
-      is = ap (λ (x : ℕ). record { at = x; gone = 0 }) r ∙ ap (seatIn n (cut p (l .at))) (sym e) ∙ l .inv .0;
-      inside = omega (arith, r, cut-most p (l .at));
-      rest = ap (λ (x : ℕ). x + usedBy (recordsOf (drop x p))) r ∙ ap (λ (s : List ℕ). cut p (l .at) + usedBy (recordsOf s)) (drop-cut p (l .at)) ∙ l .inv .1;
-    }
+    seated
+    (ap (λ (x : ℕ). record { at = x; gone = 0 }) r ∙ ap (seatIn n (cut p (l .at))) (sym e) ∙ l .inv .0)
+    (omega (arith, r, cut-most p (l .at)))
+    (ap (λ (x : ℕ). x + usedBy (recordsOf (drop x p))) r ∙ ap (λ (s : List ℕ). cut p (l .at) + usedBy (recordsOf s)) (drop-cut p (l .at)) ∙ l .inv .1)
 
 pub find-seat-spec : {M : Type 1} → statement M
 find-seat-spec =

@@ -1,4 +1,4 @@
--- `store_line` meets its contract: the three refusals leave the page; else the part from the seat on is edited, which is an edit of the page. Assumes nothing.
+-- `store_at` meets its contract: the three refusals leave the page; else the part from the seat on is edited, which is an edit of the page. Assumes nothing.
 use Prim.Native.Nat.{_≤_, ℕ, _-_, _+_}
 use mathlib.Core.List.{List, _++_}
 use mathlib.Core.Path.{_≡_, ap, _∙_}
@@ -8,14 +8,17 @@ use borrow.Author.Needs.{needs}
 use Rattle.nibl.specs.Page.{Stored, recordBytes, used}
 use Rattle.page.specs.Edits.{spliced, changed}
 use Rattle.page.specs.declared.Edited.the-variants as edited
-use Rattle.page.proofs.Edits.{seat-room, store-endless, store-long, store-full, store-done}
+use Rattle.page.proofs.Edits.{store-endless, store-long, store-full, store-done}
 use Rattle.page.proofs.Moves.{part-spliced}
-use Rattle.page.proofs.store_line.Statement.{statement}
-use Rattle.page.proofs.store_line.Tie as tie
+use Rattle.page.proofs.store_at.Statement.{statement}
+use Rattle.page.proofs.store_at.Tie as tie
+
+abbrev start : tie.After-used-from → tie.Start
+start c = c .before .before .before .before
 
 -- the used bytes of the whole page, which the walk from the seat on gives
-known : (c : tie.After-used-from) → (c .used-from .result ≡ used (c .before .before .before .before .before .before .args .page .now)) × (c .before .before .find-seat .result .at + c .before .before .find-seat .result .gone + 2 ≤ used (c .before .before .before .before .before .before .args .page .now))
-known c = let h = c .before .before .find-seat .ensures in (c .used-from .ensures ∙ h .rest, seat-room h)
+known : (c : tie.After-used-from) → c .used-from .result ≡ used (start c .args .page .now)
+known c = c .used-from .ensures ∙ start c .pre .rest
 
 -- an edit of the part from the seat on, by the number of bytes that stay behind it, is one of the page
 part-kept : (p r last : List ℕ) (at gone top : ℕ) → at ≤ length p → at + gone ≤ top
@@ -24,21 +27,17 @@ part-kept p r last at gone top h k e =
     let f : gone + (top - gone - at) ≡ top - at = omega arith in
     part-spliced p r last at gone top h (e ∙ ap (λ (n : ℕ). spliced (take (length p - at) (drop at p)) 0 gone n r) f)
 
-find-seat-requires : tie.Need-find-seat-requires
-find-seat-requires c κs = search needs
-
 used-from-requires : tie.Need-used-from-requires
-used-from-requires c κs = c .before .find-seat .ensures .inside
+used-from-requires c κs = search needs
 
 same-length : tie.Need-same-length
 same-length c = search needs
 
 returns : tie.Need-returns
 returns c =
-    let a = c .before .before .before .before .before .before .before .args in
-    let h = c .before .before .before .find-seat .ensures in
+    let a = start (c .before) .args in
     let k = known (c .before) in
-    store-endless h (a .text .now) (omega arith)
+    store-endless (a .page .now) (a .seat) (a .number .0) (a .text .now) (omega arith)
 
 add-size : tie.Need-add-size
 add-size c = search needs
@@ -48,13 +47,12 @@ same-length-2 c = search needs
 
 returns-2 : tie.Need-returns-2
 returns-2 c =
-    let a = c .before .before .before .before .before .before .before .before .args in
-    let h = c .before .before .before .before .find-seat .ensures in
+    let a = start (c .before .before) .args in
     let k = known (c .before .before) in
-    store-long h (a .text .now) (omega arith) (c .if2 .taken)
+    store-long (a .page .now) (a .seat) (a .number .0) (a .text .now) (omega arith) (c .if2 .taken)
 
 sub-kept : tie.Need-sub-kept
-sub-kept c = let k = known (c .before .before) in omega arith
+sub-kept c = search needs
 
 add-if3 : tie.Need-add-if3
 add-if3 c = search needs
@@ -69,42 +67,43 @@ part-put-in-end : tie.Need-part-put-in-end
 part-put-in-end c = search needs
 
 sub-put-in-2 : tie.Need-sub-put-in-2
-sub-put-in-2 c = let k = known (c .before .before .before .before) in omega arith
+sub-put-in-2 c = search needs
 
 put-in-requires : tie.Need-put-in-requires
-put-in-requires c κs = let k = known (c .before .before .before .before) in omega arith
+put-in-requires c κs = search needs
 
 same-length-3 : tie.Need-same-length-3
 same-length-3 c = search needs
 
 returns-3 : tie.Need-returns-3
 returns-3 c =
-    let a = c .before .before .before .before .before .before .before .before .before .before .before .before .before .args in
-    let h = c .before .before .before .before .before .before .before .before .before .find-seat .ensures in
-    let k = known (c .before .before .before .before .before .before .before) in
-    let s = c .before .before .before .before .before .before .before .before .before .find-seat .result in
+    let u = c .before .before .before .before .before .before .before in
+    let a = start u .args in
+    let h = start u .pre in
+    let k = known u in
+    let s = a .seat in
     let r : Stored = record { line = a .number .0; text = a .text .now } in
-    let x = c .before .before .before .before .before .before .before .used-from .result in
+    let x = u .used-from .result in
     ap (λ (q : List ℕ). changed q edited.Done)
     (part-kept (a .page .now) (recordBytes r) (c .before .before .put-in .last .0) (s .at) (s .gone) x (omega arith) (omega arith) (c .before .before .put-in .ensures)
-    ∙ ap (λ (n : ℕ). spliced (a .page .now) (s .at) (s .gone) n (recordBytes r)) (k .0))
-    ∙ store-done h (a .text .now) (omega arith) (omega arith) (omega arith)
+    ∙ ap (λ (n : ℕ). spliced (a .page .now) (s .at) (s .gone) n (recordBytes r)) k)
+    ∙ store-done (a .page .now) s (a .number .0) (a .text .now) (omega arith) (omega arith) (omega arith)
 
 same-length-4 : tie.Need-same-length-4
 same-length-4 c = search needs
 
 returns-4 : tie.Need-returns-4
 returns-4 c =
-    let a = c .before .before .before .before .before .before .before .before .before .args in
-    let h = c .before .before .before .before .before .find-seat .ensures in
-    let k = known (c .before .before .before) in
-    store-full h (a .text .now) (omega arith) (omega arith) (omega arith)
+    let u = c .before .before .before in
+    let a = start u .args in
+    let h = start u .pre in
+    let k = known u in
+    store-full (a .page .now) (a .seat) (a .number .0) (a .text .now) (omega arith) (omega arith) (omega arith)
 
-pub store-line-spec : {M : Type 1} → statement M
-store-line-spec =
+pub store-at-spec : {M : Type 1} → statement M
+store-at-spec =
     tie.close
     (tie.spec
-    find-seat-requires
     used-from-requires
     same-length
     returns
