@@ -16,7 +16,7 @@ use Rattle.demands.specs.Lent.{HasTable, InRange, budgeted, gatheredLine
 table-range-of : (x : Lent) → tableInRange x ≡ true → HasTable x → 1025 ≤ length (x .table)
 table-range-of x h n = leb-true _ _ (rw (ne-eqb (x .call .tabled) 0 n) at h)
 
-table-range-is : (x : Lent) → (HasTable x → 1025 ≤ length (x .table)) → tableInRange x ≡ true
+pub table-range-is : (x : Lent) → (HasTable x → 1025 ≤ length (x .table)) → tableInRange x ≡ true
 table-range-is x h =
     by-cases (eqb (x .call .tabled) 0) (λ e. rw e) (λ e. rw (e, le-leb 1025 (length (x .table)) (h (eqb-false (x .call .tabled) 0 e))))
 

@@ -43,7 +43,7 @@ use Rattle.demands.specs.Lent.{Typing}
 use Rattle.demands.specs.Listing.{listingOf, listingRoom, written, ListsWhole, lentNext, afterLines, answers, Stops0, lastLF, RoundTrip}
 use Rattle.demands.specs.Listing as listings
 use Rattle.demands.proofs.Accepted.{Accepted, accepted-of, accepted-is}
-use Rattle.demands.proofs.Tables.{true-after, long-after, lines-most}
+use Rattle.demands.proofs.Tables.{true-after, long-after}
 use Rattle.demands.proofs.Retyping.{program, program-room, line-read, edited-fits, onto-length, onto-after, onto-used}
 
 -- What LIST writes
@@ -264,7 +264,7 @@ module _ (m : Lent) (ds rs : List Stored) (r : Stored) (p : Program limit 0 (ds 
             inpos = inside;
             outpos = r′ .outpos;
             budget = r′ .budget;
-            table = long-after limit y stored accepted (rw (onto-records (m .page) more-program) (omega (arith, lines-most more, more-room, long, r′ .page)));
+            table = long-after limit y stored accepted (omega (arith, onto-length (m .page) more more-room, long, r′ .page));
           };
           good = onto-good (m .page) more-program;
           table = true-after limit y stored accepted;

@@ -1,63 +1,28 @@
 -- A lent table: when it is a true one, and that a call which leaves the page leaves it. Assumes nothing.
-use Prim.Native.Nat.{ℕ, suc, _+_, _*_, _≤_}
+use Prim.Native.Nat.{ℕ, suc, _+_, _≤_}
 use mathlib.Core.Path.{_≡_, refl, sym, ap, subst, _∙_}
-use mathlib.Core.Bool.{Bool, true, false, not, _&&_, false≢true, true≢false}
+use mathlib.Core.Bool.{Bool, true, false, not, _&&_, true≢false}
 use mathlib.Core.List.{List, [], _∷_, _++_}
 use mathlib.Core.Logic.{_↔_}
 use native.Mathlib.Omega.{arith}
-use lib.ListN.{length, drop, length-append, length-drop}
+use lib.ListN.{length, drop}
 use lib.Dec.{eqb}
-use borrow.Author.Tests.{eqb-true, eqb-false, eq-eqb, ne-eqb}
+use borrow.Author.Tests.{eqb-false, ne-eqb}
 use Rattle.nibl.specs.Bytes.{if_then_else_}
 use Rattle.nibl.specs.Words.{begins}
-use Rattle.nibl.specs.Page.{Stored, isEnd, recordsOf, size, usedBy}
+use Rattle.nibl.specs.Page.{Stored, isEnd, recordsOf}
 use Rattle.nibl.specs.Table.{positionsFrom, tableOf, walkTable, describes, refilled}
 use Rattle.nibl.specs.Calls.{Lent, Outcome, hasTable, tableIsTrue, firstRefusal, tableAfter, leaves, limit}
 use Rattle.page.proofs.Walk.{by-cases}
-use Rattle.page.proofs.Program.{both, end-bytes}
+use Rattle.page.proofs.Program.{end-bytes}
 use Rattle.page.proofs.Laid.{Laid, good-laid}
 use Rattle.page.proofs.Laid as laid
+use Rattle.page.proofs.Tables.{table-fits, positions-length, begins-front, begins-split, refilled-true, refilled-same, refilled-long}
 use Rattle.demands.specs.Lent.{HasTable}
 use Rattle.demands.specs.Good.{RecordsAt, atMark, atRecord, TrueTable, LentTrue, GoodPage}
 use Rattle.demands.proofs.Good.{good-exact, whole-record, record-unended}
 use Rattle.demands.proofs.OnPage.{same-size}
 use Rattle.demands.proofs.Accepted.{accepted-of}
-
--- PURE LAWS (until they stand in crate page)
-begins-is : (a s : List ℕ) → begins a s ≡ true → s ≡ a ++ drop (length a) s
-begins-is [] s h = refl
-begins-is (c ∷ w) [] h = absurd (false≢true h)
-begins-is (c ∷ w) (b ∷ s) h = let t = both (eqb c b) _ h in λ i. sym (eqb-true c b (t .0)) i ∷ begins-is w s (t .1) i
-
-begins-front : (a b : List ℕ) → begins a (a ++ b) ≡ true
-begins-front [] b = refl
-begins-front (c ∷ a) b = rw (eq-eqb c c refl, begins-front a b)
-
-pub refilled-true : (page table : List ℕ) → describes page (refilled page table) ≡ true
-unfolding describes refilled
-refilled-true page table = begins-front (walkTable page) _
-
-pub refilled-same : (page table : List ℕ) → describes page table ≡ true → refilled page table ≡ table
-unfolding describes refilled
-refilled-same page table h = sym (begins-is (walkTable page) table h)
-
-positions-long : (at : ℕ) (rs : List Stored) → length (positionsFrom at rs) ≡ length rs
-positions-long at [] = refl
-positions-long at (r ∷ rs) = ap suc (positions-long (at + size r) rs)
-
-pub walk-long : (page : List ℕ) → length (walkTable page) ≡ suc (length (recordsOf page))
-unfolding walkTable
-walk-long page = ap suc (positions-long 0 (recordsOf page))
-
-pub refilled-long : (page table : List ℕ) → length (recordsOf page) ≤ 1024 → 1025 ≤ length table → length (refilled page table) ≡ length table
-unfolding refilled
-refilled-long page table h l =
-    length-append (walkTable page) (drop (length (walkTable page)) table) ∙ omega (arith, length-drop (length (walkTable page)) table, walk-long page)
-
--- a record has four bytes and more: 4,094 bytes hold 1,023 of them at most
-pub lines-most : (rs : List Stored) → 4 * length rs + 2 ≤ usedBy rs
-lines-most [] = omega arith
-lines-most (r ∷ rs) = omega (arith, lines-most rs)
 
 -- By the bytes: on a good page the records stand where the walk says
 module _ {lim : ℕ} {page : List ℕ} where
@@ -87,13 +52,13 @@ module _ (page table : List ℕ) where
           positions = ps;
           stand = stand-of known;
           rest = behind;
-          entries = begins-is (tableOf (recordsOf page)) table h ∙ ap (λ (n : ℕ). n ∷ (ps ++ behind)) (sym (positions-long 0 (recordsOf page)));
+          entries = sym (begins-split (tableOf (recordsOf page)) table h) ∙ ap (λ (n : ℕ). n ∷ (ps ++ behind)) (sym (positions-length 0 (recordsOf page)));
         }
 
     is : TrueTable page table → begins (tableOf (recordsOf page)) table ≡ true
     is t =
         let e = stand-one known (t .stand) in
-        rw (t .entries, e, positions-long 0 (recordsOf page)) (begins-front (tableOf (recordsOf page)) (t .rest))
+        rw (t .entries, e, positions-length 0 (recordsOf page)) (begins-front (tableOf (recordsOf page)) (t .rest))
 
 -- a table that is lent is true: the calls' test looks for that
 module _ (x : Lent) (good : GoodPage limit (x .page)) where
@@ -136,9 +101,9 @@ module _ (lim : ℕ) (x : Lent) (o : Outcome) where
       by-cases (eqb (x .call .tabled) 0) (λ e. rw e)
       (λ e. rw (e, table-after (eqb-false (x .call .tabled) 0 e) h) (refilled-true (o .page) (x .table)))
 
-  pub long-after : firstRefusal lim x ≡ 0 → length (recordsOf (o .page)) ≤ 1024 → HasTable x → 1025 ≤ length (tableAfter lim x o)
+  pub long-after : firstRefusal lim x ≡ 0 → length (o .page) ≤ 4096 → HasTable x → 1025 ≤ length (tableAfter lim x o)
   long-after h l n =
-      rw (table-after n h) (omega (arith, refilled-long (o .page) (x .table) l (accepted-of lim x h .range .table n), accepted-of lim x h .range .table n))
+      let t = accepted-of lim x h .range .table n in rw (table-after n h) (omega (arith, table-fits (o .page) l, refilled-long (o .page) (x .table) (omega (arith, table-fits (o .page) l))))
 
 -- all that is left, where the page is
 module _ (call : Lent → Outcome) (x : Lent) (o : Outcome) (e : call x ≡ o) where

@@ -1,5 +1,5 @@
 -- What a call leaves, written out: the demands' sentences name these.
-use Prim.Native.Nat.{ℕ, suc, _+_, _≤_}
+use Prim.Native.Nat.{ℕ, _+_, _≤_}
 use mathlib.Core.Path.{_≡_}
 use mathlib.Core.Bool.{Bool, true, false}
 use mathlib.Core.List.{List, [], _∷_}
@@ -20,6 +20,7 @@ use Rattle.nibl.specs.declared.Session.{Session}
 use Rattle.nibl.specs.declared.Place.{Place}
 use Rattle.nibl.specs.declared.Top.the-variants as top
 use Rattle.nibl.specs.declared.Answer.{Answer}
+use Rattle.page.specs.Tables.{Rising}
 use Rattle.demands.specs.Asks.{GivenIn}
 use Rattle.demands.specs.Lent.{gatheredLine}
 use Rattle.demands.specs.Good.{GoodPage}
@@ -36,11 +37,6 @@ ofLine n (r ∷ rs) = if eqb (r .line) n then r ∷ ofLine n rs else ofLine n rs
 abbrev pub others : ℕ → List Stored → List Stored
 others n [] = []
 others n (r ∷ rs) = if eqb (r .line) n then others n rs else r ∷ others n rs
-
--- "in strictly rising line number", from low on
-pub data Rising : ℕ → List Stored → Type 0 where
-  alone : {low : ℕ} → Rising low []
-  rises : {low : ℕ} {r : Stored} {rs : List Stored} → low ≤ r .line → Rising (suc (r .line)) rs → Rising low (r ∷ rs)
 
 -- a stop with no line, no steps and no column, after so many bytes of the input; the output position as it came
 abbrev pub answered : Lent → ℕ → ℕ → Answer
