@@ -202,7 +202,7 @@ module _ (q : Stored) where
       (λ e. let h = ltb-false (r .line) (q .line) e in rw (e, below-none (q .line) {low = suc (r .line)} (omega arith) p))
 
 all-held : (k m : ℕ) {table after : List ℕ} → after ≡ table → HeldBut k m table after
-all-held k m e = record { long = ap length e; before = ap (λ (t : List ℕ). take k (drop 1 t)) e; past = ap (drop (suc m)) e }
+all-held k m e = record { long = rw e; before = rw e; past = rw e }
 
 -- so a true table that is made true of the page with the edit keeps their entries
 module _ (page after table : List ℕ) (is : describes page table ≡ true) (room : length (walkTable after) ≤ length table) (k : ℕ)

@@ -349,6 +349,7 @@ module _ (x : Lent) (bytes′ : Bytes (x .page)) (g : Gathered) (h : Typing limi
         after = rw (t .page) (onto-after (y .page) (recordsOf (x .page)));
         memory = t .memory;
         output = t .output;
+        table = t .sound .table;
         left = t .left ∙ append-nil (lastLF (recordsOf (x .page)));
       }
 

@@ -8,7 +8,7 @@ use Rattle.nibl.specs.Values.{digits}
 use Rattle.nibl.specs.Page.{Stored, recordsOf, usedBy, used}
 use Rattle.nibl.specs.Meaning.{World, Env, withSession, withMemory, withOutput, withInpos}
 use Rattle.nibl.specs.Record.{place, mark, nowhere, withVar, withFlags, withGosubs, withDos, withFors, withPaused, unpaused, stackless, cleared}
-use Rattle.nibl.specs.Calls.{Lent, Outcome, Ran, ran, stepped, runOutcome, lentAll, outcomeWith, leftAll, answerOf, noLine, stops, refusedLine, envAt, begun, lentEnv, listed, tableAfter, limit}
+use Rattle.nibl.specs.Calls.{Lent, Outcome, Ran, ran, stepped, runOutcome, lentAll, outcomeWith, leftAll, answerOf, noLine, stops, refusedLine, envAt, begun, lentEnv, listed, tableAfter, leaves, limit}
 use Rattle.nibl.specs.declared.PlaceStack.{PlaceStack}
 use Rattle.nibl.specs.declared.ForStack.{ForStack}
 use Rattle.nibl.specs.declared.Session.{Session}
@@ -56,6 +56,10 @@ module _ (x : Lent) where
         table = x .table;
       }
   only-the-budget k = refl
+
+  -- what a call leaves: its outcome and the table
+  pub what-a-call-leaves : (call : Lent → Outcome) → leaves call x ≡ record { outcome = call x; table = tableAfter limit x (call x) }
+  what-a-call-leaves call = refl
 
   -- the next call: all that one left, and the rest as it was lent
   pub all-that-was-left : (o : Outcome)

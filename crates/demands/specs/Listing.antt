@@ -1,6 +1,7 @@
 -- A listing, and lines typed one after the other.
 use Prim.Native.Nat.{ℕ, zero, suc, _+_, _-_}
 use mathlib.Core.Path.{_≡_}
+use mathlib.Core.Bool.{true}
 use mathlib.Core.List.{List, [], _∷_, _++_}
 use lib.ListN.{length, take, drop}
 use lib.Seq.{sets}
@@ -8,7 +9,7 @@ use Rattle.nibl.specs.Values.{digits}
 use Rattle.nibl.specs.Typing.{Gathered}
 use Rattle.nibl.specs.Page.{Stored, recordsOf, used}
 use Rattle.nibl.specs.Record.{unpaused}
-use Rattle.nibl.specs.Calls.{Lent, Outcome, lentAll, withPositions, answerOf, noLine, listed, takeLine, tableAfter, limit}
+use Rattle.nibl.specs.Calls.{Lent, Outcome, lentAll, withPositions, answerOf, noLine, listed, tableIsTrue, takeLine, tableAfter, limit}
 use Rattle.nibl.specs.declared.Answer.{Answer}
 
 -- "each line as digits without leading zeros, text, CR, LF"
@@ -67,5 +68,7 @@ pub record RoundTrip (x y z : Lent) : Type 0 where
   pub after : drop (used (x .page)) (z .page) ≡ drop (used (x .page)) (y .page)
   pub memory : z .memory ≡ y .memory
   pub output : z .output ≡ y .output
+  -- a table that y has is true of it
+  pub table : tableIsTrue z ≡ true
   -- all lines were typed
   pub left : drop (z .call .inpos) (z .input) ≡ lastLF (recordsOf (x .page))
