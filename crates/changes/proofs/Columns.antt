@@ -15,7 +15,7 @@ use Rattle.nibl.specs.Fronts.{IsColumn}
 use Rattle.nibl.specs.Column.{columnOf}
 use Rattle.nibl.specs.Page.{Stored, recordsOf, programBytes, hasLine, without, with}
 use Rattle.nibl.specs.Meaning.{World, Env, on, skip, go, stop, Done, done, exec}
-use Rattle.nibl.specs.Calls.{Lent, Outcome, stops, firstRefusal, begun, lentEnv, edited, listFrom, afterImmediate, needsProgram, obey, takeLine, continueFrom, continueRun, limit}
+use Rattle.nibl.specs.Calls.{Lent, Outcome, Left, stops, firstRefusal, begun, lentEnv, edited, listFrom, afterImmediate, needsProgram, obey, takeLine, continueFrom, continueRun, limit}
 use Rattle.nibl.proofs.Words.{if-split}
 use Rattle.nibl.proofs.Spot.{column-exact}
 use Rattle.record.specs.Sound.{Sized}
@@ -78,8 +78,8 @@ module _ (x : Lent) where
   unfolding takeLine continueRun
   column-0 = (take-none (every-line limit x), continue-none (every-continue limit x))
 
-  abbrev columnIn : Outcome → ℕ
-  columnIn o = o .answer .column
+  abbrev columnIn : Left → ℕ
+  columnIn o = o .outcome .answer .column
 
   -- past the first refusals, of the line that was gathered
   module _ (z : firstRefusal limit x ≡ 0) (g : Gathered) (h : gatheredLine limit x ≡ some g) where

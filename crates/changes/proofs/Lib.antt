@@ -6,3 +6,5 @@ pub mod Together
 pub mod Spots
 pub mod Columns
 pub mod GaveUp
+pub mod Tables
+pub mod TableRows

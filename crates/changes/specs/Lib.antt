@@ -3,3 +3,5 @@ pub mod OneWord
 pub mod Together
 pub mod Spots
 pub mod Pointed
+pub mod Tables
+pub mod TableRows

@@ -1,12 +1,12 @@
 -- Where a run begins: "RUN does CLEAR and starts at the first line", an immediate statement goes where it goes, and continue goes on where a run was
 -- paused. Assumes nothing.
 use Prim.Native.Nat.{ℕ}
-use mathlib.Core.Path.{_≡_, ap, _∙_}
+use mathlib.Core.Path.{_≡_, refl, ap, _∙_}
 use mathlib.Core.Option.{none, some}
 use Rattle.nibl.specs.Tree.{run, immediate}
 use Rattle.nibl.specs.Typing.{Gathered}
 use Rattle.nibl.specs.Meaning.{World, withSession}
-use Rattle.nibl.specs.Calls.{Lent, Ran, runFrom, textFrom, runOutcome, stops, firstRefusal, lentEnv, afterImmediate, obey, takeLine, continueFrom, continueRun, limit}
+use Rattle.nibl.specs.Calls.{Lent, Ran, runFrom, textFrom, runOutcome, stops, firstRefusal, lentEnv, afterImmediate, obey, takeLine, continueFrom, continueRun, leaves, limit}
 use Rattle.nibl.specs.Record.{nowhere, pausedAt, withPaused}
 use Rattle.nibl.proofs.Whole.{typed-complete}
 use Rattle.demands.specs.Lent.{Typing}
@@ -14,6 +14,7 @@ use Rattle.demands.specs.Leaves.{lineTaken}
 use Rattle.demands.specs.Starts.{Starts, byRUN, byStatement, StartsTyped, typed, StartsPaused, paused, ranFrom}
 use Rattle.demands.proofs.Runs.{run-none, run-zero}
 use Rattle.demands.proofs.Accepted.{continue-at}
+use Rattle.demands.proofs.Tables.{left-kept}
 use Rattle.demands.proofs.Retyping.{line-read}
 
 module _ (x : Lent) where
@@ -27,9 +28,9 @@ module _ (x : Lent) where
   a-run-begins (typed g h b) = a-typed-run-begins g h b
 
   -- "Continue with nothing paused answers 0 with 0 steps"
-  pub nothing-paused-is-0 : firstRefusal limit x ≡ 0 → x .session .paused ≡ nowhere → continueRun x ≡ lineTaken x 0 0
+  pub nothing-paused-is-0 : firstRefusal limit x ≡ 0 → x .session .paused ≡ nowhere → leaves continueRun x ≡ lineTaken x 0 0
   unfolding continueRun
-  nothing-paused-is-0 z h = continue-at limit x z ∙ ap (continueFrom limit x) h
+  nothing-paused-is-0 z h = left-kept continueRun x (lineTaken x 0 0 .outcome) (continue-at limit x z ∙ ap (continueFrom limit x) h) z refl
 
   pub a-paused-run-goes-on : {q : ℕ} {w : World} → StartsPaused limit x q w → continueRun x ≡ ranFrom x q w
   unfolding continueRun

@@ -11,16 +11,17 @@ use Rattle.nibl.specs.Readings.{LineReading}
 use Rattle.nibl.specs.Typing.{Gathered}
 use Rattle.nibl.specs.Meaning.{World, Env}
 use Rattle.nibl.specs.Page.{isGood, fits}
-use Rattle.nibl.specs.Calls.{Lent, runFrom, firstRefusal, takeLine, continueRun, limit}
+use Rattle.nibl.specs.Calls.{Lent, Left, runFrom, tableIsTrue, firstRefusal, takeLine, continueRun, limit}
 use Rattle.nibl.specs.Record.{pausedAt}
 use Rattle.nibl.specs.declared.Session.{Session}
 use Rattle.page.proofs.Walk.{by-cases}
 use Rattle.record.specs.Sound.{Sized, Sound}
-use Rattle.demands.specs.Lent.{InRange, gatheredLine}
+use Rattle.demands.specs.Lent.{HasTable, InRange, gatheredLine}
 use Rattle.demands.specs.Leaves.{BothUnchanged}
-use Rattle.demands.specs.Good.{GoodPage, PauseFits, Fits, Unrefused, LeftSound}
+use Rattle.demands.specs.Good.{GoodPage, TrueTable, LentTrue, PauseFits, Fits, Unrefused, LeftSound}
 use Rattle.demands.proofs.Accepted.{Accepted, accepted-of, accepted-is}
-use Rattle.demands.proofs.Forced.{a-bad-page-is-18, a-record-that-does-not-fit-is-19}
+use Rattle.demands.proofs.Tables.{lent-true-exact}
+use Rattle.demands.proofs.Forced.{a-bad-page-is-18, a-false-table-is-26, a-record-that-does-not-fit-is-19}
 use Rattle.demands.proofs.Fixed.{unread-takes-the-line}
 use Rattle.demands.proofs.Sound.{sound-stays-sound}
 use Rattle.demands.proofs.Five.{no-grammar-refusal-while-running, exactly-5}
@@ -43,32 +44,37 @@ module _ (x : Lent) where
   unrefused-so : Accepted limit x → Unrefused limit x
   unrefused-so a =
       let g = a-good-page (x .page) .0 (a .good) in
-      record { range = a .range; good = g; fits = fits-exact limit (omega arith) (x .page) g (x .session) .0 (a .fit) }
+      record { range = a .range; good = g; table = lent-true-exact x g .0 (a .table); fits = fits-exact limit (omega arith) (x .page) g (x .session) .0 (a .fit) }
 
   unrefused-is : Unrefused limit x → Accepted limit x
   unrefused-is u =
       record {
         range = u .range;
         good = a-good-page (x .page) .1 (u .good);
+        table = lent-true-exact x (u .good) .1 (u .table);
         fit = fits-exact limit (omega arith) (x .page) (u .good) (x .session) .1 (u .fits);
       }
 
   pub unrefused-exact : (firstRefusal limit x ≡ 0) ↔ Unrefused limit x
   unrefused-exact = (λ z. unrefused-so (accepted-of limit x z), λ u. accepted-is (unrefused-is u))
 
-  -- "18, 19: bad page; session record does not fit"
+  -- "18, 19: bad page; session record does not fit"; between them "26, a table that does not describe the page"
   pub no-good-page-is-18 : InRange x → (GoodPage limit (x .page) → ⊥) → BothUnchanged x 18
   no-good-page-is-18 r h = by-cases (isGood limit (x .page)) (λ e. absurd (h (a-good-page (x .page) .0 e))) (a-bad-page-is-18 x r)
 
-  pub no-fitting-record-is-19 : InRange x → GoodPage limit (x .page) → (Fits (x .page) (x .session) → ⊥) → BothUnchanged x 19
-  no-fitting-record-is-19 r g h =
+  pub no-true-table-is-26 : InRange x → GoodPage limit (x .page) → HasTable x → (TrueTable (x .page) (x .table) → ⊥) → BothUnchanged x 26
+  no-true-table-is-26 r g n h =
+      by-cases (tableIsTrue x) (λ e. absurd (h (lent-true-exact x g .0 e n))) (a-false-table-is-26 x r (a-good-page (x .page) .1 g))
+
+  pub no-fitting-record-is-19 : InRange x → GoodPage limit (x .page) → LentTrue x → (Fits (x .page) (x .session) → ⊥) → BothUnchanged x 19
+  no-fitting-record-is-19 r g t h =
       by-cases (fits (x .page) (x .session)) (λ e. absurd (h (fits-exact limit (omega arith) (x .page) g (x .session) .0 e)))
-      (a-record-that-does-not-fit-is-19 x r (a-good-page (x .page) .1 g))
+      (a-record-that-does-not-fit-is-19 x r (a-good-page (x .page) .1 g) (lent-true-exact x g .1 t))
 
   -- "over-long typed line, or no reading"
   pub exactly-5-by-grammar : (g : Gathered) → Sized (x .session) → Unrefused limit x → gatheredLine limit x ≡ some g
       → (takeLine x .answer .stop ≡ 5) ↔ ((g .line .long ≡ true) ⊎ ((y : Typed) → LineReading (g .line .bytes) y → ⊥))
-  exactly-5-by-grammar g sized u line = (by, λ h. ap (λ o. o .answer .stop) (unread-takes-the-line x z g line h)) where
+  exactly-5-by-grammar g sized u line = (by, λ h. ap (λ (o : Left). o .outcome .answer .stop) (unread-takes-the-line x z g line h)) where
     z : firstRefusal limit x ≡ 0
     z = unrefused-exact .1 u
 

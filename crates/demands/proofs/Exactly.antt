@@ -1,4 +1,4 @@
--- Each stop of a call exactly when document 01 says so: 1, 18, 19, a typed line's 7, 3 and 2; the refusals of an immediate statement and of LIST; and those of
+-- Each stop of a call exactly when the documents say so: 1, 18, 26, 19, a typed line's 7, 3 and 2; the refusals of an immediate statement and of LIST; and those of
 -- the statement that ends a run. Assumes nothing.
 use Prim.Native.Nat.{ℕ, suc, _+_}
 use mathlib.Core.Path.{_≡_, refl, sym, ap, subst, _∙_}
@@ -18,94 +18,94 @@ use Rattle.nibl.specs.Readings.{LineReading}
 use Rattle.nibl.specs.Typing.{Gathered}
 use Rattle.nibl.specs.Page.{Stored, isGood, fits, recordsOf, usedBy, hasLine, with, without, programBytes}
 use Rattle.nibl.specs.Meaning.{World, Env, stop, exec}
-use Rattle.nibl.specs.Calls.{Lent, Outcome, noLine, stops, inRange, firstRefusal, begun, lentEnv, edited, listFrom, afterImmediate, needsProgram, obey, takeLine, continueFrom, continueRun, limit}
+use Rattle.nibl.specs.Calls.{Lent, Outcome, Left, noLine, stops, inRange, tableIsTrue, firstRefusal, begun, lentEnv, edited, listFrom, afterImmediate, needsProgram, obey, takeLine, continueRun, limit}
 use Rattle.nibl.specs.declared.Answer.{Answer}
 use Rattle.nibl.proofs.Words.{if-split}
 use Rattle.nibl.proofs.Lines.{typed-sound}
 use Rattle.nibl.proofs.Whole.{typed-complete}
 use Rattle.letter.proofs.Typed.{no-cr, no-cr-left}
 use Rattle.page.proofs.Walk.{by-cases}
-use Rattle.demands.specs.Lent.{InRange, Typing, OneOfThese, firstRefusals}
+use Rattle.demands.specs.Lent.{HasTable, InRange, Typing, OneOfThese}
 use Rattle.demands.specs.Leaves.{others}
-use Rattle.demands.specs.Good.{GoodPage, Fits, Unrefused}
+use Rattle.demands.specs.Good.{GoodPage, TrueTable, LentTrue, Fits, Unrefused}
 use Rattle.demands.specs.Valued.{NoCR}
 use Rattle.demands.specs.Stopped.{NeedsProgram, aDo, anUntil, aFor, aNext, anInput, anInputString, underIf, NeedsOne, DoesNotFit}
-use Rattle.demands.proofs.Numbers.{runNumbers, Obeys, full, unfit, ends, obey-obeys, run-numbers, immediate-numbers, firstNumbers, first-numbers, paused-numbers}
+use Rattle.demands.proofs.Numbers.{runNumbers, run-numbers, immediate-numbers, firstNumbers, first-numbers}
 use Rattle.demands.proofs.Budget.{does-stops, exec-stops}
 use Rattle.demands.proofs.Effects.{list-does}
-use Rattle.demands.proofs.Ways.{Takes, refused, noCR, overlong, unread, reads, every-line, Continues, refused′, continues, every-continue}
-use Rattle.demands.proofs.Accepted.{in-range-of, in-range-is, accepted-of}
+use Rattle.demands.proofs.Ways.{Takes, refused, noCR, overlong, unread, reads, every-line}
+use Rattle.demands.proofs.Accepted.{in-range-of, in-range-is}
 use Rattle.demands.proofs.Forced.{out-of-range-is-1, no-cr-is-7}
 use Rattle.demands.proofs.Good.{fits-exact}
-use Rattle.demands.proofs.ByGrammar.{a-good-page, unrefused-exact, no-good-page-is-18, no-fitting-record-is-19}
-use Rattle.demands.proofs.Fixed.{apart, lines-low, obey-silent}
+use Rattle.demands.proofs.Tables.{lent-true-exact}
+use Rattle.demands.proofs.ByGrammar.{a-good-page, unrefused-exact, no-good-page-is-18, no-true-table-is-26, no-fitting-record-is-19}
+use Rattle.demands.proofs.Fixed.{apart, first-of-line, first-of-continue, seven-says}
 use Rattle.demands.proofs.Retyping.{line-read, absent-none, none-absent, retyping-replaces, no-room, new-empties, deleting-removes, absent-kept}
 use Rattle.demands.proofs.Settling.{needing-a-program-is-3}
 
 abbrev Stops : ℕ → Outcome → Type 0
 Stops n o = o .answer .stop ≡ n
 
+-- the stop of all that is left
+abbrev stopOf : Left → ℕ
+stopOf l = l .outcome .answer .stop
+
 -- The first refusals
-take-first : {x : Lent} {o : Outcome} → Takes limit x o → OneOfThese firstRefusals (o .answer .stop) → firstRefusal limit x ≡ o .answer .stop
-take-first (refused h) i = h
-take-first (noCR z h) i = absurd (false≢true i)
-take-first (overlong g z h l) i = absurd (false≢true i)
-take-first (unread g h r) i = absurd (false≢true i)
-take-first {x = x} (reads g t h r) i = absurd (by (obey-obeys (x .call .budget) (lentEnv limit x) (begun x (g .taken)) t) i) where
-  by : {o : Outcome} → Obeys (lentEnv limit x) (begun x (g .taken)) o → OneOfThese firstRefusals (o .answer .stop) → ⊥
-  by full i = false≢true i
-  by unfit i = false≢true i
-  by (ends {o = o} e) i = apart firstRefusals runNumbers refl (o .answer .stop) i e
-
-continue-first : {x : Lent} {o : Outcome} → Continues limit x o → OneOfThese firstRefusals (o .answer .stop) → firstRefusal limit x ≡ o .answer .stop
-continue-first (refused′ h) i = h
-continue-first {x = x} (continues h) i =
-    absurd (apart firstRefusals runNumbers refl (continueFrom limit x (x .session .paused) .answer .stop) i (paused-numbers limit x (x .session .paused)))
-
 module _ (x : Lent) where
-  first-of-line : (n : ℕ) → OneOfThese firstRefusals n → takeLine x .answer .stop ≡ n → firstRefusal limit x ≡ n
-  unfolding takeLine
-  first-of-line n i h = take-first (every-line limit x) (subst (OneOfThese firstRefusals) (sym h) i) ∙ h
-
-  first-of-continue : (n : ℕ) → OneOfThese firstRefusals n → continueRun x .answer .stop ≡ n → firstRefusal limit x ≡ n
-  unfolding continueRun
-  first-of-continue n i h = continue-first (every-continue limit x) (subst (OneOfThese firstRefusals) (sym h) i) ∙ h
-
   -- what a first refusal says
   one-says : firstRefusal limit x ≡ 1 → InRange x → ⊥
   unfolding firstRefusal
-  one-says h r = by (not (isGood limit (x .page))) (not (fits (x .page) (x .session))) (rw (in-range-is r) at h) where
-    by : (b c : Bool) → _≡_ {A = ℕ} (if b then 18 else if c then 19 else 0) 1 → ⊥
-    by true c h = omega arith
-    by false true h = omega arith
-    by false false h = omega arith
+  one-says h r = by (not (isGood limit (x .page))) (not (tableIsTrue x)) (not (fits (x .page) (x .session))) (rw (in-range-is r) at h) where
+    by : (b c d : Bool) → _≡_ {A = ℕ} (if b then 18 else if c then 26 else if d then 19 else 0) 1 → ⊥
+    by true c d h = omega arith
+    by false true d h = omega arith
+    by false false true h = omega arith
+    by false false false h = omega arith
+
+  -- the tests of what is lent, in their order, and what a number that is no 1 says of them
+  abbrev numbered : Bool → Bool → Bool → Bool → ℕ
+  numbered a b c d = if not a then 1 else if not b then 18 else if not c then 26 else if not d then 19 else 0
 
   eighteen-says : firstRefusal limit x ≡ 18 → InRange x × (isGood limit (x .page) ≡ false)
   unfolding firstRefusal
-  eighteen-says = by (inRange x) refl (isGood limit (x .page)) refl (fits (x .page) (x .session)) where
-    by : (a : Bool) → inRange x ≡ a → (b : Bool) → isGood limit (x .page) ≡ b → (c : Bool)
-        → _≡_ {A = ℕ} (if not a then 1 else if not b then 18 else if not c then 19 else 0) 18
-        → InRange x × (isGood limit (x .page) ≡ false)
-    by true p false q c h = (in-range-of x p, q)
-    by false p b q c h = absurd (omega arith)
-    by true p true q true h = absurd (omega arith)
-    by true p true q false h = absurd (omega arith)
+  eighteen-says = by (inRange x) refl (isGood limit (x .page)) refl (tableIsTrue x) (fits (x .page) (x .session)) where
+    by : (a : Bool) → inRange x ≡ a → (b : Bool) → isGood limit (x .page) ≡ b → (c d : Bool) → numbered a b c d ≡ 18 → InRange x × (isGood limit (x .page) ≡ false)
+    by true p false q c d h = (in-range-of x p, q)
+    by false p b q c d h = absurd (omega arith)
+    by true p true q false d h = absurd (omega arith)
+    by true p true q true true h = absurd (omega arith)
+    by true p true q true false h = absurd (omega arith)
 
-  nineteen-says : firstRefusal limit x ≡ 19 → InRange x × (isGood limit (x .page) ≡ true) × (fits (x .page) (x .session) ≡ false)
+  twenty-six-says : firstRefusal limit x ≡ 26 → InRange x × (isGood limit (x .page) ≡ true) × (tableIsTrue x ≡ false)
   unfolding firstRefusal
-  nineteen-says = by (inRange x) refl (isGood limit (x .page)) refl (fits (x .page) (x .session)) refl where
-    by : (a : Bool) → inRange x ≡ a → (b : Bool) → isGood limit (x .page) ≡ b → (c : Bool) → fits (x .page) (x .session) ≡ c
-        → _≡_ {A = ℕ} (if not a then 1 else if not b then 18 else if not c then 19 else 0) 19 → InRange x × (isGood limit (x .page) ≡ true) × (fits (x .page) (x .session) ≡ false)
-    by true p true q false r h = (in-range-of x p, q, r)
-    by false p b q c r h = absurd (omega arith)
-    by true p false q c r h = absurd (omega arith)
-    by true p true q true r h = absurd (omega arith)
+  twenty-six-says = by (inRange x) refl (isGood limit (x .page)) refl (tableIsTrue x) refl (fits (x .page) (x .session)) where
+    by : (a : Bool) → inRange x ≡ a → (b : Bool) → isGood limit (x .page) ≡ b → (c : Bool) → tableIsTrue x ≡ c → (d : Bool)
+        → numbered a b c d ≡ 26 → InRange x × (isGood limit (x .page) ≡ true) × (tableIsTrue x ≡ false)
+    by true p true q false r d h = (in-range-of x p, q, r)
+    by false p b q c r d h = absurd (omega arith)
+    by true p false q c r d h = absurd (omega arith)
+    by true p true q true r true h = absurd (omega arith)
+    by true p true q true r false h = absurd (omega arith)
+
+  abbrev OnlyUnfit : Type 0
+  OnlyUnfit = InRange x × (isGood limit (x .page) ≡ true) × (tableIsTrue x ≡ true) × (fits (x .page) (x .session) ≡ false)
+
+  nineteen-says : firstRefusal limit x ≡ 19 → OnlyUnfit
+  unfolding firstRefusal
+  nineteen-says = by (inRange x) refl (isGood limit (x .page)) refl (tableIsTrue x) refl (fits (x .page) (x .session)) refl where
+    by : (a : Bool) → inRange x ≡ a → (b : Bool) → isGood limit (x .page) ≡ b → (c : Bool) → tableIsTrue x ≡ c → (d : Bool) → fits (x .page) (x .session) ≡ d
+        → numbered a b c d ≡ 19 → OnlyUnfit
+    by true p true q true r false s h = (in-range-of x p, q, r, s)
+    by false p b q c r d s h = absurd (omega arith)
+    by true p false q c r d s h = absurd (omega arith)
+    by true p true q false r d s h = absurd (omega arith)
+    by true p true q true r true s h = absurd (omega arith)
 
   -- "a length, position or budget outside the above"
   pub one-exactly : ((takeLine x .answer .stop ≡ 1) ↔ (InRange x → ⊥)) × ((continueRun x .answer .stop ≡ 1) ↔ (InRange x → ⊥))
   one-exactly = (
-    (λ h. one-says (first-of-line 1 refl h), λ h. ap (λ (o : Outcome). o .answer .stop) (out-of-range-is-1 x h .0)),
-    (λ h. one-says (first-of-continue 1 refl h), λ h. ap (λ (o : Outcome). o .answer .stop) (out-of-range-is-1 x h .1)),
+    (λ h. one-says (first-of-line x 1 refl h), λ h. ap stopOf (out-of-range-is-1 x h .0)),
+    (λ h. one-says (first-of-continue x 1 refl h), λ h. ap stopOf (out-of-range-is-1 x h .1)),
   )
 
   -- "bad page"
@@ -118,42 +118,51 @@ module _ (x : Lent) where
   pub eighteen-exactly : ((takeLine x .answer .stop ≡ 18) ↔ (InRange x × (GoodPage limit (x .page) → ⊥)))
       × ((continueRun x .answer .stop ≡ 18) ↔ (InRange x × (GoodPage limit (x .page) → ⊥)))
   eighteen-exactly = (
-    (λ h. bad-says (first-of-line 18 refl h), λ h. ap (λ (o : Outcome). o .answer .stop) (no-good-page-is-18 x (h .0) (h .1) .0)),
-    (λ h. bad-says (first-of-continue 18 refl h), λ h. ap (λ (o : Outcome). o .answer .stop) (no-good-page-is-18 x (h .0) (h .1) .1)),
+    (λ h. bad-says (first-of-line x 18 refl h), λ h. ap stopOf (no-good-page-is-18 x (h .0) (h .1) .0)),
+    (λ h. bad-says (first-of-continue x 18 refl h), λ h. ap stopOf (no-good-page-is-18 x (h .0) (h .1) .1)),
+  )
+
+  -- "26, a table that does not describe the page, directly after 18"
+  abbrev FalseTable : Type 0
+  FalseTable = InRange x × GoodPage limit (x .page) × HasTable x × (TrueTable (x .page) (x .table) → ⊥)
+
+  false-says : firstRefusal limit x ≡ 26 → FalseTable
+  false-says h =
+      let s = twenty-six-says h in
+      let g = a-good-page (x .page) .0 (s .1) in
+      let none : LentTrue x → ⊥ = λ t. true≢false (sym (lent-true-exact x g .1 t) ∙ s .2) in
+      (s .0, g, λ e. none (λ n. absurd (n e)), λ t. none (λ n. t))
+
+  pub twenty-six-exactly : ((takeLine x .answer .stop ≡ 26) ↔ (InRange x × GoodPage limit (x .page) × HasTable x × (TrueTable (x .page) (x .table) → ⊥)))
+      × ((continueRun x .answer .stop ≡ 26) ↔ (InRange x × GoodPage limit (x .page) × HasTable x × (TrueTable (x .page) (x .table) → ⊥)))
+  twenty-six-exactly = (
+    (λ h. false-says (first-of-line x 26 refl h), λ h. ap stopOf (no-true-table-is-26 x (h .0) (h .1) (h .2) (h .3) .0)),
+    (λ h. false-says (first-of-continue x 26 refl h), λ h. ap stopOf (no-true-table-is-26 x (h .0) (h .1) (h .2) (h .3) .1)),
   )
 
   -- "session record does not fit"
   abbrev Unfit : Type 0
-  Unfit = InRange x × GoodPage limit (x .page) × (Fits (x .page) (x .session) → ⊥)
+  Unfit = InRange x × GoodPage limit (x .page) × LentTrue x × (Fits (x .page) (x .session) → ⊥)
 
   unfit-says : firstRefusal limit x ≡ 19 → Unfit
   unfit-says h =
       let s = nineteen-says h in
       let g = a-good-page (x .page) .0 (s .1) in
-      (s .0, g, λ f. true≢false (sym (fits-exact limit (omega arith) (x .page) g (x .session) .1 f) ∙ s .2))
+      (s .0, g, lent-true-exact x g .0 (s .2), λ f. true≢false (sym (fits-exact limit (omega arith) (x .page) g (x .session) .1 f) ∙ s .3))
 
-  pub nineteen-exactly : ((takeLine x .answer .stop ≡ 19) ↔ (InRange x × GoodPage limit (x .page) × (Fits (x .page) (x .session) → ⊥)))
-      × ((continueRun x .answer .stop ≡ 19) ↔ (InRange x × GoodPage limit (x .page) × (Fits (x .page) (x .session) → ⊥)))
+  pub nineteen-exactly : ((takeLine x .answer .stop ≡ 19) ↔ (InRange x × GoodPage limit (x .page) × LentTrue x × (Fits (x .page) (x .session) → ⊥)))
+      × ((continueRun x .answer .stop ≡ 19) ↔ (InRange x × GoodPage limit (x .page) × LentTrue x × (Fits (x .page) (x .session) → ⊥)))
   nineteen-exactly = (
-    (λ h. unfit-says (first-of-line 19 refl h), λ h. ap (λ (o : Outcome). o .answer .stop) (no-fitting-record-is-19 x (h .0) (h .1) (h .2) .0)),
-    (λ h. unfit-says (first-of-continue 19 refl h), λ h. ap (λ (o : Outcome). o .answer .stop) (no-fitting-record-is-19 x (h .0) (h .1) (h .2) .1)),
+    (λ h. unfit-says (first-of-line x 19 refl h), λ h. ap stopOf (no-fitting-record-is-19 x (h .0) (h .1) (h .2) (h .3) .0)),
+    (λ h. unfit-says (first-of-continue x 19 refl h), λ h. ap stopOf (no-fitting-record-is-19 x (h .0) (h .1) (h .2) (h .3) .1)),
   )
 
   -- "no CR left in the input", of a typed line: its 7 is the one with no line
-  no-line-left : {o : Outcome} → Takes limit x o → o .answer .stop ≡ 7 → o .answer .line ≡ noLine → Unrefused limit x × NoCR (x .input) (x .call .inpos)
-  no-line-left (refused {n} h) i l = absurd (apart (7 ∷ []) firstNumbers refl (suc n) (rw i refl) (first-numbers limit x (suc n) h))
-  no-line-left (noCR z h) i l = (unrefused-exact x .0 z, no-cr-left limit (drop (x .call .inpos) (x .input)) h)
-  no-line-left (overlong g z h l) i n = absurd (omega arith)
-  no-line-left (unread g h r) i l = absurd (omega arith)
-  no-line-left (reads g t h r) i l =
-      absurd (obey-silent (x .call .budget) (lentEnv limit x) (begun x (g .taken)) t (lines-low limit (x .page) (omega arith) (accepted-of limit x (h .sound) .good)) i l)
-
   pub typed-seven-exactly : ((takeLine x .answer .stop ≡ 7) × (takeLine x .answer .line ≡ noLine)) ↔ (Unrefused limit x × NoCR (x .input) (x .call .inpos))
-  unfolding takeLine
   typed-seven-exactly = (
-    λ h. no-line-left (every-line limit x) (h .0) (h .1),
+    λ h. let s = seven-says x (h .0) (h .1) in (unrefused-exact x .0 (s .0), no-cr-left limit (drop (x .call .inpos) (x .input)) (s .1)),
     λ h. let e = no-cr-is-7 x (unrefused-exact x .1 (h .0)) (no-cr limit (drop (x .call .inpos) (x .input)) (h .1)) in
-        (ap (λ (o : Outcome). o .answer .stop) e, ap (λ (o : Outcome). o .answer .line) e),
+        (ap stopOf e, ap (λ (l : Left). l .outcome .answer .line) e),
   )
 
 -- 3: by the statement's form
@@ -225,7 +234,7 @@ module _ (x : Lent) where
   unfolding takeLine
   three-exactly = (
     λ h. three-of (every-line limit x) h,
-    λ n. ap (λ (o : Outcome). o .answer .stop) (needing-a-program-is-3 x (n .gathered) (n .typing) (n .statement) (n .reading) (needs-one (n .needs))),
+    λ n. ap stopOf (needing-a-program-is-3 x (n .gathered) (n .typing) (n .statement) (n .reading) (needs-one (n .needs))),
   )
 
 -- 2: of a line that is stored alone
@@ -245,7 +254,7 @@ module _ (x : Lent) (g : Gathered) (h : Typing limit x g) where
   two-of-read (delete n) r i =
       by-cases (hasLine n (recordsOf (x .page)))
       (λ e. let a = deleting-removes x g h n r (λ z. true≢false (sym e ∙ none-absent n (recordsOf (x .page)) z)) .0 .answer in absurd (omega (arith, ap (λ (b : Answer). b .stop) a)))
-      (λ e. let a = absent-kept x g h n r (absent-none n (recordsOf (x .page)) e) in absurd (omega (arith, ap (λ (o : Outcome). o .answer .stop) a)))
+      (λ e. let a = absent-kept x g h n r (absent-none n (recordsOf (x .page)) e) in absurd (omega (arith, ap stopOf a)))
   two-of-read (list n) r i =
       absurd (not-run _ (line-read x g (list n) h (typed-complete r)) (immediate-numbers (x .call .budget) (lentEnv limit x) _ (does-stops (list-does (lentEnv limit x) [] n (recordsOf (x .page)) _))) i)
   two-of-read (store n t ms) r i =
@@ -254,7 +263,7 @@ module _ (x : Lent) (g : Gathered) (h : Typing limit x g) where
       (λ e. record { gathered = g; typing = h; line = n; text = t; members = ms; reading = r; full = leb-false _ _ e })
   two-of-read (immediate q) r i = absurd (by (needsProgram q) refl) where
     by : (b : Bool) → needsProgram q ≡ b → ⊥
-    by true n = let e = needing-a-program-is-3 x g h q r n in omega (arith, ap (λ (o : Outcome). o .answer .stop) e)
+    by true n = let e = needing-a-program-is-3 x g h q r n in omega (arith, ap stopOf e)
     by false n = not-run _ (line-read x g (immediate q) h (typed-complete r)) (rw (n, obey) (immediate-numbers (x .call .budget) (lentEnv limit x) _ (exec-stops (lentEnv limit x) q _))) i
 
 module _ (x : Lent) where
@@ -270,5 +279,5 @@ module _ (x : Lent) where
   unfolding takeLine
   two-exactly = (
     λ h. two-of refl (every-line limit x) h,
-    λ n. ap (λ (o : Outcome). o .answer .stop) (no-room x (n .gathered) (n .typing) (n .line) (n .text) (n .members) (n .reading) (n .full)),
+    λ n. ap stopOf (no-room x (n .gathered) (n .typing) (n .line) (n .text) (n .members) (n .reading) (n .full)),
   )

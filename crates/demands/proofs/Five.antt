@@ -11,7 +11,7 @@ use Rattle.nibl.specs.Readings.{LineReading}
 use Rattle.nibl.specs.Read.{typed}
 use Rattle.nibl.specs.Typing.{Gathered, gather}
 use Rattle.nibl.specs.Meaning.{World, Env}
-use Rattle.nibl.specs.Calls.{Lent, Outcome, runFrom, firstRefusal, obey, begun, takeLine, takeLineIn, continueRun, continueRunIn, limit, lentEnv}
+use Rattle.nibl.specs.Calls.{Lent, Outcome, runFrom, firstRefusal, obey, begun, takeLine, takeLineIn, continueRun, continueRunIn, leaves, limit, lentEnv}
 use Rattle.nibl.proofs.Exact.{typed-exact}
 use Rattle.page.specs.Standing.{Stands}
 use Rattle.record.specs.Sound.{Sized, Sound}
@@ -92,6 +92,6 @@ unfolding takeLine
 exactly-5 x g z f h l = five-within limit (omega arith) x z g f h l
 
 -- "5 takes the line, ends the pause and changes nothing else"
-pub five-takes-only-the-line : (x : Lent) → Sized (x .session) → takeLine x .answer .stop ≡ 5 → TakesLine x 5 (takeLine x)
+pub five-takes-only-the-line : (x : Lent) → Sized (x .session) → takeLine x .answer .stop ≡ 5 → TakesLine x 5 (leaves takeLine x)
 five-takes-only-the-line x z =
     five-takes-the-line x (λ g t y r. read-other limit (omega arith) x z g t y (typed-exact (g .line .bytes) t .1 r))

@@ -1,5 +1,5 @@
--- "Fixed effects" of the calls: what 1, 18, 19, a typed line's 7, and 2, 3 and 5 leave. Assumes nothing.
-use Prim.Native.Nat.{ℕ, suc, _-_, _≤_, _<_}
+-- "Fixed effects" of the calls: what 1, 18, 26, 19, a typed line's 7, and 2, 3 and 5 leave. Assumes nothing.
+use Prim.Native.Nat.{ℕ, zero, suc, _-_, _≤_, _<_}
 use mathlib.Core.Path.{_≡_, refl, sym, ap, subst, _∙_}
 use mathlib.Core.Bool.{Bool, true, false, _||_, false≢true, true≢false}
 use mathlib.Core.Logic.{_⊎_, inl, inr}
@@ -17,17 +17,19 @@ use Rattle.nibl.specs.Readings.{LineReading}
 use Rattle.nibl.specs.Typing.{Gathered}
 use Rattle.nibl.specs.Page.{Stored, isAmong, isGood, recordsOf, size, lineIn, lineOf, hasLine, without, with, programBytes, onto}
 use Rattle.nibl.specs.Meaning.{World, Env, stop, Done, withSession, exec}
-use Rattle.nibl.specs.Calls.{Lent, Outcome, noLine, stopAt, envAt, runFrom, runOutcome, stops, refusedLine, firstRefusal, begun, lentEnv, edited, afterImmediate, needsProgram, obey, obeyRead, takeLine, takeLineIn, continueFrom, continueRun, limit}
+use Rattle.nibl.specs.Calls.{Lent, Outcome, noLine, stopAt, envAt, runFrom, runOutcome, stops, refusedLine, firstRefusal, begun, lentEnv, edited, afterImmediate, needsProgram, obey, obeyRead, takeLine, takeLineIn, continueFrom, continueRun, leaves, limit}
 use Rattle.nibl.specs.Record.{stackless}
 use Rattle.nibl.proofs.Words.{if-split}
 use Rattle.nibl.proofs.Lines.{typed-sound}
 use Rattle.page.proofs.Program.{Program, none as no-record, each}
 use Rattle.page.proofs.Laid.{good-laid, laid-program}
 use Rattle.demands.specs.Lent.{gatheredLine, Typing, OneOfThese, firstRefusals, twoAndThree}
-use Rattle.demands.specs.Leaves.{unchanged, lineTakenAt, spotOf, TakesLine}
+use Rattle.demands.specs.Leaves.{unchanged, BothUnchanged, lineTakenAt, spotOf, columnAt, TakesLine}
 use Rattle.demands.proofs.Runs.{placeEnding, crOf, after-law, every-run}
 use Rattle.demands.proofs.Ways.{Takes, refused, noCR, overlong, unread, reads, every-line, Continues, refused′, continues, every-continue}
 use Rattle.demands.proofs.Accepted.{accepted-of}
+use Rattle.demands.proofs.Tables.{left-kept}
+use Rattle.demands.proofs.Forced.{refused-both, no-cr-is-7}
 use Rattle.demands.proofs.Numbers.{runNumbers, Obeys, full, unfit, ends, obey-obeys, firstNumbers, first-numbers, paused-numbers}
 use Rattle.demands.proofs.Refusing.{quiet, Refusing, goes, skips, jumps, refuses, exec-refuses, list-refuses, needs-asks}
 use Rattle.demands.proofs.Refusing as refusing
@@ -46,29 +48,41 @@ apart (m ∷ ms) ns h n g i = by (λ h g. apart ms ns h n g i) (isAmong ns m) re
   by f false e h true k g = true≢false (sym i ∙ ap (isAmong ns) (eqb-true n m k) ∙ e)
   by f false e h false k g = f h g
 
--- "1, 18, 19 change nothing"
-take-first : {x : Lent} {o : Outcome} → Takes limit x o → OneOfThese firstRefusals (o .answer .stop) → o ≡ unchanged x (o .answer .stop)
-take-first (refused h) i = refl
+-- "1, 18, 19 change nothing", and 26: which it is says what was refused at first
+take-first : {x : Lent} {o : Outcome} → Takes limit x o → OneOfThese firstRefusals (o .answer .stop) → firstRefusal limit x ≡ o .answer .stop
+take-first (refused h) i = h
 take-first (noCR z h) i = absurd (false≢true i)
 take-first (overlong g z h l) i = absurd (false≢true i)
 take-first (unread g h r) i = absurd (false≢true i)
-take-first {x = x} (reads g t h r) i = by (obey-obeys (x .call .budget) (lentEnv limit x) (begun x (g .taken)) t) i where
-  by : {o : Outcome} → Obeys (lentEnv limit x) (begun x (g .taken)) o → OneOfThese firstRefusals (o .answer .stop) → o ≡ unchanged x (o .answer .stop)
-  by full i = absurd (false≢true i)
-  by unfit i = absurd (false≢true i)
-  by (ends {o = o} e) i = absurd (apart firstRefusals runNumbers refl (o .answer .stop) i e)
+take-first {x = x} (reads g t h r) i = absurd (by (obey-obeys (x .call .budget) (lentEnv limit x) (begun x (g .taken)) t) i) where
+  by : {o : Outcome} → Obeys (lentEnv limit x) (begun x (g .taken)) o → OneOfThese firstRefusals (o .answer .stop) → ⊥
+  by full i = false≢true i
+  by unfit i = false≢true i
+  by (ends {o = o} e) i = apart firstRefusals runNumbers refl (o .answer .stop) i e
 
-continue-first : {x : Lent} {o : Outcome} → Continues limit x o → OneOfThese firstRefusals (o .answer .stop) → o ≡ unchanged x (o .answer .stop)
-continue-first (refused′ h) i = refl
-continue-first {x = x} (continues h) i = absurd (apart firstRefusals runNumbers refl (continueFrom limit x (x .session .paused) .answer .stop) i (paused-numbers limit x (x .session .paused)))
+continue-first : {x : Lent} {o : Outcome} → Continues limit x o → OneOfThese firstRefusals (o .answer .stop) → firstRefusal limit x ≡ o .answer .stop
+continue-first (refused′ h) i = h
+continue-first {x = x} (continues h) i =
+    absurd (apart firstRefusals runNumbers refl (continueFrom limit x (x .session .paused) .answer .stop) i (paused-numbers limit x (x .session .paused)))
 
-pub first-refusals-change-nothing : (x : Lent) → OneOfThese firstRefusals (takeLine x .answer .stop) → takeLine x ≡ unchanged x (takeLine x .answer .stop)
-unfolding takeLine
-first-refusals-change-nothing x = take-first (every-line limit x)
+module _ (x : Lent) where
+  pub first-of-line : (n : ℕ) → OneOfThese firstRefusals n → takeLine x .answer .stop ≡ n → firstRefusal limit x ≡ n
+  unfolding takeLine
+  first-of-line n i h = take-first (every-line limit x) (subst (OneOfThese firstRefusals) (sym h) i) ∙ h
 
-pub first-refusals-of-continue : (x : Lent) → OneOfThese firstRefusals (continueRun x .answer .stop) → continueRun x ≡ unchanged x (continueRun x .answer .stop)
-unfolding continueRun
-first-refusals-of-continue x = continue-first (every-continue limit x)
+  pub first-of-continue : (n : ℕ) → OneOfThese firstRefusals n → continueRun x .answer .stop ≡ n → firstRefusal limit x ≡ n
+  unfolding continueRun
+  first-of-continue n i h = continue-first (every-continue limit x) (subst (OneOfThese firstRefusals) (sym h) i) ∙ h
+
+  refused-at : (n : ℕ) → OneOfThese firstRefusals n → firstRefusal limit x ≡ n → BothUnchanged x n
+  refused-at zero i h = absurd (false≢true i)
+  refused-at (suc n) i h = refused-both x n h
+
+pub first-refusals-change-nothing : (x : Lent) → OneOfThese firstRefusals (takeLine x .answer .stop) → leaves takeLine x ≡ unchanged x (takeLine x .answer .stop)
+first-refusals-change-nothing x i = refused-at x (takeLine x .answer .stop) i (first-of-line x _ i refl) .0
+
+pub first-refusals-of-continue : (x : Lent) → OneOfThese firstRefusals (continueRun x .answer .stop) → leaves continueRun x ≡ unchanged x (continueRun x .answer .stop)
+first-refusals-of-continue x i = refused-at x (continueRun x .answer .stop) i (first-of-continue x _ i refl) .1
 
 -- No line of a good page has the number of none: a host can tell an answer with a line from one without
 abbrev pub Lined : List ℕ → Type 0
@@ -144,67 +158,85 @@ obey-silent k e w (immediate q) low = by (needsProgram q) refl where
   by true n h l = omega arith
   by false n h l = immediate-silent k e low (rw (needs-asks q n .0) at (exec-refuses e q w)) h l
 
-take-seven : {x : Lent} {o : Outcome} → Takes limit x o → o .answer .stop ≡ 7 → o .answer .line ≡ noLine → o ≡ unchanged x 7
-take-seven {x = x} (refused h) i l = ap (unchanged x) i
-take-seven (noCR z h) i l = refl
-take-seven (overlong g z h l) i n = absurd (omega arith)
-take-seven (unread g h r) i l = absurd (omega arith)
-take-seven {x = x} (reads g t h r) i l =
-    absurd (obey-silent (x .call .budget) (lentEnv limit x) (begun x (g .taken)) t (lines-low limit (x .page) (omega arith) (accepted-of limit x (h .sound) .good)) i l)
+module _ (x : Lent) where
+  take-seven : {o : Outcome} → Takes limit x o → o .answer .stop ≡ 7 → o .answer .line ≡ noLine → (firstRefusal limit x ≡ 0) × (gatheredLine limit x ≡ none)
+  take-seven (refused {n} h) i l = absurd (apart (7 ∷ []) firstNumbers refl (suc n) (rw i refl) (first-numbers limit x (suc n) h))
+  take-seven (noCR z h) i l = (z, h)
+  take-seven (overlong g z h l) i n = absurd (omega arith)
+  take-seven (unread g h r) i l = absurd (omega arith)
+  take-seven (reads g t h r) i l =
+      absurd (obey-silent (x .call .budget) (lentEnv limit x) (begun x (g .taken)) t (lines-low limit (x .page) (omega arith) (accepted-of limit x (h .sound) .good)) i l)
+
+  pub seven-says : takeLine x .answer .stop ≡ 7 → takeLine x .answer .line ≡ noLine → (firstRefusal limit x ≡ 0) × (gatheredLine limit x ≡ none)
+  unfolding takeLine
+  seven-says = take-seven (every-line limit x)
 
 -- "and 7 at the typed line, change nothing"
-pub no-cr-changes-nothing : (x : Lent) → takeLine x .answer .stop ≡ 7 → takeLine x .answer .line ≡ noLine → takeLine x ≡ unchanged x 7
-unfolding takeLine
-no-cr-changes-nothing x = take-seven (every-line limit x)
+pub no-cr-changes-nothing : (x : Lent) → takeLine x .answer .stop ≡ 7 → takeLine x .answer .line ≡ noLine → leaves takeLine x ≡ unchanged x 7
+no-cr-changes-nothing x i l = let s = seven-says x i l in no-cr-is-7 x (s .0) (s .1)
 
--- "2, 3 and 5 take the line and end a pause", and change nothing else
-take-two-three : {x : Lent} {o : Outcome} → Takes limit x o → OneOfThese twoAndThree (o .answer .stop) → TakesLine x (o .answer .stop) o
+-- "2, 3 and 5 take the line and end a pause", and change nothing else, the table neither
+record Took (x : Lent) (n : ℕ) (o : Outcome) : Type 0 where
+  sound : firstRefusal limit x ≡ 0
+  gathered : Gathered
+  line : gatheredLine limit x ≡ some gathered
+  outcome : o ≡ lineTakenAt x n (gathered .taken) (columnAt n gathered) .outcome
+
+took-left : (x : Lent) (n : ℕ) → Took x n (takeLine x) → TakesLine x n (leaves takeLine x)
+took-left x n t = record { gathered = t .gathered; line = t .line; leaves = left-kept takeLine x _ (t .outcome) (t .sound) refl }
+
+take-two-three : {x : Lent} {o : Outcome} → Takes limit x o → OneOfThese twoAndThree (o .answer .stop) → Took x (o .answer .stop) o
 take-two-three {x = x} (refused {n} h) i = absurd (apart twoAndThree firstNumbers refl (suc n) i (first-numbers limit x (suc n) h))
 take-two-three (noCR z h) i = absurd (false≢true i)
 take-two-three (overlong g z h l) i = absurd (false≢true i)
 take-two-three (unread g h r) i = absurd (false≢true i)
 take-two-three {x = x} (reads g t h r) i = by (obey-obeys (x .call .budget) (lentEnv limit x) (begun x (g .taken)) t) i where
-  by : {o : Outcome} → Obeys (lentEnv limit x) (begun x (g .taken)) o → OneOfThese twoAndThree (o .answer .stop) → TakesLine x (o .answer .stop) o
-  by full i = record { gathered = g; line = h .line; leaves = refl }
-  by unfit i = record { gathered = g; line = h .line; leaves = refl }
+  by : {o : Outcome} → Obeys (lentEnv limit x) (begun x (g .taken)) o → OneOfThese twoAndThree (o .answer .stop) → Took x (o .answer .stop) o
+  by full i = record { sound = h .sound; gathered = g; line = h .line; outcome = refl }
+  by unfit i = record { sound = h .sound; gathered = g; line = h .line; outcome = refl }
   by (ends {o = o} e) i = absurd (apart twoAndThree runNumbers refl (o .answer .stop) i e)
 
-pub two-and-three-take-the-line : (x : Lent) → OneOfThese twoAndThree (takeLine x .answer .stop) → TakesLine x (takeLine x .answer .stop) (takeLine x)
+pub two-and-three-take-the-line : (x : Lent) → OneOfThese twoAndThree (takeLine x .answer .stop) → TakesLine x (takeLine x .answer .stop) (leaves takeLine x)
 unfolding takeLine
-two-and-three-take-the-line x = take-two-three (every-line limit x)
+two-and-three-take-the-line x i = took-left x _ (take-two-three (every-line limit x) i)
 
 -- 5 is a typed line's where no run gives it
 module _ (x : Lent) where
-  at-spot : (g : Gathered) {b : Bool} → g .line .long ≡ b → lineTakenAt x 5 (g .taken) (if b then limit else columnOf (g .line .bytes)) ≡ lineTakenAt x 5 (g .taken) (spotOf g)
-  at-spot g l = ap (λ (b : Bool). lineTakenAt x 5 (g .taken) (if b then limit else columnOf (g .line .bytes))) (sym l)
+  at-spot : (g : Gathered) {b : Bool} → g .line .long ≡ b
+      → lineTakenAt x 5 (g .taken) (if b then limit else columnOf (g .line .bytes)) .outcome ≡ lineTakenAt x 5 (g .taken) (spotOf g) .outcome
+  at-spot g l = ap (λ (b : Bool). lineTakenAt x 5 (g .taken) (if b then limit else columnOf (g .line .bytes)) .outcome) (sym l)
 
   take-five : {o : Outcome} → Takes limit x o
       → ((g : Gathered) (y : Typed) → Typing limit x g → LineReading (g .line .bytes) y
       → obey (x .call .budget) (lentEnv limit x) (begun x (g .taken)) y .answer .stop ≡ 5 → ⊥)
-      → o .answer .stop ≡ 5 → TakesLine x 5 o
+      → o .answer .stop ≡ 5 → Took x 5 o
   take-five (refused {n} h) f i = absurd (apart (5 ∷ []) firstNumbers refl (suc n) (rw i refl) (first-numbers limit x (suc n) h))
   take-five (noCR z h) f i = absurd (omega arith)
-  take-five (overlong g z h l) f i = record { gathered = g; line = h; leaves = at-spot g l }
-  take-five (unread g h r) f i = record { gathered = g; line = h .line; leaves = at-spot g (h .short) }
+  take-five (overlong g z h l) f i = record { sound = z; gathered = g; line = h; outcome = at-spot g l }
+  take-five (unread g h r) f i = record { sound = h .sound; gathered = g; line = h .line; outcome = at-spot g (h .short) }
   take-five (reads g t h r) f i = absurd (f g t h (typed-sound (g .line .bytes) t r) i)
 
   pub five-takes-the-line : ((g : Gathered) (y : Typed) → Typing limit x g → LineReading (g .line .bytes) y
       → obey (x .call .budget) (lentEnv limit x) (begun x (g .taken)) y .answer .stop ≡ 5 → ⊥)
-      → takeLine x .answer .stop ≡ 5 → TakesLine x 5 (takeLine x)
+      → takeLine x .answer .stop ≡ 5 → TakesLine x 5 (leaves takeLine x)
   unfolding takeLine
-  five-takes-the-line = take-five (every-line limit x)
+  five-takes-the-line f i = took-left x 5 (take-five (every-line limit x) f i)
 
   -- over-long, or with no reading
-  pub unread-takes-the-line : firstRefusal limit x ≡ 0 → (g : Gathered) → gatheredLine limit x ≡ some g
-      → (g .line .long ≡ true) ⊎ ((y : Typed) → LineReading (g .line .bytes) y → ⊥) → takeLine x ≡ lineTakenAt x 5 (g .taken) (spotOf g)
+  unread-taken : firstRefusal limit x ≡ 0 → (g : Gathered) → gatheredLine limit x ≡ some g
+      → (g .line .long ≡ true) ⊎ ((y : Typed) → LineReading (g .line .bytes) y → ⊥) → takeLine x ≡ lineTakenAt x 5 (g .taken) (spotOf g) .outcome
   unfolding takeLine takeLineIn
-  unread-takes-the-line z g h (inl l) = rw (z, takeLineIn) (rw h (rw l))
-  unread-takes-the-line z g h (inr f) = rw (z, takeLineIn) (rw h (by (g .line .long) (typed (g .line .bytes)) refl)) where
+  unread-taken z g h (inl l) = rw (z, takeLineIn) (rw h (rw l))
+  unread-taken z g h (inr f) = rw (z, takeLineIn) (rw h (by (g .line .long) (typed (g .line .bytes)) refl)) where
     by : (b : Bool) (o : Option Typed) → typed (g .line .bytes) ≡ o
         → elim b [
           | true ↦ refusedLine limit (begun x (g .taken)) (x .page)
           | false ↦ obeyRead (x .call .budget) (lentEnv limit x) (begun x (g .taken)) (columnOf (g .line .bytes)) o
-        ] ≡ lineTakenAt x 5 (g .taken) (if b then limit else columnOf (g .line .bytes))
+        ] ≡ lineTakenAt x 5 (g .taken) (if b then limit else columnOf (g .line .bytes)) .outcome
     by true o e = refl
     by false none e = refl
     by false (some y) e = absurd (f y (typed-sound (g .line .bytes) y e))
+
+  pub unread-takes-the-line : firstRefusal limit x ≡ 0 → (g : Gathered) → gatheredLine limit x ≡ some g
+      → (g .line .long ≡ true) ⊎ ((y : Typed) → LineReading (g .line .bytes) y → ⊥) → leaves takeLine x ≡ lineTakenAt x 5 (g .taken) (spotOf g)
+  unread-takes-the-line z g h u = left-kept takeLine x _ (unread-taken z g h u) z refl

@@ -6,6 +6,7 @@ pub mod Budget
 pub mod Ways
 pub mod Numbers
 pub mod Accepted
+pub mod Tables
 pub mod Forced
 pub mod Immediate
 pub mod Running

@@ -23,7 +23,7 @@ use Rattle.nibl.specs.Values.{digits}
 use Rattle.nibl.specs.Page.{Stored, programBytes, recordsOf, usedBy, used, fits, with, onto}
 use Rattle.nibl.specs.Record.{unpaused, stackless}
 use Rattle.nibl.specs.Meaning.{World, withSession, withOutput, on, done, put}
-use Rattle.nibl.specs.Calls.{Lent, stops, firstRefusal, begun, lentEnv, listed, listFrom, afterImmediate, edited, obey, takeLine, limit}
+use Rattle.nibl.specs.Calls.{Lent, Outcome, stops, firstRefusal, begun, lentEnv, listed, listFrom, afterImmediate, edited, obey, takeLine, limit}
 use Rattle.nibl.specs.declared.Session.{Session}
 use Rattle.nibl.proofs.Ends.{line-text}
 use Rattle.nibl.proofs.Lines.{reading-sound}
@@ -43,6 +43,7 @@ use Rattle.demands.specs.Lent.{Typing}
 use Rattle.demands.specs.Listing.{listingOf, listingRoom, written, ListsWhole, lentNext, afterLines, answers, Stops0, lastLF, RoundTrip}
 use Rattle.demands.specs.Listing as listings
 use Rattle.demands.proofs.Accepted.{Accepted, accepted-of, accepted-is}
+use Rattle.demands.proofs.Tables.{true-after, long-after}
 use Rattle.demands.proofs.Retyping.{program, program-room, line-read, edited-fits, onto-length, onto-after, onto-used}
 
 -- What LIST writes
@@ -230,7 +231,13 @@ module _ (m : Lent) (ds rs : List Stored) (r : Stored) (p : Program limit 0 (ds 
   long : length (y .page) ≡ length (m .page)
   long = rw (t .page) (onto-length (m .page) ds (omega (arith, used-front ds (r ∷ rs))))
 
-  line-stored : takeLine y ≡ stops 0 (withSession (begun y (g .taken)) (stackless (unpaused (y .session)))) (onto (m .page) more)
+  abbrev stored : Outcome
+  stored = stops 0 (withSession (begun y (g .taken)) (stackless (unpaused (y .session)))) (onto (m .page) more)
+
+  accepted : firstRefusal limit y ≡ 0
+  accepted = accepted-is (t .sound)
+
+  line-stored : takeLine y ≡ stored
   unfolding obey
   line-stored = listed-read r storable (λ ms l.
       line-read y g (store (r .line) (r .text) ms) typing (typed-complete l)
@@ -257,8 +264,10 @@ module _ (m : Lent) (ds rs : List Stored) (r : Stored) (p : Program limit 0 (ds 
             inpos = inside;
             outpos = r′ .outpos;
             budget = r′ .budget;
+            table = long-after limit y stored accepted (omega (arith, onto-length (m .page) more more-room, long, r′ .page));
           };
           good = onto-good (m .page) more-program;
+          table = true-after limit y stored accepted;
           fit = stackless-fits (onto (m .page) more) (y .session) (fits-tests (y .page) (y .session) (t .sound .fit) .flags);
         };
         page = refl;
@@ -340,6 +349,7 @@ module _ (x : Lent) (bytes′ : Bytes (x .page)) (g : Gathered) (h : Typing limi
         after = rw (t .page) (onto-after (y .page) (recordsOf (x .page)));
         memory = t .memory;
         output = t .output;
+        table = t .sound .table;
         left = t .left ∙ append-nil (lastLF (recordsOf (x .page)));
       }
 

@@ -9,7 +9,7 @@ use Rattle.nibl.specs.Bytes.{if_then_else_}
 use Rattle.nibl.specs.Tree.{Typed, blank, new, clear, run, delete, list, store, immediate}
 use Rattle.nibl.specs.Page.{Stored, isGood, fits, recordsOf, hasLine, without, with, programBytes, onto}
 use Rattle.nibl.specs.Meaning.{World, Env, on, skip, go, stop, Done, done, withSession, exec}
-use Rattle.nibl.specs.Calls.{Lent, Outcome, Ran, stepped, afterStep, envAt, runFrom, stops, inRange, firstRefusal, edited, listFrom, afterImmediate, needsProgram, obey, takeLine, continueFrom, continueRun, limit, begun, lentEnv}
+use Rattle.nibl.specs.Calls.{Lent, Outcome, Ran, stepped, afterStep, envAt, runFrom, stops, inRange, tableIsTrue, firstRefusal, edited, listFrom, afterImmediate, needsProgram, obey, takeLine, continueFrom, continueRun, limit, begun, lentEnv}
 use Rattle.nibl.specs.Record.{stackless}
 use Rattle.demands.specs.Lent.{OneOfThese, replyNumbers, Numbered}
 use Rattle.demands.proofs.Runs.{placeEnding, crOf, every-run}
@@ -35,16 +35,18 @@ run-numbers k e q w =
 
 -- the first refusals, and 0 for none
 abbrev pub firstNumbers : List ℕ
-firstNumbers = 0 ∷ 1 ∷ 18 ∷ 19 ∷ []
+firstNumbers = 0 ∷ 1 ∷ 18 ∷ 26 ∷ 19 ∷ []
 
 pub first-numbers : (lim : ℕ) (x : Lent) (n : ℕ) → firstRefusal lim x ≡ n → OneOfThese firstNumbers n
 unfolding firstRefusal
-first-numbers lim x n h = subst (OneOfThese firstNumbers) h (by (not (inRange x)) (not (isGood lim (x .page))) (not (fits (x .page) (x .session)))) where
-  by : (a b c : Bool) → OneOfThese firstNumbers (if a then 1 else if b then 18 else if c then 19 else 0)
-  by true b c = refl
-  by false true c = refl
-  by false false true = refl
-  by false false false = refl
+first-numbers lim x n h =
+    subst (OneOfThese firstNumbers) h (by (not (inRange x)) (not (isGood lim (x .page))) (not (tableIsTrue x)) (not (fits (x .page) (x .session)))) where
+      by : (a b c d : Bool) → OneOfThese firstNumbers (if a then 1 else if b then 18 else if c then 26 else if d then 19 else 0)
+      by true b c d = refl
+      by false true c d = refl
+      by false false true d = refl
+      by false false false true = refl
+      by false false false false = refl
 
 -- how a read line ends: with no room, in need of a program, or with a number of a run
 pub data Obeys (e : Env) (w : World) : Outcome → Type 0 where

@@ -23,7 +23,7 @@ use Rattle.demands.specs.OnPage.{RecordsStand, noMore, oneMore, LineStan
 use Rattle.demands.proofs.Good.{good-exact, whole-record, record-unended}
 
 -- a record that stands where one was found is that one
-same-size : {lim at n : ℕ} {page t : List ℕ} {r : Stored} → Whole lim page at r → RecordAt page at n t → size r ≡ length t + 4
+pub same-size : {lim at n : ℕ} {page t : List ℕ} {r : Stored} → Whole lim page at r → RecordAt page at n t → size r ≡ length t + 4
 same-size w a = sym (w .long) ∙ ap lengthAt (a .bytes)
 
 same-line : {lim at n : ℕ} {page t : List ℕ} {r : Stored} → Whole lim page at r → RecordAt page at n t → r .line ≡ n

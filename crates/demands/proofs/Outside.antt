@@ -13,7 +13,7 @@ use Rattle.nibl.specs.Readings.{LineReading}
 use Rattle.nibl.specs.Typing.{Gathered}
 use Rattle.nibl.specs.Page.{Stored, recordsOf, programBytes, hasLine, with, without, onto}
 use Rattle.nibl.specs.Meaning.{World, Env, on, skip, go, stop, Done, done, withSession, exec}
-use Rattle.nibl.specs.Calls.{Lent, Outcome, runFrom, outcome, runOutcome, stops, lentWorld, begun, lentEnv, edited, listFrom, afterImmediate, needsProgram, obey, takeLine, continueFrom, continueRun, limit}
+use Rattle.nibl.specs.Calls.{Lent, Outcome, Left, runFrom, outcome, runOutcome, stops, lentWorld, begun, lentEnv, edited, listFrom, afterImmediate, needsProgram, obey, takeLine, continueFrom, continueRun, leaves, limit}
 use Rattle.nibl.specs.Record.{stackless}
 use Rattle.nibl.specs.declared.Session.{Session}
 use Rattle.nibl.proofs.Determined.{determined}
@@ -201,11 +201,19 @@ module _ (x : Lent) where
   lengths-held = (take-held (every-line limit x), continue-held (every-continue limit x))
 
 -- "One outcome": what meets the promise for the same inputs is the same
-agrees : {a b : Outcome} → a ≡ b → Agrees a b
-agrees e = record { answer = ap (λ o. o .answer) e; session = ap (λ o. o .session) e; page = ap (λ o. o .page) e; memory = ap (λ o. o .memory) e; output = ap (λ o. o .output) e }
+agrees : {a b : Left} → a ≡ b → Agrees a b
+agrees e =
+    record {
+      answer = ap (λ l. l .outcome .answer) e;
+      session = ap (λ l. l .outcome .session) e;
+      page = ap (λ l. l .outcome .page) e;
+      memory = ap (λ l. l .outcome .memory) e;
+      output = ap (λ l. l .outcome .output) e;
+      table = ap (λ l. l .table) e;
+    }
 
-pub one-outcome : (x : Lent) (a b : Outcome) → a ≡ takeLine x → b ≡ takeLine x → Agrees a b
-one-outcome x a b p q = agrees (determined (takeLine x) a b p q)
+pub one-outcome : (x : Lent) (a b : Left) → a ≡ leaves takeLine x → b ≡ leaves takeLine x → Agrees a b
+one-outcome x a b p q = agrees (determined (leaves takeLine x) a b p q)
 
-pub one-outcome-of-continue : (x : Lent) (a b : Outcome) → a ≡ continueRun x → b ≡ continueRun x → Agrees a b
-one-outcome-of-continue x a b p q = agrees (determined (continueRun x) a b p q)
+pub one-outcome-of-continue : (x : Lent) (a b : Left) → a ≡ leaves continueRun x → b ≡ leaves continueRun x → Agrees a b
+one-outcome-of-continue x a b p q = agrees (determined (leaves continueRun x) a b p q)

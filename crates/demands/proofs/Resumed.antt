@@ -15,7 +15,7 @@ use Rattle.nibl.specs.Column.{columnOf}
 use Rattle.nibl.specs.Typing.{Gathered}
 use Rattle.nibl.specs.Page.{isGood, placesOf}
 use Rattle.nibl.specs.Meaning.{World, Env, withSession}
-use Rattle.nibl.specs.Calls.{Lent, Outcome, Ran, runFrom, stopAt, runOutcome, stops, refusedLine, outcome, pausing, firstRefusal, begun, lentEnv, obeyRead, obeyLine, takeLine, takeLineIn, continueFrom, continueRun, continueRunIn, limit}
+use Rattle.nibl.specs.Calls.{Lent, Outcome, Ran, runFrom, stopAt, runOutcome, stops, refusedLine, outcome, pausing, firstRefusal, begun, lentEnv, obeyRead, obeyLine, takeLine, takeLineIn, continueFrom, continueRun, continueRunIn, tableAfter, lentAll, withPositions, limit}
 use Rattle.nibl.specs.Record.{withPaused, pausedAt}
 use Rattle.page.proofs.Walk.{by-cases}
 use Rattle.demands.specs.Lent.{budgeted, gatheredLine, Typing, InRange}
@@ -28,6 +28,7 @@ use Rattle.demands.specs.Sound.{resumed, continued, total}
 use Rattle.demands.proofs.Budget.{wentOnWith, split-run}
 use Rattle.demands.proofs.Held.{Steady, run-steady, then-lengths}
 use Rattle.demands.proofs.Accepted.{accepted-of, accepted-is, accepted-less, take-at, continue-at}
+use Rattle.demands.proofs.Tables.{table-kept}
 use Rattle.demands.proofs.Running.{Goings, runsOut, pauses, steps, run-goes}
 use Rattle.demands.proofs.Running.{stops as halts}
 use Rattle.demands.proofs.Carried.{Placed, run-placed}
@@ -67,13 +68,17 @@ module _ (lim : ℕ) (short : lim ≤ 251) (x : Lent) (good : isGood lim (x .pag
     paused : pausing (r a .stop) (r a .at) (r a .world) ≡ withSession (r a .world) (withPaused (r a .world .session) (pausedAt (r a .at)))
     paused = rw (eq-eqb (r a .stop) 14 e)
 
+    -- the table is as it was
+    same-table : tableAfter limit x (o a) ≡ x .table
+    same-table = table-kept limit x (o a) (accepted-of lim (budgeted (a + b) x) z .table) refl
+
     accepted : firstRefusal lim (y a b) ≡ 0
     accepted =
         let c = accepted-of lim (budgeted (a + b) x) z .range in
         let n = then-lengths (l .lengths) (run-steady a (lentEnv lim x) q w .lengths) in
         let d = run-settled lim (lentEnv lim x) short good a q w s f .sound in
         let h : InRange (y a b) =
-        rw paused
+        rw (same-table, paused)
         (record {
           some = c .some;
           page = c .page;
@@ -83,8 +88,9 @@ module _ (lim : ℕ) (short : lim ≤ 251) (x : Lent) (good : isGood lim (x .pag
           inpos = left .inside;
           outpos = left .room;
           budget = omega (arith, c .budget);
+          table = c .table;
         }) in
-        accepted-is (record { range = h; good = d .good; fit = d .fitting })
+        accepted-is (record { range = h; good = d .good; table = rw same-table (accepted-of lim (budgeted (a + b) x) z .table); fit = d .fitting })
 
     world-back : begun (y a b) 0 ≡ r a .world
     world-back =
@@ -119,15 +125,16 @@ module _ (lim : ℕ) (short : lim ≤ 251) (x : Lent) (good : isGood lim (x .pag
 pub record Resumes (lim : ℕ) (x : Lent) (b : ℕ) (u v : Outcome) : Type 0 where
   pub after : u .answer .stop ≡ 14 → v ≡ resumed u (continueRunIn lim (budgeted b (lentNext x u)))
   pub over : (u .answer .stop ≡ 14 → ⊥) → v ≡ u
+  pub kept : u .answer .stop ≡ 14 → u .page ≡ x .page
 
 module _ (lim : ℕ) (short : lim ≤ 251) (x : Lent) (h : Sound lim (x .page) (x .session)) (a b : ℕ) (z : firstRefusal lim (budgeted (a + b) x) ≡ 0) where
   no-pause : (u : Outcome) → (u .answer .stop ≡ 14 → ⊥) → Resumes lim x b u u
-  no-pause u n = record { after = λ e. absurd (n e); over = λ e. refl }
+  no-pause u n = record { after = λ e. absurd (n e); over = λ e. refl; kept = λ e. absurd (n e) }
 
   obeyed-resumes : {From : ℕ → World → Type 0} {o : ℕ → Outcome} → Obeyed lim (lentEnv lim x) (begun x 0) From o → Resumes lim x b (o a) (o (a + b))
   obeyed-resumes (stands {n = n} {w = w} i f) = no-pause (stops n w (x .page)) (λ e. false≢true (rw e at i))
   obeyed-resumes (edits p n f) = no-pause _ (λ e. omega arith)
-  obeyed-resumes (runs q w s f p l c) = record { after = after-pause lim short x (h .good) q w s f p l a b z; over = by } where
+  obeyed-resumes (runs q w s f p l c) = record { after = after-pause lim short x (h .good) q w s f p l a b z; over = by; kept = λ e. refl } where
     by : (runFrom a (lentEnv lim x) q w .stop ≡ 14 → ⊥) → runOutcome (runFrom (a + b) (lentEnv lim x) q w) (x .page) ≡ runOutcome (runFrom a (lentEnv lim x) q w) (x .page)
     by n =
         let same : runFrom (a + b) (lentEnv lim x) q w ≡ runFrom a (lentEnv lim x) q w =
@@ -155,15 +162,28 @@ module _ (lim : ℕ) (short : lim ≤ 251) (x : Lent) (h : Sound lim (x .page) (
     by false l = read-resumes g (record { sound = i; line = e; short = l }) (typed (g .line .bytes)) refl
 
 module _ (lim : ℕ) (short : lim ≤ 251) (x : Lent) (sized : Sized (x .session)) (a b : ℕ) (z : firstRefusal lim (budgeted (a + b) x) ≡ 0) where
+  abbrev c : Lent
+  c = budgeted (a + b) x
+
+  -- what is lent next is the same, whatever the budget was: a paused call leaves the table
+  same-next : (u : Outcome) → u .page ≡ x .page → budgeted b (lentNext c u) ≡ budgeted b (lentNext x u)
+  same-next u p =
+      let h = accepted-of lim c z .table in
+      let e : tableAfter limit c u ≡ tableAfter limit x u = table-kept limit c u h p ∙ sym (table-kept limit x u h p) in
+      λ i. budgeted b (lentAll (u .session) (u .page) (u .memory) (x .input) (u .output) (withPositions (u .answer .inpos) (u .answer .outpos) (x .call)) (e i))
+
+  resumes-back : {u v : Outcome} → Resumes lim c b u v → Resumes lim x b u v
+  resumes-back {u = u} t =
+      record { after = λ e. t .after e ∙ ap (λ (l : Lent). resumed u (continueRunIn lim l)) (same-next u (t .kept e)); over = t .over; kept = t .kept }
+
   pub resumes-within : Resumes lim x b (takeLineIn lim (budgeted a x)) (takeLineIn lim (budgeted (a + b) x)) × Resumes lim x b (continueRunIn lim (budgeted a x)) (continueRunIn lim (budgeted (a + b) x))
   resumes-within =
-      let c : Lent = budgeted (a + b) x in
       let y = accepted-less lim x a (a + b) (omega arith) z in
       let h = unrefused lim c sized z in
       let t = line-resumes lim short c h a b z z (gatheredLine lim x) refl in
       let k = obeyed-resumes lim short c h a b z (continue-ways lim c short (h .good) (sound-fit h) z) in (
-        rw (take-at lim (budgeted a x) y, take-at lim c z) (record { after = t .after; over = t .over }),
-        rw (continue-at lim (budgeted a x) y, continue-at lim c z) (record { after = k .after; over = k .over }),
+        rw (take-at lim (budgeted a x) y, take-at lim c z) (resumes-back t),
+        rw (continue-at lim (budgeted a x) y, continue-at lim c z) (resumes-back k),
       )
 
 -- any number of pauses

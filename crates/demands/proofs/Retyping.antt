@@ -15,7 +15,7 @@ use Rattle.nibl.specs.Read.{typed}
 use Rattle.nibl.specs.Readings.{LineReading}
 use Rattle.nibl.specs.Typing.{Gathered}
 use Rattle.nibl.specs.Page.{Stored, programBytes, fits, recordsOf, size, used, usedBy, hasLine, with, without, onto}
-use Rattle.nibl.specs.Calls.{Lent, stops, begun, lentEnv, edited, obey, takeLine, takeLineIn, limit}
+use Rattle.nibl.specs.Calls.{Lent, stops, begun, lentEnv, edited, obey, takeLine, takeLineIn, leaves, limit}
 use Rattle.nibl.specs.Record.{stackless}
 use Rattle.nibl.specs.Meaning.{World, withSession}
 use Rattle.nibl.proofs.Whole.{typed-complete}
@@ -24,11 +24,13 @@ use Rattle.page.proofs.Walk.{by-cases}
 use Rattle.page.proofs.Program.{Program, none, each, program-length}
 use Rattle.page.proofs.Laid.{Laid, laid-program, laid-room, good-laid}
 use Rattle.page.proofs.Changes.{with-program, without-program, onto-good, onto-records}
+use Rattle.page.proofs.Tables.{good-rising}
 use Rattle.demands.specs.Lent.{Typing}
-use Rattle.demands.specs.Leaves.{ofLine, others, Rising, alone, rises, lineTaken, Edits, Replaces, Deletes}
+use Rattle.demands.specs.Leaves.{ofLine, others, lineTaken, Edits, Replaces, Deletes}
 use Rattle.demands.proofs.Storing.{stored-storable}
 use Rattle.demands.proofs.Good.{good-exact}
 use Rattle.demands.proofs.Accepted.{accepted-of}
+use Rattle.demands.proofs.Tables.{left-kept}
 
 -- what a line that was read does
 pub line-read : (x : Lent) (g : Gathered) (y : Typed) → Typing limit x g → typed (g .line .bytes) ≡ some y
@@ -132,10 +134,6 @@ pub onto-used : {rs : List Stored} (page : List ℕ) → Program limit 0 rs → 
 unfolding used
 onto-used page p = ap usedBy (onto-records page p)
 
-program-rises : {lim low : ℕ} {rs : List Stored} → Program lim low rs → Rising low rs
-program-rises none = alone
-program-rises (each l s p) = rises l (program-rises p)
-
 edit-leaves : (x : Lent) (taken : ℕ) {rs : List Stored} → Program limit 0 rs → usedBy rs ≤ length (x .page) → Edits x taken (edited (x .page) (begun x taken) rs)
 edit-leaves x taken {rs = rs} p h =
     rw (edited-fits (x .page) (begun x taken) rs h)
@@ -145,7 +143,7 @@ edit-leaves x taken {rs = rs} p h =
       memory = refl;
       output = refl;
       good = good-exact limit _ (omega arith) .0 (onto-good (x .page) p);
-      rising = rw (onto-records (x .page) p) (program-rises p);
+      rising = good-rising limit _ (onto-good (x .page) p);
       bytes = rw (onto-used (x .page) p, onto-records (x .page) p) (take-at (programBytes rs) _ (usedBy rs) (program-length rs));
       long = onto-length (x .page) rs h;
       after = rw (onto-used (x .page) p) (onto-after (x .page) rs);
@@ -185,8 +183,9 @@ module _ (x : Lent) (g : Gathered) (h : Typing limit x g) where
         )
 
     -- "No room: 2, page and stacks kept"
-    pub no-room : length (x .page) < usedBy (others n (recordsOf (x .page))) + (length t + 4) → takeLine x ≡ lineTaken x 2 (g .taken)
-    no-room full = stores ∙ edited-full (x .page) (begun x (g .taken)) (with q (recordsOf (x .page))) (omega (arith, with-is q program .room))
+    pub no-room : length (x .page) < usedBy (others n (recordsOf (x .page))) + (length t + 4) → leaves takeLine x ≡ lineTaken x 2 (g .taken)
+    no-room full =
+        left-kept takeLine x _ (stores ∙ edited-full (x .page) (begun x (g .taken)) (with q (recordsOf (x .page))) (omega (arith, with-is q program .room))) (h .sound) refl
 
   -- NEW
   pub new-empties : LineReading (g .line .bytes) new → Edits x (g .taken) (takeLine x) × (recordsOf (takeLine x .page) ≡ [])
@@ -197,8 +196,8 @@ module _ (x : Lent) (g : Gathered) (h : Typing limit x g) where
       rw o (edit-leaves x (g .taken) none f, rw (edited-fits (x .page) (begun x (g .taken)) [] f) (onto-records {lim = limit} (x .page) none))
 
   module _ (n : ℕ) (r : LineReading (g .line .bytes) (delete n)) where
-    deletes : (b : Bool) → hasLine n (recordsOf (x .page)) ≡ b
-        → takeLine x ≡ elim b [ true ↦ edited (x .page) (begun x (g .taken)) (without n (recordsOf (x .page))) | false ↦ lineTaken x 0 (g .taken) ]
+    pub deletes : (b : Bool) → hasLine n (recordsOf (x .page)) ≡ b
+        → takeLine x ≡ elim b [ true ↦ edited (x .page) (begun x (g .taken)) (without n (recordsOf (x .page))) | false ↦ stops 0 (begun x (g .taken)) (x .page) ]
     unfolding obey
     deletes b e = line-read x g (delete n) h (typed-complete r) ∙ rw (e, obey)
 
@@ -218,5 +217,5 @@ module _ (x : Lent) (g : Gathered) (h : Typing limit x g) where
           )
 
     -- "deleting an absent line keeps page and stacks"
-    pub absent-kept : ofLine n (recordsOf (x .page)) ≡ [] → takeLine x ≡ lineTaken x 0 (g .taken)
-    absent-kept there = deletes false (none-absent n (recordsOf (x .page)) there)
+    pub absent-kept : ofLine n (recordsOf (x .page)) ≡ [] → leaves takeLine x ≡ lineTaken x 0 (g .taken)
+    absent-kept there = left-kept takeLine x _ (deletes false (none-absent n (recordsOf (x .page)) there)) (h .sound) refl

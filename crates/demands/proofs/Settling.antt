@@ -7,28 +7,30 @@ use Rattle.nibl.specs.Page.{recordsOf}
 use Rattle.nibl.specs.Readings.{LineReading}
 use Rattle.nibl.specs.Typing.{Gathered}
 use Rattle.nibl.specs.Meaning.{World, Next, on, skip, stop, done, exec}
-use Rattle.nibl.specs.Calls.{Lent, stops, begun, lentEnv, listFrom, afterImmediate, needsProgram, obey, takeLine, limit}
+use Rattle.nibl.specs.Calls.{Lent, stops, begun, lentEnv, listFrom, afterImmediate, needsProgram, obey, takeLine, leaves, limit}
 use Rattle.nibl.proofs.Whole.{typed-complete}
 use Rattle.demands.specs.Lent.{Typing}
 use Rattle.demands.specs.Leaves.{lineTaken, lineCleared}
 use Rattle.demands.specs.Starts.{Settles, goesOn, skips, gives}
+use Rattle.demands.proofs.Tables.{left-kept}
 use Rattle.demands.proofs.Retyping.{line-read}
 
 module _ (x : Lent) (g : Gathered) (h : Typing limit x g) where
   -- "A line of spaces only, or empty, only ends a pause"
-  pub a-blank-line-only-ends-the-pause : LineReading (g .line .bytes) blank → takeLine x ≡ lineTaken x 0 (g .taken)
+  pub a-blank-line-only-ends-the-pause : LineReading (g .line .bytes) blank → leaves takeLine x ≡ lineTaken x 0 (g .taken)
   unfolding obey
-  a-blank-line-only-ends-the-pause r = line-read x g blank h (typed-complete r)
+  a-blank-line-only-ends-the-pause r = left-kept takeLine x _ (line-read x g blank h (typed-complete r)) (h .sound) refl
 
   -- "CLEAR zeroes variables and clears stacks"
-  pub clear-clears : LineReading (g .line .bytes) clear → takeLine x ≡ lineCleared x (g .taken)
+  pub clear-clears : LineReading (g .line .bytes) clear → leaves takeLine x ≡ lineCleared x (g .taken)
   unfolding obey
-  clear-clears r = line-read x g clear h (typed-complete r)
+  clear-clears r = left-kept takeLine x _ (line-read x g clear h (typed-complete r)) (h .sound) refl
 
   -- "DO, UNTIL, FOR, NEXT or INPUT in an immediate line"
-  pub needing-a-program-is-3 : (s : Stmt) → LineReading (g .line .bytes) (immediate s) → needsProgram s ≡ true → takeLine x ≡ lineTaken x 3 (g .taken)
+  pub needing-a-program-is-3 : (s : Stmt) → LineReading (g .line .bytes) (immediate s) → needsProgram s ≡ true → leaves takeLine x ≡ lineTaken x 3 (g .taken)
   unfolding obey
-  needing-a-program-is-3 s r n = line-read x g (immediate s) h (typed-complete r) ∙ rw (n, obey)
+  needing-a-program-is-3 s r n =
+      left-kept takeLine x (lineTaken x 3 (g .taken) .outcome) (line-read x g (immediate s) h (typed-complete r) ∙ rw (n, obey)) (h .sound) refl
 
   at-once : (how : Next) (n : ℕ) (w : World) → Settles how n → afterImmediate (x .call .budget) (lentEnv limit x) (done how w) ≡ stops n w (x .page)
   at-once on n w goesOn = refl

@@ -8,7 +8,7 @@ use Rattle.nibl.specs.Values.{digits}
 use Rattle.nibl.specs.Page.{Stored, recordsOf, usedBy, used}
 use Rattle.nibl.specs.Meaning.{World, Env, withSession, withMemory, withOutput, withInpos}
 use Rattle.nibl.specs.Record.{place, mark, nowhere, withVar, withFlags, withGosubs, withDos, withFors, withPaused, unpaused, stackless, cleared}
-use Rattle.nibl.specs.Calls.{Lent, Outcome, Ran, ran, stepped, runOutcome, lentAll, leftAll, answerOf, noLine, stops, refusedLine, envAt, begun, lentEnv, listed, limit}
+use Rattle.nibl.specs.Calls.{Lent, Outcome, Ran, ran, stepped, runOutcome, lentAll, outcomeWith, leftAll, answerOf, noLine, stops, refusedLine, envAt, begun, lentEnv, listed, tableAfter, leaves, limit}
 use Rattle.nibl.specs.declared.PlaceStack.{PlaceStack}
 use Rattle.nibl.specs.declared.ForStack.{ForStack}
 use Rattle.nibl.specs.declared.Session.{Session}
@@ -18,13 +18,17 @@ use Rattle.demands.specs.Lent.{budgeted}
 use Rattle.demands.specs.Listing.{lentNext}
 
 -- All that is lent and all that is left, as the promises of the two calls name them
-pub what-is-lent : (s : Session) (page memory input output : List ℕ) (c : Call)
-    → lentAll s page memory input output c ≡ record { session = s; page = page; memory = memory; input = input; output = output; call = c }
-what-is-lent s page memory input output c = refl
+pub what-is-lent : (s : Session) (page memory input output : List ℕ) (c : Call) (table : List ℕ)
+    → lentAll s page memory input output c table ≡ record { session = s; page = page; memory = memory; input = input; output = output; call = c; table = table }
+what-is-lent s page memory input output c table = refl
 
-pub what-is-left : (a : Answer) (s : Session) (page memory output : List ℕ)
-    → leftAll a s page memory output ≡ record { answer = a; session = s; page = page; memory = memory; output = output }
-what-is-left a s page memory output = refl
+pub what-is-left : (a : Answer) (s : Session) (page memory output table : List ℕ)
+    → leftAll a s page memory output table ≡ record { outcome = outcomeWith a s page memory output; table = table }
+what-is-left a s page memory output table = refl
+
+pub what-an-outcome-is : (a : Answer) (s : Session) (page memory output : List ℕ)
+    → outcomeWith a s page memory output ≡ record { answer = a; session = s; page = page; memory = memory; output = output }
+what-an-outcome-is a s page memory output = refl
 
 pub what-is-answered : (n line steps inpos outpos column : ℕ)
     → answerOf n line steps inpos outpos column ≡ record { stop = n; line = line; steps = steps; inpos = inpos; outpos = outpos; column = column }
@@ -48,9 +52,14 @@ module _ (x : Lent) where
         memory = x .memory;
         input = x .input;
         output = x .output;
-        call = record { inpos = x .call .inpos; outpos = x .call .outpos; sense = x .call .sense; budget = k };
+        call = record { inpos = x .call .inpos; outpos = x .call .outpos; sense = x .call .sense; budget = k; tabled = x .call .tabled };
+        table = x .table;
       }
   only-the-budget k = refl
+
+  -- what a call leaves: its outcome and the table
+  pub what-a-call-leaves : (call : Lent → Outcome) → leaves call x ≡ record { outcome = call x; table = tableAfter limit x (call x) }
+  what-a-call-leaves call = refl
 
   -- the next call: all that one left, and the rest as it was lent
   pub all-that-was-left : (o : Outcome)
@@ -60,7 +69,8 @@ module _ (x : Lent) where
         memory = o .memory;
         input = x .input;
         output = o .output;
-        call = record { inpos = o .answer .inpos; outpos = o .answer .outpos; sense = x .call .sense; budget = x .call .budget };
+        call = record { inpos = o .answer .inpos; outpos = o .answer .outpos; sense = x .call .sense; budget = x .call .budget; tabled = x .call .tabled };
+        table = tableAfter limit x o;
       }
   all-that-was-left o = refl
 

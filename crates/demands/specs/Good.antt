@@ -2,7 +2,7 @@
 use Prim.Native.Nat.{ℕ, suc, _+_, _-_, _*_, _≤_, _<_}
 use mathlib.Core.Path.{_≡_}
 use mathlib.Core.Bool.{false}
-use mathlib.Core.List.{List, _∷_, _++_}
+use mathlib.Core.List.{List, [], _∷_, _++_}
 use mathlib.Core.Logic.{_⊎_}
 use lib.ListN.{length, take, drop}
 use Rattle.nibl.specs.Bytes.{isDigit, isText, All, starts, byteCR}
@@ -15,7 +15,7 @@ use Rattle.nibl.specs.declared.Place.{Place}
 use Rattle.nibl.specs.declared.ForEntry.{ForEntry}
 use Rattle.nibl.specs.declared.Session.{Session}
 use Rattle.demands.specs.Items.{In}
-use Rattle.demands.specs.Lent.{InRange}
+use Rattle.demands.specs.Lent.{HasTable, InRange}
 
 -- "A record is the number (two bytes, high first, 0 to 32,767), one byte for the whole record's length, the text, and CR (13). The length is the text's length
 -- plus 4": the record of number n with the text t stands at a position of the page
@@ -36,6 +36,22 @@ pub record EndMark (page : List ℕ) (at : ℕ) : Type 0 where
 pub data Boundary (page : List ℕ) : ℕ → Type 0 where
   start : Boundary page 0
   behind : {at n : ℕ} {t : List ℕ} → Boundary page at → RecordAt page at n t → Boundary page (at + (length t + 4))
+
+-- where the records stand one behind the other from a position of the page on, up to the end mark
+pub data RecordsAt (page : List ℕ) : ℕ → List ℕ → Type 0 where
+  atMark : {at : ℕ} → EndMark page at → RecordsAt page at []
+  atRecord : {at n : ℕ} {t ps : List ℕ} → RecordAt page at n t → RecordsAt page (at + (length t + 4)) ps → RecordsAt page at (at ∷ ps)
+
+-- "the line count, then each record's position, in order". What a table holds past the last line is not looked at
+pub record TrueTable (page table : List ℕ) : Type 0 where
+  pub positions : List ℕ
+  pub stand : RecordsAt page 0 positions
+  pub rest : List ℕ
+  pub entries : table ≡ length positions ∷ (positions ++ rest)
+
+-- a table that is lent is a true one
+abbrev pub LentTrue : Lent → Type 0
+LentTrue x = HasTable x → TrueTable (x .page) (x .table)
 
 -- the position of the ":" that ends a member of the text of a record, or of the record's CR, where the record stands at `at`
 abbrev pub placeOf : ℕ → List ℕ → Member → ℕ
@@ -103,10 +119,11 @@ PauseFits = PauseFitsBy ListReading
 abbrev pub Fits : List ℕ → Session → Type 0
 Fits = FitsBy ListReading
 
--- what a call is lent that is past its first refusals, 1, 18 and 19
+-- what a call is lent that is past its first refusals, 1, 18, 26 and 19
 pub record Unrefused (lim : ℕ) (x : Lent) : Type 0 where
   pub range : InRange x
   pub good : GoodPage lim (x .page)
+  pub table : LentTrue x
   pub fits : Fits (x .page) (x .session)
 
 -- "a good page with a fitting record"

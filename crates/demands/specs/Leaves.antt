@@ -1,5 +1,5 @@
 -- What a call leaves, written out: the demands' sentences name these.
-use Prim.Native.Nat.{ℕ, suc, _+_, _≤_}
+use Prim.Native.Nat.{ℕ, _+_, _≤_}
 use mathlib.Core.Path.{_≡_}
 use mathlib.Core.Bool.{Bool, true, false}
 use mathlib.Core.List.{List, [], _∷_}
@@ -15,11 +15,12 @@ use Rattle.nibl.specs.Tree.{Typed, blank, new, clear, run, delete, list, store,
 use Rattle.nibl.specs.Page.{Stored, recordsOf, programBytes, used}
 use Rattle.nibl.specs.Meaning.{World, Env, Done, done, withSession}
 use Rattle.nibl.specs.Record.{mark, withGosubs, unpaused, stackless, cleared}
-use Rattle.nibl.specs.Calls.{Lent, Outcome, leftAll, answerOf, noLine, begun, takeLine, continueRun, limit}
+use Rattle.nibl.specs.Calls.{Lent, Outcome, Left, leftAll, answerOf, noLine, begun, takeLine, continueRun, leaves, limit}
 use Rattle.nibl.specs.declared.Session.{Session}
 use Rattle.nibl.specs.declared.Place.{Place}
 use Rattle.nibl.specs.declared.Top.the-variants as top
 use Rattle.nibl.specs.declared.Answer.{Answer}
+use Rattle.page.specs.Tables.{Rising}
 use Rattle.demands.specs.Asks.{GivenIn}
 use Rattle.demands.specs.Lent.{gatheredLine}
 use Rattle.demands.specs.Good.{GoodPage}
@@ -37,31 +38,26 @@ abbrev pub others : ℕ → List Stored → List Stored
 others n [] = []
 others n (r ∷ rs) = if eqb (r .line) n then others n rs else r ∷ others n rs
 
--- "in strictly rising line number", from low on
-pub data Rising : ℕ → List Stored → Type 0 where
-  alone : {low : ℕ} → Rising low []
-  rises : {low : ℕ} {r : Stored} {rs : List Stored} → low ≤ r .line → Rising (suc (r .line)) rs → Rising low (r ∷ rs)
-
 -- a stop with no line, no steps and no column, after so many bytes of the input; the output position as it came
 abbrev pub answered : Lent → ℕ → ℕ → Answer
 answered x n taken = answerOf n noLine 0 (x .call .inpos + taken) (x .call .outpos) 0
 
--- everything back as it came, the positions too
-abbrev pub unchanged : Lent → ℕ → Outcome
-unchanged x n = leftAll (answerOf n noLine 0 (x .call .inpos) (x .call .outpos) 0) (x .session) (x .page) (x .memory) (x .output)
+-- everything back as it came, the positions and the table too
+abbrev pub unchanged : Lent → ℕ → Left
+unchanged x n = leftAll (answerOf n noLine 0 (x .call .inpos) (x .call .outpos) 0) (x .session) (x .page) (x .memory) (x .output) (x .table)
 
 -- both calls give all back so, with the stop n
 abbrev pub BothUnchanged : Lent → ℕ → Type 0
-BothUnchanged x n = (takeLine x ≡ unchanged x n) × (continueRun x ≡ unchanged x n)
+BothUnchanged x n = (leaves takeLine x ≡ unchanged x n) × (leaves continueRun x ≡ unchanged x n)
 
 -- the line is taken, the pause ended, and nothing else changed
-abbrev pub lineTaken : Lent → ℕ → ℕ → Outcome
-lineTaken x n taken = leftAll (answered x n taken) (unpaused (x .session)) (x .page) (x .memory) (x .output)
+abbrev pub lineTaken : Lent → ℕ → ℕ → Left
+lineTaken x n taken = leftAll (answered x n taken) (unpaused (x .session)) (x .page) (x .memory) (x .output) (x .table)
 
 -- the same with a column
-abbrev pub lineTakenAt : Lent → ℕ → ℕ → ℕ → Outcome
+abbrev pub lineTakenAt : Lent → ℕ → ℕ → ℕ → Left
 lineTakenAt x n taken column =
-    leftAll (answerOf n noLine 0 (x .call .inpos + taken) (x .call .outpos) column) (unpaused (x .session)) (x .page) (x .memory) (x .output)
+    leftAll (answerOf n noLine 0 (x .call .inpos + taken) (x .call .outpos) column) (unpaused (x .session)) (x .page) (x .memory) (x .output) (x .table)
 
 -- the column of a line that is refused with 5: "72 for an over-long line"
 abbrev pub spotOf : Gathered → ℕ
@@ -72,14 +68,14 @@ abbrev pub columnAt : ℕ → Gathered → ℕ
 columnAt n g = if eqb n 5 then spotOf g else 0
 
 -- "2, 3 and 5 take the line and end a pause", and change nothing else
-pub record TakesLine (x : Lent) (n : ℕ) (o : Outcome) : Type 0 where
+pub record TakesLine (x : Lent) (n : ℕ) (o : Left) : Type 0 where
   pub gathered : Gathered
   pub line : gatheredLine limit x ≡ some gathered
   pub leaves : o ≡ lineTakenAt x n (gathered .taken) (columnAt n gathered)
 
 -- the record as CLEAR leaves it: the pause ended, variables zero, stacks empty
-abbrev pub lineCleared : Lent → ℕ → Outcome
-lineCleared x taken = leftAll (answered x 0 taken) (cleared (unpaused (x .session))) (x .page) (x .memory) (x .output)
+abbrev pub lineCleared : Lent → ℕ → Left
+lineCleared x taken = leftAll (answered x 0 taken) (cleared (unpaused (x .session))) (x .page) (x .memory) (x .output) (x .table)
 
 -- "RUN does CLEAR": the world that its run begins in
 abbrev pub worldCleared : Lent → ℕ → World
@@ -170,13 +166,14 @@ pub record LengthsHeld (x : Lent) (o : Outcome) : Type 0 where
   pub memory : length (o .memory) ≡ length (x .memory)
   pub output : length (o .output) ≡ length (x .output)
 
--- two outcomes are the same, all of them
-pub record Agrees (a b : Outcome) : Type 0 where
-  pub answer : a .answer ≡ b .answer
-  pub session : a .session ≡ b .session
-  pub page : a .page ≡ b .page
-  pub memory : a .memory ≡ b .memory
-  pub output : a .output ≡ b .output
+-- what two calls left is the same, all of it
+pub record Agrees (a b : Left) : Type 0 where
+  pub answer : a .outcome .answer ≡ b .outcome .answer
+  pub session : a .outcome .session ≡ b .outcome .session
+  pub page : a .outcome .page ≡ b .outcome .page
+  pub memory : a .outcome .memory ≡ b .outcome .memory
+  pub output : a .outcome .output ≡ b .outcome .output
+  pub table : a .table ≡ b .table
 
 -- whether a typed line edits the program
 abbrev pub isEdit : Typed → Bool

@@ -9,7 +9,11 @@ use Rattle.nibl.specs.Typing.{Gathered, gather}
 use Rattle.nibl.specs.Page.{isAmong}
 use Rattle.nibl.specs.Calls.{Lent, Outcome, firstRefusal, lentAll, withBudget}
 
--- "a length, position or budget outside" of these is 1
+-- a table is lent
+abbrev pub HasTable : Lent → Type 0
+HasTable x = x .call .tabled ≡ 0 → ⊥
+
+-- "a length, position or budget outside" of these is 1, and "a table of fewer than 1,025 entries"
 pub record InRange (x : Lent) : Type 0 where
   pub some : 2 ≤ length (x .page)
   pub page : length (x .page) ≤ 4096
@@ -19,6 +23,7 @@ pub record InRange (x : Lent) : Type 0 where
   pub inpos : x .call .inpos ≤ length (x .input)
   pub outpos : x .call .outpos ≤ length (x .output)
   pub budget : x .call .budget ≤ 65535
+  pub table : HasTable x → 1025 ≤ length (x .table)
 
 abbrev pub gatheredLine : ℕ → Lent → Option Gathered
 gatheredLine lim x = gather lim (drop (x .call .inpos) (x .input))
@@ -31,22 +36,22 @@ pub record Typing (lim : ℕ) (x : Lent) (g : Gathered) : Type 0 where
 
 -- the same call with a budget of k
 abbrev pub budgeted : ℕ → Lent → Lent
-budgeted k x = lentAll (x .session) (x .page) (x .memory) (x .input) (x .output) (withBudget k (x .call))
+budgeted k x = lentAll (x .session) (x .page) (x .memory) (x .input) (x .output) (withBudget k (x .call)) (x .table)
 
 -- Stop numbers
 abbrev pub OneOfThese : List ℕ → ℕ → Type 0
 OneOfThese ns n = isAmong ns n ≡ true
 
--- those of document 01's table
+-- those of document 01's table, and 26
 abbrev pub replyNumbers : List ℕ
-replyNumbers = 0 ∷ 1 ∷ 2 ∷ 3 ∷ 5 ∷ 6 ∷ 7 ∷ 8 ∷ 9 ∷ 10 ∷ 11 ∷ 12 ∷ 13 ∷ 14 ∷ 15 ∷ 16 ∷ 17 ∷ 18 ∷ 19 ∷ 20 ∷ []
+replyNumbers = 0 ∷ 1 ∷ 2 ∷ 3 ∷ 5 ∷ 6 ∷ 7 ∷ 8 ∷ 9 ∷ 10 ∷ 11 ∷ 12 ∷ 13 ∷ 14 ∷ 15 ∷ 16 ∷ 17 ∷ 18 ∷ 19 ∷ 20 ∷ 26 ∷ []
 
 abbrev pub Numbered : Outcome → Type 0
 Numbered o = OneOfThese replyNumbers (o .answer .stop)
 
--- "1, 18 and 19 change nothing"
+-- "1, 18 and 19 change nothing", and 26, "directly after 18 and, like 18, with nothing changed"
 abbrev pub firstRefusals : List ℕ
-firstRefusals = 1 ∷ 18 ∷ 19 ∷ []
+firstRefusals = 1 ∷ 18 ∷ 26 ∷ 19 ∷ []
 
 abbrev pub twoAndThree : List ℕ
 twoAndThree = 2 ∷ 3 ∷ []

@@ -1,6 +1,7 @@
 -- A listing, and lines typed one after the other.
 use Prim.Native.Nat.{ℕ, zero, suc, _+_, _-_}
 use mathlib.Core.Path.{_≡_}
+use mathlib.Core.Bool.{true}
 use mathlib.Core.List.{List, [], _∷_, _++_}
 use lib.ListN.{length, take, drop}
 use lib.Seq.{sets}
@@ -8,7 +9,7 @@ use Rattle.nibl.specs.Values.{digits}
 use Rattle.nibl.specs.Typing.{Gathered}
 use Rattle.nibl.specs.Page.{Stored, recordsOf, used}
 use Rattle.nibl.specs.Record.{unpaused}
-use Rattle.nibl.specs.Calls.{Lent, Outcome, lentAll, withPositions, answerOf, noLine, listed, takeLine}
+use Rattle.nibl.specs.Calls.{Lent, Outcome, lentAll, withPositions, answerOf, noLine, listed, tableIsTrue, takeLine, tableAfter, limit}
 use Rattle.nibl.specs.declared.Answer.{Answer}
 
 -- "each line as digits without leading zeros, text, CR, LF"
@@ -25,9 +26,10 @@ listingRoom (r ∷ rs) = length (digits (r .line)) + length (r .text) + 2 + list
 abbrev pub written : Lent → Outcome → List ℕ
 written x o = take (o .answer .outpos - x .call .outpos) (drop (x .call .outpos) (o .output))
 
--- what is lent to the next call: all that one left, and the same input, sense byte and budget
+-- what is lent to the next call: all that one left, the table with it, and the same input, sense byte and budget
 abbrev pub lentNext : Lent → Outcome → Lent
-lentNext x o = lentAll (o .session) (o .page) (o .memory) (x .input) (o .output) (withPositions (o .answer .inpos) (o .answer .outpos) (x .call))
+lentNext x o =
+    lentAll (o .session) (o .page) (o .memory) (x .input) (o .output) (withPositions (o .answer .inpos) (o .answer .outpos) (x .call)) (tableAfter limit x o)
 
 -- n lines typed one after the other: what is lent after them, and the answers
 unfoldable pub afterLines : ℕ → Lent → Lent
@@ -66,5 +68,7 @@ pub record RoundTrip (x y z : Lent) : Type 0 where
   pub after : drop (used (x .page)) (z .page) ≡ drop (used (x .page)) (y .page)
   pub memory : z .memory ≡ y .memory
   pub output : z .output ≡ y .output
+  -- a table that y has is true of it
+  pub table : tableIsTrue z ≡ true
   -- all lines were typed
   pub left : drop (z .call .inpos) (z .input) ≡ lastLF (recordsOf (x .page))

@@ -8,7 +8,7 @@ use lib.ListN.{length}
 use lib.Dec.{eqb}
 use Rattle.nibl.specs.Page.{isAmong, lineOf, placesOf}
 use Rattle.nibl.specs.Meaning.{World}
-use Rattle.nibl.specs.Calls.{Lent, Outcome, Ran, leftAll, answerOf, noLine, runFrom, runOutcome, lentEnv, continueRun}
+use Rattle.nibl.specs.Calls.{Lent, Outcome, Ran, outcomeWith, answerOf, noLine, runFrom, runOutcome, lentEnv, continueRun}
 use Rattle.page.specs.Standing.{Stands, LiesIn}
 use Rattle.record.specs.Sound.{Sound}
 use Rattle.demands.specs.Lent.{budgeted}
@@ -32,7 +32,7 @@ pub data Answered (lim : ℕ) (x : Lent) (From : ℕ → World → Type 0) (o : 
 -- a call that paused, and the one that continued it, as one
 abbrev pub resumed : Outcome → Outcome → Outcome
 resumed o c =
-    leftAll (answerOf (c .answer .stop) (c .answer .line) (o .answer .steps + c .answer .steps) (c .answer .inpos) (c .answer .outpos) (c .answer .column))
+    outcomeWith (answerOf (c .answer .stop) (c .answer .line) (o .answer .steps + c .answer .steps) (c .answer .inpos) (c .answer .outpos) (c .answer .column))
     (c .session) (c .page) (c .memory) (c .output)
 
 -- after o, while it is paused, a continue with each budget of a list in turn, on all that was left and the rest of what x lent
