@@ -20,6 +20,9 @@ describes-determined page table = determined (describes page table)
 pub find-determined : (page : List ℕ) (n : ℕ) (r s : FoundLine) → foundAt r ≡ reached (find page n) → foundAt s ≡ reached (find page n) → r ≡ s
 find-determined = page.find-determined
 
+pub refill-determined : (page table a b : List ℕ) → a ≡ keptTrue page table → b ≡ keptTrue page table → a ≡ b
+refill-determined page table = determined (keptTrue page table)
+
 -- a page, a table and an answer
 module _ (c : Changed) (table p q u v : List ℕ) (a b : Edited) where
   pub edit-determined : changed p a ≡ c → u ≡ keptTrue p table → changed q b ≡ c → v ≡ keptTrue q table → (p ≡ q) × ((u ≡ v) × (a ≡ b))
