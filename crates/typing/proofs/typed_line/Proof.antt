@@ -23,6 +23,8 @@ use Rattle.effect.specs.Worlds.{envWith}
 use Rattle.ending.specs.Ends.{endedIn, worldAt, stopped, refused}
 use Rattle.ending.specs.Lends.{Lists, Accepted}
 use Rattle.typing.specs.ReadAs.{ReadAs}
+use Rattle.table.specs.Index.{keptTrue}
+use Rattle.table.proofs.Index.{kept-same}
 use Rattle.ending.specs.declared.Ended.{Ended}
 use Rattle.typing.proofs.Typed.{Hears, noCr, tooLong, heard, Holds, holds, read-as}
 use borrow.Author.Needs.{needs}
@@ -51,7 +53,7 @@ ends-line x lim {n = n} {slots = slots} h =
 -- past gathering: what was lent, and the line in its slots
 module _ (r : tie.After-gather) where
   abbrev start : tie.Start
-  start = r .before .before .before .before .before .before .before .before .before .before .before
+  start = r .before .before .before .before .before .before .before .before .before .before .before .before
 
   abbrev lim : ℕ
   lim = length (start .args .reply .now)
@@ -60,7 +62,7 @@ module _ (r : tie.After-gather) where
   slots = r .gather .last .1 .1 .0
 
   abbrev all : Lent
-  all = lentAll (start .args .rec) (start .args .page .now) (start .args .memory .now) (start .args .input .now) (start .args .output .now) (start .args .call)
+  all = lentAll (start .args .rec) (start .args .page .now) (start .args .memory .now) (start .args .input .now) (start .args .output .now) (start .args .call) (start .args .table .now)
 
   abbrev line-of : Option Gathered
   line-of = gather lim (drop (start .args .call .inpos) (start .args .input .now))
@@ -70,15 +72,19 @@ module _ (r : tie.After-gather) where
 
   -- by the answer that is known
   hears : {k : Gathering} → r .gather .result ≡ k → Hears (start .args .call .inpos) k line-of
-  hears e = heard (r .gather .ensures .0 ∙ ap (answer (start .args .call .inpos)) (by-limit (length (start .args .line .now)) (start .pre .1))) e
+  hears e = heard (r .gather .ensures .0 ∙ ap (answer (start .args .call .inpos)) (by-limit (length (start .args .line .now)) (start .pre .0 .1))) e
 
   kept : {next n : ℕ} → r .gather .result ≡ gathering.Line next n → Holds (start .args .call .inpos) next n slots line-of
   kept e =
       holds (length (start .args .line .now)) slots (hears e)
-      (r .gather .ensures .1 ∙ ap (held (length (start .args .line .now))) (by-limit (length (start .args .line .now)) (start .pre .1)))
+      (r .gather .ensures .1 ∙ ap (held (length (start .args .line .now))) (by-limit (length (start .args .line .now)) (start .pre .0 .1)))
+
+  -- where nothing was obeyed the table is as it was
+  still : start .args .table .now ≡ keptTrue (start .args .page .now) (start .args .table .now)
+  still = sym (kept-same (start .pre .1))
 
   as-long : length slots ≡ lim
-  as-long = r .gather .kept .1 .1 .0 ∙ start .pre .1
+  as-long = r .gather .kept .1 .1 .0 ∙ start .pre .0 .1
 
 slice-reshare-prefix-read-typed : tie.Need-slice-reshare-prefix-read-typed
 slice-reshare-prefix-read-typed c = kept (c .before .before .before .before .before .before) (c .before .before .g2 .given .1) .few
@@ -92,8 +98,8 @@ read-typed-requires c κs =
     let h = kept r (c .before .before .before .before .g2 .given .1) .few in
     let e = length-take-le _ (slots r) h in
     let l = as-long r in
-    let p = start r .pre .0 .room in
-    let q = start r .pre .0 .short in
+    let p = start r .pre .0 .0 .room in
+    let q = start r .pre .0 .0 .short in
     (omega arith, omega arith)
 
 slice-reshare-prefix-obey : tie.Need-slice-reshare-prefix-obey
@@ -104,67 +110,75 @@ slice-aggregate-obey c = sym (length-take-le _ (slots (c .before .before .before
 
 obey-requires : tie.Need-obey-requires
 obey-requires c κs =
-    let r = c .before .before .before .before .before .before .before .before .before .before .before .before .before .before .before .before .before .before .before .before .before in
+    let r = c .before .before .before .before .before .before .before .before .before .before .before .before .before .before .before .before .before .before .before .before .before .before in
     let s = start r in
-    let l = s .pre .0 in
-    let a = s .pre .2 in
-    let k = s .pre .3 in
-    let t = c .before .before .before .before .before .before .before .before .before .before .before .before .read-typed in
+    let l = s .pre .0 .0 in
+    let a = s .pre .0 .2 in
+    let k = s .pre .0 .3 in
+    let t = c .before .before .before .before .before .before .before .before .before .before .before .before .before .read-typed in
     let m = t .kept .1 .1 .0 in
-    let u = c .before .before .before .before .before .before .before .before .before .unpaused2 .ensures in
-    let d = ap (λ (k : Call). k .budget) (c .before .before .before .before .before .at .ensures) in
-    let h = kept r (c .before .before .before .before .before .before .before .before .before .before .before .before .before .before .before .before .before .g2 .given .1) .few in
+    let u = c .before .before .before .before .before .before .before .before .before .before .unpaused2 .ensures in
+    let d = ap (λ (k : Call). k .budget) (c .before .before .before .before .before .before .at .ensures) in
+    let h = kept r (c .before .before .before .before .before .before .before .before .before .before .before .before .before .before .before .before .before .before .g2 .given .1) .few in
     let e = length-take-le _ (slots r) h in
     let n = as-long r in
     let p = l .room in
     let q = l .short in
     let v = l .stack in
     let w = a .steps in (
-      record { short = q; room = omega arith; stack = omega arith; replyOps = l .replyOps; replyValues = l .replyValues },
-      record { short = a .short; good = a .good; fits = subst (Fit (placesOf (s .args .page .now))) (sym u) (a .fits); idle = ap (λ (x : Session). x .paused) u; steps = omega arith },
-      read-as (s .args .ops .now) (omega arith) (omega arith) (t .ensures .0) (t .ensures .1) m,
+      (
+        record { short = q; room = omega arith; stack = omega arith; replyOps = l .replyOps; replyValues = l .replyValues },
+        record { short = a .short; good = a .good; fits = subst (Fit (placesOf (s .args .page .now))) (sym u) (a .fits); idle = ap (λ (x : Session). x .paused) u; steps = omega arith },
+        read-as (s .args .ops .now) (omega arith) (omega arith) (t .ensures .0) (t .ensures .1) m,
+      ),
+      s .pre .1,
     )
 
 returns : tie.Need-returns
 returns c =
     let r = c .before .before .before .before .before in
     let a = start r .args in
-    ap (λ (e : Ended). endedIn e (a .page .now) (a .memory .now) (a .output .now)) (c .stopped .ensures) ∙ ends-none (all r) (lim r) (hears r (c .before .enum-told .given .1))
+    (ap (λ (e : Ended). endedIn e (a .page .now) (a .memory .now) (a .output .now)) (c .stopped .ensures) ∙ ends-none (all r) (lim r) (hears r (c .before .enum-told .given .1)), still r)
 
 cast-refused : tie.Need-cast-refused
 cast-refused c =
     let r = c .before .before .before .before .before in
     let l = as-long r in
-    let q = start r .pre .0 .short in
+    let q = start r .pre .0 .0 .short in
     omega arith
 
 returns-2 : tie.Need-returns-2
 returns-2 c =
     let r = c .before .before .before .before .before .before .before in
     let a = start r .args in
-    let at = c .before .before .before .g .given .0 .0 in
-    ap (λ (e : Ended). endedIn e (a .page .now) (a .memory .now) (a .output .now))
-    (c .refused .ensures
-    ∙ ap (λ (x : Session). refused (length (slots r)) x at (a .call .outpos)) (c .before .unpaused .ensures)
-    ∙ ap (λ (n : ℕ). refused n (unpaused (a .rec)) at (a .call .outpos)) (as-long r))
-    ∙ ends-long (all r) (lim r) (hears r (c .before .before .before .g .given .1))
+    let at = c .before .before .before .g .given .0 .0 in (
+      ap (λ (e : Ended). endedIn e (a .page .now) (a .memory .now) (a .output .now))
+          (c .refused .ensures
+          ∙ ap (λ (x : Session). refused (length (slots r)) x at (a .call .outpos)) (c .before .unpaused .ensures)
+          ∙ ap (λ (n : ℕ). refused n (unpaused (a .rec)) at (a .call .outpos)) (as-long r))
+          ∙ ends-long (all r) (lim r) (hears r (c .before .before .before .g .given .1)),
+      still r,
+    )
 
 same-length-6 : tie.Need-same-length-6
-same-length-6 c = c .before .before .before .before .before .before .before .before .before .before .before .before .before .before .before .before .before .before .before .before .before .before .before .before .before .before .before .before .before .before .before .before .before .before .before .before .gather .kept .1 .1 .0
+same-length-6 c = c .before .before .before .before .before .before .before .before .before .before .before .before .before .before .before .before .before .before .before .before .before .before .before .before .before .before .before .before .before .before .before .before .before .before .before .before .before .before .before .gather .kept .1 .1 .0
 
 same-length-10 : tie.Need-same-length-10
-same-length-10 c = c .before .before .before .before .before .before .before .before .before .before .before .before .before .before .obey .kept .1 .1 .1 .1 .1 .1 .1 .1 .1 .1 .1 .0 ∙ c .before .before .before .before .before .before .before .before .before .before .before .before .before .before .before .before .before .before .before .before .before .before .before .before .before .before .before .read-typed .kept .1 .1 .0
+same-length-10 c = c .before .before .before .before .before .before .before .before .before .before .before .before .before .before .before .before .obey .kept .1 .1 .1 .1 .1 .1 .1 .1 .1 .1 .1 .0 ∙ c .before .before .before .before .before .before .before .before .before .before .before .before .before .before .before .before .before .before .before .before .before .before .before .before .before .before .before .before .before .before .read-typed .kept .1 .1 .0
 
 returns-3 : tie.Need-returns-3
 returns-3 c =
-    let r = c .before .before .before .before .before .before .before .before .before .before .before .before .before .before .before .before .before .before .before .before .before .before .before .before .before .before .before .before .before .before .before .before .before .before .before .before in
+    let r = c .before .before .before .before .before .before .before .before .before .before .before .before .before .before .before .before .before .before .before .before .before .before .before .before .before .before .before .before .before .before .before .before .before .before .before .before .before .before .before in
     let a = start r .args in
-    let x = c .before .before .before .before .before .before .before .before .before .before .before .before .before .before .before .before .before .before .before .before .before .before .before .before .unpaused2 in
-    let t : List ℕ = take (c .before .before .before .before .before .before .before .before .before .before .before .before .before .before .before .before .before .before .before .before .before .before .before .before .before .before .before .before .before .before .before .before .g2 .given .0 .1 .0) (slots r) in
-    c .before .before .before .before .before .before .before .before .before .before .before .before .before .before .obey .ensures
-    ∙ ap (λ (k : Call). obeyRead (k .budget) (envWith (lim r) (a .page .now) (a .input .now) (k .sense) (place mark)) (worldAt (x .result) (a .memory .now) (a .output .now) (k .inpos) (k .outpos)) (columnOf t) (typed t)) (c .before .before .before .before .before .before .before .before .before .before .before .before .before .before .before .before .before .before .before .before .at .ensures)
-    ∙ ap (λ (s : Session). obeyRead (a .call .budget) (lentEnv (lim r) (all r)) (worldAt s (a .memory .now) (a .output .now) (c .before .before .before .before .before .before .before .before .before .before .before .before .before .before .before .before .before .before .before .before .before .before .before .before .before .before .before .before .before .before .before .before .g2 .given .0 .0) (a .call .outpos)) (columnOf t) (typed t)) (x .ensures)
-    ∙ ends-line (all r) (lim r) (kept r (c .before .before .before .before .before .before .before .before .before .before .before .before .before .before .before .before .before .before .before .before .before .before .before .before .before .before .before .before .before .before .before .before .g2 .given .1))
+    let x = c .before .before .before .before .before .before .before .before .before .before .before .before .before .before .before .before .before .before .before .before .before .before .before .before .before .before .before .unpaused2 in
+    let t : List ℕ = take (c .before .before .before .before .before .before .before .before .before .before .before .before .before .before .before .before .before .before .before .before .before .before .before .before .before .before .before .before .before .before .before .before .before .before .before .g2 .given .0 .1 .0) (slots r) in
+    let k = c .before .before .before .before .before .before .before .before .before .before .before .before .before .before .before .before .obey .ensures in (
+      k .0
+          ∙ ap (λ (k : Call). obeyRead (k .budget) (envWith (lim r) (a .page .now) (a .input .now) (k .sense) (place mark)) (worldAt (x .result) (a .memory .now) (a .output .now) (k .inpos) (k .outpos)) (columnOf t) (typed t)) (c .before .before .before .before .before .before .before .before .before .before .before .before .before .before .before .before .before .before .before .before .before .before .before .at .ensures)
+          ∙ ap (λ (s : Session). obeyRead (a .call .budget) (lentEnv (lim r) (all r)) (worldAt s (a .memory .now) (a .output .now) (c .before .before .before .before .before .before .before .before .before .before .before .before .before .before .before .before .before .before .before .before .before .before .before .before .before .before .before .before .before .before .before .before .before .before .before .g2 .given .0 .0) (a .call .outpos)) (columnOf t) (typed t)) (x .ensures)
+          ∙ ends-line (all r) (lim r) (kept r (c .before .before .before .before .before .before .before .before .before .before .before .before .before .before .before .before .before .before .before .before .before .before .before .before .before .before .before .before .before .before .before .before .before .before .before .g2 .given .1)),
+      k .1,
+    )
 
 pub typed-line-spec : {M : Type 1} → statement M
 typed-line-spec =
@@ -198,4 +212,5 @@ typed-line-spec =
     (λ c. search needs)
     (λ c. search needs)
     same-length-10
+    (λ c. search needs)
     returns-3)
