@@ -1,16 +1,19 @@
 -- The table that is lent, and the one that is left. Assumes nothing.
-use Prim.Native.Nat.{ℕ, _≤_}
+use Prim.Native.Nat.{ℕ, zero, suc, _≤_}
 use mathlib.Core.Path.{_≡_, refl, sym, ap, _∙_}
 use mathlib.Core.Bool.{Bool, true, false, not, _&&_, and-false}
 use mathlib.Core.List.{List, _++_}
+use mathlib.Core.Option.{Option, none, some}
 use native.Mathlib.Omega.{arith}
-use lib.ListN.{length, drop}
+use lib.ListN.{length, take, drop}
 use lib.Seq.{take-length}
 use lib.Dec.{leb, eqb}
 use borrow.Author.Tests.{leb-true, eq-eqb, ne-eqb}
 use Rattle.nibl.specs.Bytes.{if_then_else_}
 use Rattle.nibl.specs.Page.{isGood}
-use Rattle.nibl.specs.Calls.{Lent, Outcome, Left, hasTable, firstRefusal, tableAfter, limit}
+use Rattle.nibl.specs.Typing.{Gathered}
+use Rattle.nibl.specs.Calls.{Lent, Outcome, Left, lentAll, hasTable, firstRefusal, obeyLine, continueFrom, tableAfter, limit}
+use Rattle.nibl.specs.declared.Session.{Session}
 use Rattle.nibl.specs.declared.Call.{Call}
 use Rattle.page.proofs.Walk.{by-cases}
 use Rattle.page.proofs.Tables.{good-rising}
@@ -30,20 +33,30 @@ table-lent lim {page} {table} {c} s g l t =
     }
 
 -- the part that was lent is kept true, and what was not is as it was
-pub table-kept : (c : Call) (page table part : List ℕ) → longEnough c (length table) ≡ true → part ≡ keptTrue page (lentPart c table)
-    → part ++ drop (lentEntries c table) table ≡ tablePast c page table
-table-kept c page table part l e =
-    by-cases (hasTable c) (λ f. rw (e, f) (kept-whole page table (leb-true _ _ (rw f at l)))) (λ f. rw (e, f) (kept-none page table))
+pub table-kept : (c : Call) (page table part : List ℕ) {n : ℕ} → n ≡ lentEntries c table → longEnough c (length table) ≡ true
+    → part ≡ keptTrue page (take n table) → part ++ drop n table ≡ tablePast c page table
+table-kept c page table part h l e =
+    by-cases (hasTable c) (λ f. rw (e, h, f) (kept-whole page table (leb-true _ _ (rw f at l)))) (λ f. rw (e, h, f) (kept-none page table))
 
 -- a call that leaves the page leaves the table
 pub table-still : (c : Call) (page table : List ℕ) → TableLent page c table → tablePast c page table ≡ table
 table-still c page table h =
     by-cases (hasTable c)
     (λ f.
-    let k = leb-true _ _ (rw f at (h .long)) in
+    let k : 1025 ≤ length table = leb-true _ _ (rw f at (h .long)) in
     let i : Indexed page table = rw (f, take-length table) at (h .indexed) in
     rw f (sym (kept-some page table (omega arith)) ∙ kept-same i))
     (λ f. rw f)
+
+-- what a call does past its first refusals does not depend on the table
+module _ (s : Session) (page memory typed output : List ℕ) (c : Call) (t u : List ℕ) where
+  pub obeys-by-any : (lim : ℕ) (g : Option Gathered) → obeyLine lim (lentAll s page memory typed output c t) g ≡ obeyLine lim (lentAll s page memory typed output c u) g
+  obeys-by-any lim none = refl
+  obeys-by-any lim (some g) = refl
+
+  pub continues-by-any : (lim n : ℕ) → continueFrom lim (lentAll s page memory typed output c t) n ≡ continueFrom lim (lentAll s page memory typed output c u) n
+  continues-by-any lim zero = refl
+  continues-by-any lim (suc n) = refl
 
 -- What is left, by the first refusal n
 abbrev left : Outcome → List ℕ → Left

@@ -149,7 +149,10 @@ fn paused_run(
 fn lent_entries(call: Call, table: &[u16]) -> usize
     ensures { λ r. ⌜ r ≡ lentEntries call (now (table .entry)) ⌝ }
 {
-    if call.tabled == 0 { 0 } else { table.len() }
+    if call.tabled == 0 {
+        return 0;
+    }
+    table.len()
 }
 
 // A call past its first refusals: it obeys the typed line, or lets a paused run go on. Its lists stand here and not in the calls,

@@ -8,19 +8,19 @@ use Rattle.calls.proofs.paused_run.Statement.{statement}
 use Rattle.calls.proofs.paused_run.Tie as tie
 
 abbrev given : tie.Start → Lent
-given s = let a = s .args in lentAll (a .rec) (a .page .now) (a .memory .now) (a .input .now) (a .output .now) (a .call)
+given s = let a = s .args in lentAll (a .rec) (a .page .now) (a .memory .now) (a .input .now) (a .output .now) (a .call) (a .table .now)
 
 run-from-requires : tie.Need-run-from-requires
 run-from-requires c κs =
     let u = c .before .before .before .before .before .before .before in
     let m = u .before .before .before .before in
-    let p = m .before .before .before .before .before .before .before .before .before .pre in
-    (p .0, rw (u .unpaused2 .ensures) (p .1), rw (pause-is (m .of .ensures) (u .before .before .from .given .1)) at (p .2))
+    let p = m .before .before .before .before .before .before .before .before .before .before .pre in
+    ((p .0 .0, rw (u .unpaused2 .ensures) (p .0 .1), rw (pause-is (m .of .ensures) (u .before .before .from .given .1)) at (p .0 .2)), p .1)
 
 returns : tie.Need-returns
 returns c =
     let m = c .before .before .before .before in
-    let s = m .before .before .before .before .before .before .before .before .before in
+    let s = m .before .before .before .before .before .before .before .before .before .before in
     rw (c .stopped .ensures) (nothing-goes-on (length (s .args .reply .now)) (given s) (c .before .unpaused .ensures) (pause-is (m .of .ensures) (c .before .before .enum-told .given .1)))
 
 returns-2 : tie.Need-returns-2
@@ -28,7 +28,7 @@ returns-2 c =
     let r = c .before .before .before .before .before .before .before .before .before .before .before .before in
     let u = r .before .before .before .before .before .before .before .before in
     let m = u .before .before .before .before in
-    let s = m .before .before .before .before .before .before .before .before .before in
+    let s = m .before .before .before .before .before .before .before .before .before .before in
     r .run-from .ensures ∙ goes-on (length (s .args .reply .now)) (given s) (u .unpaused2 .ensures) (pause-is (m .of .ensures) (u .before .before .from .given .1))
 
 pub paused-run-spec : {M : Type 1} → statement M
