@@ -5,8 +5,8 @@ use crate::gate::{self, Lent};
 use crate::record::Record;
 use crate::table::table_of;
 
-/// A page, a memory and the record that goes with them: vectors, arrays or borrowed slices. The fields may be read and
-/// changed between calls; what no longer belongs together is refused by the next call.
+/// A page, a memory, the record that goes with them, and a table if one is lent: vectors, arrays or borrowed slices. The fields may
+/// be read and changed between calls; what no longer belongs together is refused by the next call.
 #[derive(Clone, Debug, PartialEq, Eq)]
 pub struct Controller<P, M> {
     /// The program: 2 to 4,096 bytes.

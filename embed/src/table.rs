@@ -1,11 +1,11 @@
 //! The table of line places, as a host makes it.
 
-/// The least length of a table that is lent: the number of lines, and a position for each that a page could hold.
+/// The least length of a table that is lent: the number of lines, and a position for every four bytes of the longest page.
 pub const TABLE_LEAST: usize = 1025;
 
 const PAGE_MOST: usize = 4096;
 const END_MARK: [u8; 2] = [255, 255];
-/// The line number, the length byte and the CR: no record is shorter.
+/// The line number, the length byte and the CR: no record is shorter. One with no text is none either, but its page is refused before its table.
 const RECORD_LEAST: usize = 4;
 
 /// The table of a page with no program: zeros.

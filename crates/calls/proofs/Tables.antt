@@ -1,25 +1,23 @@
 -- The table that is lent, and the one that is left. Assumes nothing.
 use Prim.Native.Nat.{ℕ, zero, suc, _≤_}
 use mathlib.Core.Path.{_≡_, refl, sym, ap, _∙_}
-use mathlib.Core.Bool.{Bool, true, false, not, _&&_, and-false}
+use mathlib.Core.Bool.{true, false, and-false}
 use mathlib.Core.List.{List, _++_}
 use mathlib.Core.Option.{Option, none, some}
 use native.Mathlib.Omega.{arith}
 use lib.ListN.{length, take, drop}
 use lib.Seq.{take-length}
-use lib.Dec.{leb, eqb}
+use lib.Dec.{eqb}
 use borrow.Author.Tests.{leb-true, eq-eqb, ne-eqb}
-use Rattle.nibl.specs.Bytes.{if_then_else_}
 use Rattle.nibl.specs.Page.{isGood}
 use Rattle.nibl.specs.Typing.{Gathered}
-use Rattle.nibl.specs.Calls.{Lent, Outcome, Left, lentAll, hasTable, firstRefusal, obeyLine, continueFrom, tableAfter, limit}
+use Rattle.nibl.specs.Calls.{Lent, Outcome, Left, lentAll, hasTable, longEnough, trueOf, firstRefusal, obeyLine, continueFrom, tableAfter, limit}
 use Rattle.nibl.specs.declared.Session.{Session}
 use Rattle.nibl.specs.declared.Call.{Call}
 use Rattle.page.proofs.Walk.{by-cases}
-use Rattle.page.proofs.Tables.{good-rising}
-use Rattle.table.specs.Index.{Indexed, unlent, lent, keptTrue}
-use Rattle.table.proofs.Index.{kept-some, kept-same, kept-none, kept-whole}
-use Rattle.calls.specs.Tables.{longEnough, trueOf, lentEntries, lentPart, TableLent, tablePast}
+use Rattle.table.specs.Index.{Indexed, keptTrue}
+use Rattle.table.proofs.Index.{good-described, indexed-none, indexed-whole, kept-some, kept-same, kept-none, kept-whole}
+use Rattle.calls.specs.Tables.{lentEntries, TableLent, tablePast}
 
 -- a search may go by a table past the first refusals
 pub table-lent : (lim : ℕ) {page table : List ℕ} {c : Call} → length page ≤ 4096 → isGood lim page ≡ true → longEnough c (length table) ≡ true
@@ -28,8 +26,8 @@ table-lent lim {page} {table} {c} s g l t =
     record {
       long = l;
       indexed = by-cases (hasTable c)
-          (λ e. rw (e, take-length table) (lent (record { long = leb-true _ _ (rw e at l); short = s; is = rw e at t; rising = good-rising lim page g })))
-          (λ e. rw e (unlent refl));
+          (λ e. rw e (indexed-whole (good-described lim g s (leb-true _ _ (rw e at l)) (rw e at t))))
+          (λ e. rw e (indexed-none page table));
     }
 
 -- the part that was lent is kept true, and what was not is as it was

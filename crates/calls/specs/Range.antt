@@ -3,7 +3,7 @@ use Prim.Native.Nat.{ℕ}
 use mathlib.Core.Bool.{Bool, _&&_}
 use lib.Dec.{leb}
 use Rattle.nibl.specs.declared.Call.{Call}
-use Rattle.calls.specs.Tables.{longEnough}
+use Rattle.nibl.specs.Calls.{longEnough}
 
 -- "a length, position or budget outside the above", by the lengths alone
 abbrev pub rangeOf : ℕ → ℕ → ℕ → ℕ → Call → ℕ → Bool

@@ -1,23 +1,14 @@
 -- The table that a call is lent, by the call's numbers.
 use Prim.Native.Nat.{ℕ}
-use mathlib.Core.Bool.{Bool, true}
+use mathlib.Core.Bool.{true}
 use mathlib.Core.Path.{_≡_}
 use mathlib.Core.List.{List}
 use lib.ListN.{length, take}
-use lib.Dec.{leb}
 use Rattle.nibl.specs.Bytes.{if_then_else_}
-use Rattle.nibl.specs.Table.{describes, refilled}
-use Rattle.nibl.specs.Calls.{hasTable}
+use Rattle.nibl.specs.Table.{refilled}
+use Rattle.nibl.specs.Calls.{hasTable, longEnough}
 use Rattle.nibl.specs.declared.Call.{Call}
 use Rattle.table.specs.Index.{Indexed}
-
--- "A table of fewer than 1,025 entries is refused with 1", by its length
-abbrev pub longEnough : Call → ℕ → Bool
-longEnough c n = if hasTable c then leb 1025 n else true
-
--- whether a table that is lent describes the page
-abbrev pub trueOf : List ℕ → Call → List ℕ → Bool
-trueOf page c table = if hasTable c then describes page table else true
 
 -- how many entries are lent, and these: no table has none
 abbrev pub lentEntries : Call → List ℕ → ℕ

@@ -5,11 +5,11 @@ ghost use mathlib.Core.Bool.{true};
 ghost use lib.ListN.{length};
 ghost use Rattle.nibl.specs.Page.{placesOf, fitsPaused};
 ghost use Rattle.nibl.specs.Record.{unpaused};
-ghost use Rattle.nibl.specs.Calls.{lentAll, leftAll, outcomeWith, leaves, firstRefusal, continueFrom, takeLine, continueRun, limit};
+ghost use Rattle.nibl.specs.Calls.{lentAll, leftAll, outcomeWith, leaves, longEnough, trueOf, firstRefusal, continueFrom, takeLine, continueRun, limit};
 ghost use Rattle.ending.specs.Ends.{endedIn};
 ghost use Rattle.ending.specs.Lends.{Lists, Accepted};
 ghost use Rattle.calls.specs.Range.{rangeOf};
-ghost use Rattle.calls.specs.Tables.{trueOf, lentEntries, TableLent, tablePast};
+ghost use Rattle.calls.specs.Tables.{lentEntries, TableLent, tablePast};
 ghost use Rattle.calls.specs.Past.{pastRefusals};
 ghost use Rattle.table.specs.Index.{Indexed};
 use ending::Ended;
@@ -18,9 +18,17 @@ use nibl::LIMIT;
 use nibl::Paused;
 use nibl::ROOM;
 use nibl::Session;
+use nibl::TABLE_LEAST;
 
-// The least entries that a lent table has: a count, and a position for every four bytes of the longest page.
-const TABLE_LEAST: usize = 1025;
+// Whether a table that is lent has entries enough.
+fn long_enough(call: Call, table: usize) -> bool
+    ensures { λ r. ⌜ r ≡ longEnough call table ⌝ }
+{
+    if call.tabled == 0 {
+        return true;
+    }
+    TABLE_LEAST <= table
+}
 
 // Whether the lengths, the positions and the budget are those that a call may be lent.
 fn in_range(
@@ -57,10 +65,7 @@ fn in_range(
     if 65535 < call.budget {
         return false;
     }
-    if call.tabled == 0 {
-        return true;
-    }
-    TABLE_LEAST <= table
+    long_enough(call, table)
 }
 
 // Whether a table that is lent describes the page.

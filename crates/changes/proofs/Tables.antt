@@ -9,7 +9,7 @@ use native.Mathlib.Omega.{arith}
 use lib.ListN.{length, take, drop}
 use lib.Seq.{take-append-le, drop-append-seam}
 use lib.Dec.{ltb, leb, eqb}
-use borrow.Author.Tests.{ltb-true, ltb-false, leb-true, leb-false, eqb-true, eqb-false, le-ltb, ne-eqb}
+use borrow.Author.Tests.{ltb-true, leb-true, leb-false, eqb-true, eqb-false, le-ltb, ne-eqb}
 use Rattle.nibl.specs.Tree.{Member, Typed, new, delete, store}
 use Rattle.nibl.specs.Readings.{LineReading}
 use Rattle.nibl.specs.Typing.{Gathered}
@@ -19,14 +19,14 @@ use Rattle.nibl.specs.Calls.{Lent, Outcome, Left, tableIsTrue, firstRefusal, st
 use Rattle.nibl.proofs.Whole.{typed-complete}
 use Rattle.nibl.proofs.Determined.{determined}
 use Rattle.page.proofs.Walk.{by-cases}
-use Rattle.page.proofs.Program.{Program, none as no-record, each}
+use Rattle.page.proofs.Program.{Program, none as no-record}
 use Rattle.page.proofs.Changes.{with-program, without-program, onto-records}
 use Rattle.page.proofs.Tables.{lines-most, table-fits, begins-split, positions-length, walk-length, refilled-true, refilled-long}
 use Rattle.record.specs.Sound.{Sized, Sound}
 use Rattle.demands.specs.Lent.{HasTable, InRange, gatheredLine, Typing}
 use Rattle.demands.specs.Leaves.{BothUnchanged, StaysInRange, LengthsHeld, isEdit}
 use Rattle.demands.specs.Listing.{lentNext}
-use Rattle.demands.specs.Good.{GoodPage, TrueTable, Fits}
+use Rattle.demands.specs.Good.{GoodPage, TrueTable, FalseTable, Fits}
 use Rattle.demands.proofs.Accepted.{accepted-of, accepted-is, table-range-is}
 use Rattle.demands.proofs.Tables.{table-exact, table-kept, table-refused, table-after, true-after, long-after}
 use Rattle.demands.proofs.Forced.{out-of-range-is-1}
@@ -37,7 +37,9 @@ use Rattle.demands.proofs.Retyping.{line-read, program, line-short, deletes, ne
 use Rattle.demands.proofs.Outside.{page-held, only-edits-change-the-page, continue-keeps-the-page, lengths-held}
 use Rattle.demands.proofs.Written.{positions-stay-in-range}
 use Rattle.demands.proofs.Exactly.{twenty-six-exactly}
-use Rattle.changes.specs.Tables.{tabledBy, unlent, FalseTable, below, HeldBut}
+use Rattle.table.specs.Spots.{below}
+use Rattle.table.proofs.Below.{below-most}
+use Rattle.changes.specs.Tables.{tabledBy, unlent, HeldBut}
 
 -- "two permitted outcomes equal", the table with them
 pub one-left : (f : Lent → Outcome) (x : Lent) (a b : Left) → a ≡ leaves f x → b ≡ leaves f x → a ≡ b
@@ -86,23 +88,14 @@ not-looked-at x table h = calls-same x 0 table (rw h)
 
 -- 26 and 1
 module _ (x : Lent) where
-  parts : FalseTable x → InRange x × GoodPage limit (x .page) × HasTable x × (TrueTable (x .page) (x .table) → ⊥)
-  parts f = (f .range, f .good, f .lent, f .false)
-
   -- "26, a table that does not describe the page, directly after 18 and, like 18, with nothing changed, the pause included". Whether
   -- the record fits is not asked
-  pub exactly-26 : ((takeLine x .answer .stop ≡ 26) ↔ FalseTable x) × ((continueRun x .answer .stop ≡ 26) ↔ FalseTable x) × (FalseTable x → BothUnchanged x 26)
-  exactly-26 = (
-    (λ h. so (twenty-six-exactly x .0 .0 h), λ f. twenty-six-exactly x .0 .1 (parts f)),
-    (λ h. so (twenty-six-exactly x .1 .0 h), λ f. twenty-six-exactly x .1 .1 (parts f)),
-    λ f. no-true-table-is-26 x (f .range) (f .good) (f .lent) (f .false),
-  ) where
-    so : InRange x × GoodPage limit (x .page) × HasTable x × (TrueTable (x .page) (x .table) → ⊥) → FalseTable x
-    so p = record { range = p .0; good = p .1; lent = p .2; false = p .3 }
+  pub exactly-26 : ((takeLine x .answer .stop ≡ 26) ↔ FalseTable limit x) × ((continueRun x .answer .stop ≡ 26) ↔ FalseTable limit x) × (FalseTable limit x → BothUnchanged x 26)
+  exactly-26 = (twenty-six-exactly x .0, twenty-six-exactly x .1, λ f. no-true-table-is-26 x (f .range) (f .good) (f .lent) (f .false))
 
   -- a bad page comes before it, and a record that does not fit behind it
   pub in-its-order : (InRange x → (GoodPage limit (x .page) → ⊥) → (TrueTable (x .page) (x .table) → ⊥) → BothUnchanged x 18)
-      × (FalseTable x → (Fits (x .page) (x .session) → ⊥) → BothUnchanged x 26)
+      × (FalseTable limit x → (Fits (x .page) (x .session) → ⊥) → BothUnchanged x 26)
   in-its-order = (λ r g t. no-good-page-is-18 x r g, λ f n. exactly-26 .2 f)
 
   -- "A table of fewer than 1,025 entries is refused with 1"
@@ -160,29 +153,20 @@ module _ (x : Lent) where
 
 -- The lines before an edited one stand where they stood
 module _ (n : ℕ) where
-  below-none : {lim low : ℕ} {rs : List Stored} → n ≤ low → Program lim low rs → below n rs ≡ 0
-  below-none h no-record = refl
-  below-none h (each {r = r} l s p) = rw (le-ltb (r .line) n (omega arith)) (below-none (omega arith) p)
-
-  below-all : (rs : List Stored) → below n rs ≤ length rs
-  below-all [] = omega arith
-  below-all (r ∷ rs) = by-cases (ltb (r .line) n) (λ e. rw e (omega (arith, below-all rs))) (λ e. rw e (omega (arith, below-all rs)))
-
   below-without : (rs : List Stored) → below n rs ≤ length (without n rs)
   below-without [] = omega arith
   below-without (r ∷ rs) =
-      by-cases (eqb (r .line) n)
-      (λ e. rw (e, le-ltb (r .line) n (omega (arith, eqb-true (r .line) n e))) (below-all rs))
-      (λ e. rw e (by-cases (ltb (r .line) n) (λ f. rw f (omega (arith, below-without rs))) (λ f. rw f (omega (arith, below-without rs)))))
+      by-cases (ltb (r .line) n)
+      (λ e. let h = ltb-true (r .line) n e in rw (e, ne-eqb (r .line) n (λ f. omega arith)) (omega (arith, below-without rs)))
+      (λ e. rw e (omega arith))
 
-  without-before : {lim low : ℕ} {rs : List Stored} (at : ℕ) → Program lim low rs
-      → take (below n rs) (positionsFrom at (without n rs)) ≡ take (below n rs) (positionsFrom at rs)
-  without-before at no-record = refl
-  without-before at (each {r = r} {rs = rs} l s p) =
+  without-before : (at : ℕ) (rs : List Stored) → take (below n rs) (positionsFrom at (without n rs)) ≡ take (below n rs) (positionsFrom at rs)
+  without-before at [] = refl
+  without-before at (r ∷ rs) =
       by-cases (ltb (r .line) n)
       (λ e. let h = ltb-true (r .line) n e in
-      rw (e, ne-eqb (r .line) n (λ f. omega arith)) (ap (λ (ps : List ℕ). at ∷ ps) (without-before (at + size r) p)))
-      (λ e. let h = ltb-false (r .line) n e in rw (e, below-none {low = suc (r .line)} (omega arith) p))
+      rw (e, ne-eqb (r .line) n (λ f. omega arith)) (ap (λ (ps : List ℕ). at ∷ ps) (without-before (at + size r) rs)))
+      (λ e. rw e)
 
 module _ (q : Stored) where
   with-more : (rs : List Stored) → length rs ≤ length (with q rs)
@@ -191,15 +175,14 @@ module _ (q : Stored) where
       by-cases (ltb (q .line) (r .line)) (λ e. rw e (omega arith))
       (λ e. rw e (by-cases (eqb (q .line) (r .line)) (λ f. rw f (omega arith)) (λ f. rw f (omega (arith, with-more rs)))))
 
-  with-before : {lim low : ℕ} {rs : List Stored} (at : ℕ) → Program lim low rs
-      → take (below (q .line) rs) (positionsFrom at (with q rs)) ≡ take (below (q .line) rs) (positionsFrom at rs)
-  with-before at no-record = refl
-  with-before at (each {r = r} {rs = rs} l s p) =
+  with-before : (at : ℕ) (rs : List Stored) → take (below (q .line) rs) (positionsFrom at (with q rs)) ≡ take (below (q .line) rs) (positionsFrom at rs)
+  with-before at [] = refl
+  with-before at (r ∷ rs) =
       by-cases (ltb (r .line) (q .line))
       (λ e. let h = ltb-true (r .line) (q .line) e in
       rw (e, le-ltb (q .line) (r .line) (omega arith), ne-eqb (q .line) (r .line) (λ f. omega arith))
-      (ap (λ (ps : List ℕ). at ∷ ps) (with-before (at + size r) p)))
-      (λ e. let h = ltb-false (r .line) (q .line) e in rw (e, below-none (q .line) {low = suc (r .line)} (omega arith) p))
+      (ap (λ (ps : List ℕ). at ∷ ps) (with-before (at + size r) rs)))
+      (λ e. rw e)
 
 all-held : (k m : ℕ) {table after : List ℕ} → after ≡ table → HeldBut k m table after
 all-held k m e = record { long = rw e; before = rw e; past = rw e }
@@ -258,8 +241,8 @@ module _ (x : Lent) (g : Gathered) (h : Typing limit x g) where
   table-held-by-store n t ms r =
       let q : Stored = record { line = n; text = t } in
       let p = program x g h in
-      let k = below-all n rs in
-      edit-held (with q rs) (below n rs) k (omega (arith, with-more q rs)) (with-before q 0 p)
+      let k = below-most n rs in
+      edit-held (with q rs) (below n rs) k (omega (arith, with-more q rs)) (with-before q 0 rs)
       (with-program q (stored-storable limit (omega arith) r (line-short x g h)) (omega arith) p) (line-read x g (store n t ms) h (typed-complete r))
 
   -- of a deleted one, there or absent
@@ -267,7 +250,7 @@ module _ (x : Lent) (g : Gathered) (h : Typing limit x g) where
       → HeldBut (below n (recordsOf (x .page))) (length (recordsOf (takeLine x .page))) (x .table) (leaves takeLine x .table)
   table-held-by-delete n r = by (hasLine n rs) refl where
     by : (b : Bool) → hasLine n rs ≡ b → Held (below n rs)
-    by true e = edit-held (without n rs) (below n rs) (below-all n rs) (below-without n rs) (without-before n 0 (program x g h)) (without-program n (program x g h)) (deletes x g h n r true e)
+    by true e = edit-held (without n rs) (below n rs) (below-most n rs) (below-without n rs) (without-before n 0 rs) (without-program n (program x g h)) (deletes x g h n r true e)
     by false e = all-held (below n rs) _ (page-table x (takeLine x) (ap (λ (o : Outcome). o .page) (deletes x g h n r false e)))
 
   -- of NEW: all but the count

@@ -85,7 +85,7 @@ untrue =
     ∷ row two (2 ∷ 0 ∷ 8 ∷ 903 ∷ []) (step "GOTO 20" 20 (10 ∷ 20 ∷ []) (2 ∷ 0 ∷ 8 ∷ 903 ∷ []) ∷ [])
     ∷ []
 
--- a record that fits no page, with a true table and with a false one
+-- a record that does not fit the page, with a true table and with a false one
 abbrev pub unfit : List TableRow
 unfit =
     record { session = withPaused fresh 99; page = []; table = 0 ∷ 901 ∷ []; steps = step "" 19 [] (0 ∷ 901 ∷ 0 ∷ 0 ∷ []) ∷ [] }

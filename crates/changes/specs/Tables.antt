@@ -1,14 +1,9 @@
--- The words of item 3: a call with no table lent, a table that is none of the page's, and what an edit leaves of a table.
+-- The words of item 3: a call with no table lent, and what an edit leaves of a table.
 use Prim.Native.Nat.{ℕ, suc}
 use mathlib.Core.Path.{_≡_}
-use mathlib.Core.List.{List, [], _∷_}
+use mathlib.Core.List.{List}
 use lib.ListN.{length, take, drop}
-use lib.Dec.{ltb}
-use Rattle.nibl.specs.Bytes.{if_then_else_}
-use Rattle.nibl.specs.Page.{Stored}
-use Rattle.nibl.specs.Calls.{Lent, lentAll, limit}
-use Rattle.demands.specs.Lent.{HasTable, InRange}
-use Rattle.demands.specs.Good.{GoodPage, TrueTable}
+use Rattle.nibl.specs.Calls.{Lent, lentAll}
 
 -- the same lent, with another table or number that says whether it is lent
 abbrev pub tabledBy : ℕ → List ℕ → Lent → Lent
@@ -19,18 +14,6 @@ tabledBy n table x =
 -- the same call with no table lent
 abbrev pub unlent : Lent → Lent
 unlent x = tabledBy 0 (x .table) x
-
--- "26, a table that does not describe the page", behind what 1 and 18 are for
-pub record FalseTable (x : Lent) : Type 0 where
-  pub range : InRange x
-  pub good : GoodPage limit (x .page)
-  pub lent : HasTable x
-  pub false : TrueTable (x .page) (x .table) → ⊥
-
--- how many lines have a lower number than n
-abbrev pub below : ℕ → List Stored → ℕ
-below n [] = 0
-below n (r ∷ rs) = if ltb (r .line) n then suc (below n rs) else below n rs
 
 -- Of a table: "only the count and the entries from the edited line on may change", and "entries past the last line hold what they
 -- held". k lines stand before the edited one, and the page has m lines then

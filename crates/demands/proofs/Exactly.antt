@@ -25,9 +25,9 @@ use Rattle.nibl.proofs.Lines.{typed-sound}
 use Rattle.nibl.proofs.Whole.{typed-complete}
 use Rattle.letter.proofs.Typed.{no-cr, no-cr-left}
 use Rattle.page.proofs.Walk.{by-cases}
-use Rattle.demands.specs.Lent.{HasTable, InRange, Typing, OneOfThese}
+use Rattle.demands.specs.Lent.{InRange, Typing, OneOfThese}
 use Rattle.demands.specs.Leaves.{others}
-use Rattle.demands.specs.Good.{GoodPage, TrueTable, LentTrue, Fits, Unrefused}
+use Rattle.demands.specs.Good.{GoodPage, LentTrue, Fits, Unrefused, FalseTable}
 use Rattle.demands.specs.Valued.{NoCR}
 use Rattle.demands.specs.Stopped.{NeedsProgram, aDo, anUntil, aFor, aNext, anInput, anInputString, underIf, NeedsOne, DoesNotFit}
 use Rattle.demands.proofs.Numbers.{runNumbers, run-numbers, immediate-numbers, firstNumbers, first-numbers}
@@ -123,21 +123,17 @@ module _ (x : Lent) where
   )
 
   -- "26, a table that does not describe the page, directly after 18"
-  abbrev FalseTable : Type 0
-  FalseTable = InRange x × GoodPage limit (x .page) × HasTable x × (TrueTable (x .page) (x .table) → ⊥)
-
-  false-says : firstRefusal limit x ≡ 26 → FalseTable
+  false-says : firstRefusal limit x ≡ 26 → FalseTable limit x
   false-says h =
       let s = twenty-six-says h in
       let g = a-good-page (x .page) .0 (s .1) in
       let none : LentTrue x → ⊥ = λ t. true≢false (sym (lent-true-exact x g .1 t) ∙ s .2) in
-      (s .0, g, λ e. none (λ n. absurd (n e)), λ t. none (λ n. t))
+      record { range = s .0; good = g; lent = λ e. none (λ n. absurd (n e)); false = λ t. none (λ n. t) }
 
-  pub twenty-six-exactly : ((takeLine x .answer .stop ≡ 26) ↔ (InRange x × GoodPage limit (x .page) × HasTable x × (TrueTable (x .page) (x .table) → ⊥)))
-      × ((continueRun x .answer .stop ≡ 26) ↔ (InRange x × GoodPage limit (x .page) × HasTable x × (TrueTable (x .page) (x .table) → ⊥)))
+  pub twenty-six-exactly : ((takeLine x .answer .stop ≡ 26) ↔ FalseTable limit x) × ((continueRun x .answer .stop ≡ 26) ↔ FalseTable limit x)
   twenty-six-exactly = (
-    (λ h. false-says (first-of-line x 26 refl h), λ h. ap stopOf (no-true-table-is-26 x (h .0) (h .1) (h .2) (h .3) .0)),
-    (λ h. false-says (first-of-continue x 26 refl h), λ h. ap stopOf (no-true-table-is-26 x (h .0) (h .1) (h .2) (h .3) .1)),
+    (λ h. false-says (first-of-line x 26 refl h), λ h. ap stopOf (no-true-table-is-26 x (h .range) (h .good) (h .lent) (h .false) .0)),
+    (λ h. false-says (first-of-continue x 26 refl h), λ h. ap stopOf (no-true-table-is-26 x (h .range) (h .good) (h .lent) (h .false) .1)),
   )
 
   -- "session record does not fit"

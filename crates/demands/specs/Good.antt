@@ -119,6 +119,13 @@ PauseFits = PauseFitsBy ListReading
 abbrev pub Fits : List ℕ → Session → Type 0
 Fits = FitsBy ListReading
 
+-- "26, a table that does not describe the page", behind what 1 and 18 are for
+pub record FalseTable (lim : ℕ) (x : Lent) : Type 0 where
+  pub range : InRange x
+  pub good : GoodPage lim (x .page)
+  pub lent : HasTable x
+  pub false : TrueTable (x .page) (x .table) → ⊥
+
 -- what a call is lent that is past its first refusals, 1, 18, 26 and 19
 pub record Unrefused (lim : ℕ) (x : Lent) : Type 0 where
   pub range : InRange x

@@ -68,7 +68,7 @@ pub record RoundTrip (x y z : Lent) : Type 0 where
   pub after : drop (used (x .page)) (z .page) ≡ drop (used (x .page)) (y .page)
   pub memory : z .memory ≡ y .memory
   pub output : z .output ≡ y .output
-  -- a table that y has is true of it
+  -- a table that is lent is true of the page then
   pub table : tableIsTrue z ≡ true
   -- all lines were typed
   pub left : drop (z .call .inpos) (z .input) ≡ lastLF (recordsOf (x .page))

@@ -148,13 +148,19 @@ runOutcome r page = outcome (r .stop) (stopAt (r .stop) (r .lines)) (length (r .
 abbrev pub hasTable : Call → Bool
 hasTable c = not (eqb (c .tabled) 0)
 
--- "A table of fewer than 1,025 entries is refused with 1"
+-- "A table of fewer than 1,025 entries is refused with 1", one of n entries
+abbrev pub longEnough : Call → ℕ → Bool
+longEnough c n = if hasTable c then leb 1025 n else true
+
 abbrev pub tableInRange : Lent → Bool
-tableInRange x = if hasTable (x .call) then leb 1025 (length (x .table)) else true
+tableInRange x = longEnough (x .call) (length (x .table))
 
 -- "26, a table that does not describe the page"
+abbrev pub trueOf : List ℕ → Call → List ℕ → Bool
+trueOf page c table = if hasTable c then describes page table else true
+
 abbrev pub tableIsTrue : Lent → Bool
-tableIsTrue x = if hasTable (x .call) then describes (x .page) (x .table) else true
+tableIsTrue x = trueOf (x .page) (x .call) (x .table)
 
 -- The first refusals: "a length, position or budget outside the above", then 18, 26, 19; 0 for none
 abbrev pub inRange : Lent → Bool

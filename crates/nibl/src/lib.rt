@@ -31,6 +31,9 @@ pub const LAST_LINE: u16 = 32767;
 // How many bytes of a typed line, or of a reply, are kept.
 pub const LIMIT: usize = 72;
 
+// The least entries of a table that is lent: a count, and a position for every four bytes of the longest page.
+pub const TABLE_LEAST: usize = 1025;
+
 // How many operations and values there is room for: a record's length is one byte, and no statement has more operations
 // than bytes.
 pub const ROOM: usize = 256;

@@ -1,4 +1,4 @@
-// The page: the walk along its records by their length bytes, the line finder, the running text, and the edits.
+// The page: the walk along its records by their length bytes, to a line too, the running text, and the edits.
 // Any bytes whatever are looked at safely; what is said of a good page is said in proofs/.
 ghost use Prim.Native.Nat.{_+_, _-_, _≤_, _<_};
 ghost use mathlib.Core.Bool.{_&&_, not};
@@ -212,7 +212,7 @@ pub fn found_at(at: usize) -> FoundLine
     FoundLine::Nothing
 }
 
-// The line finder, which alone turns a line number into a place.
+// The walk to a line, which the line finder of crate `table` takes where no table is lent.
 pub fn find_line(page: &[u8], number: LineNumber) -> FoundLine
     ensures { λ r. ⌜ foundAt r ≡ reached (find (now (page .entry)) (number .0)) ⌝ }
 {

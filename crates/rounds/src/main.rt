@@ -19,12 +19,10 @@ use reader::MemberRead;
 use word::Cursor;
 use word::Word;
 
-// The works that go by a table, and how many entries that has.
+// The works that go by a table.
 const LINES_BY_TABLE: u16 = 16;
 
 const STEPS_BY_TABLE: u16 = 17;
-
-const ENTRIES: usize = 1025;
 
 // Where the page's byte stands that a typed line changes: a digit of the middle line.
 const CHANGED: usize = 2005;
@@ -396,7 +394,7 @@ fn rounds_by_table(work: u16, n: u16, bytes: &mut [u8]) -> u16
     if !places::is_good(&bytes[1..], nibl::LIMIT) {
         return 0;
     }
-    let mut table = [0u16; ENTRIES];
+    let mut table = [0u16; nibl::TABLE_LEAST];
     table::refill(&bytes[1..], &mut table, 0, 0);
     let mut sum: u16 = 0;
     let mut i: u16 = 0;

@@ -112,7 +112,7 @@ fn gone_at(page: &[u8], at: usize, n: u16) -> usize
     0
 }
 
-// A line's seat.
+// A line's spot: by halves, or by the page's walk where no table is lent.
 fn find_spot(page: &[u8], number: LineNumber, table: &[u16]) -> Spot
     requires { ⌜ Indexed (now page) (now table) ⌝ }
     ensures { λ r. ⌜ Spotted (now (page .entry)) (now (table .entry)) (number .0) r ⌝ }
@@ -135,7 +135,7 @@ fn find_spot(page: &[u8], number: LineNumber, table: &[u16]) -> Spot
     }
 }
 
-// The table is made true of a page whose first k lines it describes, and that go up to `from`: only the count and what follows those
+// The table is made true of a page whose first lines, so many, it describes; they go up to `from`. Only the count and what follows those
 // lines is written.
 pub fn refill(page: &[u8], table: &mut [u16], first: usize, from: usize)
     requires { ⌜ (1 ≤ length (now table) → Front (now page) (now table) first from) ⌝ }

@@ -1,6 +1,6 @@
 -- `in_range` meets its contract: each bound in turn. Assumes nothing.
 use mathlib.Core.Path.{sym}
-use borrow.Author.Tests.{le-leb, lt-leb, eq-eqb, ne-eqb}
+use borrow.Author.Tests.{le-leb, lt-leb}
 use borrow.Author.Needs.{needs}
 use Rattle.calls.proofs.in_range.Statement.{statement}
 use Rattle.calls.proofs.in_range.Tie as tie
@@ -68,33 +68,17 @@ returns-8 c =
 
 returns-9 : tie.Need-returns-9
 returns-9 c =
-    let a = c .before .before .before .before .before .before .before .before .before .before .before .before .before .args in
-    sym (rw (
-      le-leb 2 (a .page) (c .before .before .before .before .before .before .before .before .before .before .before .before .if1 .left),
-      le-leb (a .page) 4096 (c .before .before .before .before .before .before .before .before .before .before .before .if2 .left),
-      le-leb (a .memory) 4096 (c .before .before .before .before .before .before .before .before .before .before .if3 .left),
-      le-leb (a .input) 65535 (c .before .before .before .before .before .before .before .before .before .if4 .left),
-      le-leb (a .output) 65535 (c .before .before .before .before .before .before .before .before .if5 .left),
-      le-leb (a .call .inpos) (a .input) (c .before .before .before .before .before .before .if6 .left),
-      le-leb (a .call .outpos) (a .output) (c .before .before .before .before .if7 .left),
-      le-leb (a .call .budget) 65535 (c .before .before .if8 .left),
-      eq-eqb (a .call .tabled) 0 (c .if9 .taken),
-    ))
-
-returns-10 : tie.Need-returns-10
-returns-10 c =
-    let a = c .before .before .before .before .before .before .before .before .before .before .before .before .before .args in
-    sym (rw (
-      le-leb 2 (a .page) (c .before .before .before .before .before .before .before .before .before .before .before .before .if1 .left),
-      le-leb (a .page) 4096 (c .before .before .before .before .before .before .before .before .before .before .before .if2 .left),
-      le-leb (a .memory) 4096 (c .before .before .before .before .before .before .before .before .before .before .if3 .left),
-      le-leb (a .input) 65535 (c .before .before .before .before .before .before .before .before .before .if4 .left),
-      le-leb (a .output) 65535 (c .before .before .before .before .before .before .before .before .if5 .left),
-      le-leb (a .call .inpos) (a .input) (c .before .before .before .before .before .before .if6 .left),
-      le-leb (a .call .outpos) (a .output) (c .before .before .before .before .if7 .left),
-      le-leb (a .call .budget) 65535 (c .before .before .if8 .left),
-      ne-eqb (a .call .tabled) 0 (c .if9 .left),
-    ))
+    let a = c .before .before .before .before .before .before .before .before .before .before .before .before .args in
+    rw (
+      le-leb 2 (a .page) (c .before .before .before .before .before .before .before .before .before .before .before .if1 .left),
+      le-leb (a .page) 4096 (c .before .before .before .before .before .before .before .before .before .before .if2 .left),
+      le-leb (a .memory) 4096 (c .before .before .before .before .before .before .before .before .before .if3 .left),
+      le-leb (a .input) 65535 (c .before .before .before .before .before .before .before .before .if4 .left),
+      le-leb (a .output) 65535 (c .before .before .before .before .before .before .before .if5 .left),
+      le-leb (a .call .inpos) (a .input) (c .before .before .before .before .before .if6 .left),
+      le-leb (a .call .outpos) (a .output) (c .before .before .before .if7 .left),
+      le-leb (a .call .budget) 65535 (c .before .if8 .left),
+    ) (c .long-enough .ensures)
 
 pub in-range-spec : {M : Type 1} → statement M
-in-range-spec = tie.close (tie.spec returns returns-2 returns-3 returns-4 returns-5 returns-6 returns-7 returns-8 returns-9 returns-10)
+in-range-spec = tie.close (tie.spec returns returns-2 returns-3 returns-4 returns-5 returns-6 returns-7 returns-8 (λ c κs. search needs) returns-9)

@@ -1,5 +1,5 @@
 -- `is_described` meets its contract: by the call's number. Assumes nothing.
-use mathlib.Core.Path.{sym, _∙_}
+use mathlib.Core.Path.{sym}
 use borrow.Author.Tests.{eq-eqb, ne-eqb}
 use borrow.Author.Needs.{needs}
 use Rattle.calls.proofs.is_described.Statement.{statement}

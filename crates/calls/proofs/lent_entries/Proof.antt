@@ -1,7 +1,6 @@
 -- `lent_entries` meets its contract: by the call's number. Assumes nothing.
 use mathlib.Core.Path.{sym}
 use borrow.Author.Tests.{eq-eqb, ne-eqb}
-use borrow.Author.Needs.{needs}
 use Rattle.calls.proofs.lent_entries.Statement.{statement}
 use Rattle.calls.proofs.lent_entries.Tie as tie
 

@@ -1,4 +1,4 @@
-//! The first refusals, of both calls: 1, 18 and 19. They change nothing.
+//! The first refusals, of both calls: 1, 18 and 19. They change nothing. 26 is among the cases with a table.
 
 use model::{ForEntry, Pause, Place};
 
@@ -225,7 +225,7 @@ fn bad_records() -> Vec<Written> {
     cases.chain(good).chain(go_on).collect()
 }
 
-/// Two stops apply to each, and one comes first: 1, 18, 19, 7, 5, 3, 2.
+/// Two stops apply to each, and one comes first: 1, 18, 19, 7, 5, 3, 2; 26 is among the cases with a table.
 fn one_before_another() -> Vec<Written> {
     let spoil_page: Change = |gate| gate.page[10] = 9;
     let spoil_record: Change = |gate| gate.record.flags = 8;

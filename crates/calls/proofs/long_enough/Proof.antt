@@ -1,0 +1,14 @@
+-- `long_enough` meets its contract: by the call's number. Assumes nothing.
+use mathlib.Core.Path.{sym}
+use borrow.Author.Tests.{eq-eqb, ne-eqb}
+use Rattle.calls.proofs.long_enough.Statement.{statement}
+use Rattle.calls.proofs.long_enough.Tie as tie
+
+returns : tie.Need-returns
+returns c = sym (rw (eq-eqb _ 0 (c .if1 .taken)))
+
+returns-2 : tie.Need-returns-2
+returns-2 c = sym (rw (ne-eqb _ 0 (c .if1 .left)))
+
+pub long-enough-spec : {M : Type 1} → statement M
+long-enough-spec = tie.close (tie.spec returns returns-2)
