@@ -1,7 +1,7 @@
 // Does a piece of work of the proved code round after round, for its time to be held against the model's: see bench/run.
 // Standard input has the work's number, the number of rounds, LF and the bytes to work on. It writes the sum of what the
 // rounds found, which is to be the model's too.
-ghost use Prim.Native.Nat.{_-_, _≤_, _<_};
+ghost use Prim.Native.Nat.{_+_, _-_, _≤_, _<_};
 ghost use lib.ListN.{length};
 ghost use mathlib.Core.Path.{_≡_};
 ghost use Rattle.table.specs.Index.{Indexed};
@@ -16,6 +16,7 @@ use nibl::Session;
 use page::Edited;
 use page::FoundLine;
 use reader::MemberRead;
+use value::Wrote;
 use word::Cursor;
 use word::Word;
 
@@ -23,6 +24,9 @@ use word::Word;
 const LINES_BY_TABLE: u16 = 16;
 
 const STEPS_BY_TABLE: u16 = 17;
+
+// How many bytes have the values that are written.
+const VALUES: usize = 10;
 
 // Where the page's byte stands that a typed line changes: a digit of the middle line.
 const CHANGED: usize = 2005;
@@ -334,6 +338,66 @@ fn typed(page: &mut [u8], session: Session) -> u16
     )
 }
 
+// A line that prints, typed on a page: the steps that it takes till the output is full or nothing is left to print, where its
+// output ends, and a byte of it.
+fn prints(page: &mut [u8], line: &[u8]) -> u16
+    ensures { λ _. ⌜ length (now (page .exit)) ≡ length (now (page .entry)) ⌝ }
+{
+    let mut memory = [0u8; 1];
+    let mut output = [0u8; 4096];
+    let call = Call {
+        inpos: 0,
+        outpos: 0,
+        sense: 0,
+        budget: 32767,
+        tabled: 0,
+    };
+    let mut unlent = [0u16; 1];
+    let ended = calls::take_line(
+        Session::fresh(),
+        page,
+        &mut memory,
+        line,
+        &mut output,
+        call,
+        &mut unlent,
+    );
+    let answer = ended.answer;
+    let sum = add(answer.steps, answer.outpos);
+    add(sum, wide(output[2000]))
+}
+
+fn byte_value(b: u8) -> u16 {
+    b as u16
+}
+
+// The value that stands in two bytes.
+fn value_at(bytes: &[u8], at: usize) -> u16
+    requires { ⌜ at + 1 < length (now bytes) ⌝ }
+{
+    let high = byte_value(bytes[at]);
+    value::add(value::mul(high, 256), byte_value(bytes[at + 1]))
+}
+
+// The values of the first bytes are written behind them, one after the other; where they end.
+fn numbers(bytes: &mut [u8]) -> u16
+    ensures { λ _. ⌜ length (now (bytes .exit)) ≡ length (now (bytes .entry)) ⌝ }
+{
+    if bytes.len() <= VALUES {
+        return 0;
+    }
+    let mut end = VALUES;
+    let mut at = 0;
+    while at < VALUES {
+        let v = value_at(bytes, at);
+        if let Wrote::To(next) = value::write_number(bytes, end, v) {
+            end = next;
+        }
+        at += 2;
+    }
+    add(0, end)
+}
+
 // A line that is typed on an empty page.
 fn alone(line: &[u8]) -> u16 {
     let mut page = [nibl::END_MARK; 128];
@@ -355,6 +419,9 @@ fn round(work: u16, bytes: &mut [u8], ops: &mut [u32]) -> u16
         11 => typed(bytes, full()),
         14 => alone(bytes),
         15 => spread(bytes, &unlent[..0]),
+        18 => numbers(bytes),
+        19 => prints(bytes, b"RUN\r"),
+        20 => prints(bytes, b"LIST\r"),
         _ => 0,
     }
 }

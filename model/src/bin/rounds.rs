@@ -17,6 +17,7 @@ use model::reader::read_list;
 use model::rules::{empty_page, full_page, RULES, TOGETHER};
 use model::table::{walk, TABLE_LEAST};
 use model::tree::Tree;
+use model::value::printed;
 use model::words::{Word, Words};
 use model::{continue_run, take_line, ForEntry, ForStack, Lent, Pause, Place, PlaceStack, Record};
 
@@ -69,6 +70,16 @@ fn lines() -> Vec<u8> {
 
 fn numbers() -> impl Iterator<Item = LineNumber> {
     (0..200).map(|line| LineNumber(line * 7))
+}
+
+/// A page of 190 lines, each of one statement, whose numbers have one to five digits.
+fn wide_lines() -> Vec<u8> {
+    let numbers = (0..5).flat_map(|power| {
+        let least = 10u16.pow(power);
+        let last = least.saturating_mul(10).min(32_768);
+        (least..last).step_by(usize::from((last - least) / 45).max(1))
+    });
+    program(4096, numbers.map(|number| (number, RULES[0])))
 }
 
 /// A page of 600 lines, as short as can be: of the numbers below 660 every eleventh is not there.
@@ -296,6 +307,51 @@ fn typed(page: &mut [u8], record: Record) -> u16 {
     add(sum, page[CHANGED])
 }
 
+/// A line that prints, typed on a page: the steps that it takes till the output is full or nothing is left to print, where its
+/// output ends, and a byte of it.
+fn prints(page: &mut [u8], line: &str) -> u16 {
+    let output = &mut [0; 4096];
+    let lent = Lent {
+        input: line.as_bytes(),
+        page,
+        memory: &mut [0],
+        output,
+        input_position: 0,
+        output_position: 0,
+        sense: 0,
+        budget: 32_767,
+        table: None,
+    };
+    let answer = take_line(&mut Record::default(), lent);
+    let found = [answer.steps as usize, answer.output_position as usize];
+    add(found.into_iter().fold(0, add), output[2000])
+}
+
+/// Numbers of one to five digits, and a program that prints them till the output is full.
+const NUMBERS: [i16; 5] = [7, 42, -510, 1976, -30005];
+
+fn printing() -> Vec<u8> {
+    program(256, [(0, " PRINT 7,42,-510,1976,-30005;:GOTO 0")])
+}
+
+/// The two bytes of each of them, and room to write them behind.
+fn values() -> Vec<u8> {
+    let values = NUMBERS.iter().flat_map(|number| number.to_be_bytes());
+    values.chain([0; 32]).collect()
+}
+
+/// The values of the first bytes are written behind them, one after the other; where they end.
+fn numbers_written(bytes: &mut [u8]) -> u16 {
+    let (values, room) = bytes.split_at_mut(2 * NUMBERS.len());
+    let mut end = 0;
+    for value in values.chunks(2) {
+        let item = printed(i16::from_be_bytes([value[0], value[1]]));
+        room[end..end + item.len()].copy_from_slice(item.as_bytes());
+        end += item.len();
+    }
+    add(0, values.len() + end)
+}
+
 /// A line that is typed on an empty page.
 fn alone(line: &[u8]) -> u16 {
     take(&mut [END_MARK[0]; 128], Record::default(), line)
@@ -329,6 +385,9 @@ fn input(work: &str) -> Option<Vec<u8>> {
         "12" => Some(nested()),
         "13" | "17" => Some(calling()),
         "15" | "16" => Some(short_lines()),
+        "18" => Some(values()),
+        "19" => Some(printing()),
+        "20" => Some(wide_lines()),
         _ => {
             let (_, line) = ALONE.iter().find(|(name, _)| *name == work)?;
             Some(line.as_bytes().to_vec())
@@ -389,6 +448,9 @@ fn run(input: &[u8]) -> Option<u16> {
                 halves(black_box(page), black_box(table), spread())
             }))
         }
+        "18" => Some(repeat(rounds, || numbers_written(black_box(page)))),
+        "19" => Some(repeat(rounds, || prints(black_box(page), "RUN\r"))),
+        "20" => Some(repeat(rounds, || prints(black_box(page), "LIST\r"))),
         "17" => {
             let table = &mut table(page);
             Some(repeat(rounds, || steps(black_box(page), Some(table))))
