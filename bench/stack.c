@@ -1,17 +1,20 @@
 /*
  * How much stack a call takes, on the compiled library, without a table of line places and with one: each call runs on a
- * stack of its own that was painted, and the deepest byte that changed is looked for. Bytes are counted from the caller's
+ * stack of its own that was painted, and the deepest byte that changed is looked for. And how much is in use where a call
+ * writes: the output is locked, so that the first byte written stops the call there. Bytes are counted from the caller's
  * frame on.
  */
+#include <signal.h>
 #include <stdio.h>
 #include <string.h>
+#include <sys/mman.h>
 #include <ucontext.h>
 
 #include "nibl.h"
 
-enum { PAINT = 0xA5, STACK = 1 << 20 };
+enum { PAINT = 0xA5, STACK = 1 << 20, OUTPUT = 1 << 16 };
 
-static uint8_t page[NIBL_PAGE_MOST], memory[NIBL_MEMORY_MOST], output[NIBL_OUTPUT_MOST];
+static uint8_t page[NIBL_PAGE_MOST], memory[NIBL_MEMORY_MOST], *output;
 static uint16_t table[NIBL_TABLE_LEAST];
 static nibl_record record;
 static nibl_answer answer;
@@ -30,7 +33,7 @@ static void call(void) {
     nibl_call numbers = {.inpos = 0, .outpos = 0, .sense = 0, .budget = budget, .tabled = tabled};
     frame = __builtin_frame_address(0);
     (continues ? nibl_continue_run : nibl_take_line)(&record, page, sizeof page, memory, sizeof memory,
-                                                     (const uint8_t *)input, strlen(input), output, sizeof output,
+                                                     (const uint8_t *)input, strlen(input), output, NIBL_OUTPUT_MOST,
                                                      &numbers, &answer, table, NIBL_TABLE_LEAST);
 }
 
@@ -53,6 +56,39 @@ static size_t typed(const char *text, size_t steps) {
     budget = steps;
     continues = 0;
     return depth();
+}
+
+/* How deep the stack was where the output was written first. */
+static size_t touched;
+
+static void unlock(int number, siginfo_t *info, void *context) {
+    const ucontext_t *at = context;
+#if defined __x86_64__
+    const uint8_t *top = (const uint8_t *)at->uc_mcontext.gregs[REG_RSP];
+#else
+    const uint8_t *top = (const uint8_t *)at->uc_mcontext.sp;
+#endif
+    (void)number;
+    (void)info;
+    touched = (size_t)(frame - top);
+    mprotect(output, OUTPUT, PROT_READ | PROT_WRITE);
+}
+
+static size_t written(const char *text) {
+    touched = 0;
+    mprotect(output, OUTPUT, PROT_READ);
+    typed(text, NIBL_BUDGET_MOST);
+    return touched;
+}
+
+/* The handler has a stack of its own: the one of the call may be any. */
+static void lend_output(void) {
+    static uint8_t handlers[1 << 16];
+    const stack_t apart = {.ss_sp = handlers, .ss_size = sizeof handlers};
+    struct sigaction action = {.sa_sigaction = unlock, .sa_flags = SA_SIGINFO | SA_ONSTACK};
+    output = mmap(NULL, OUTPUT, PROT_READ | PROT_WRITE, MAP_PRIVATE | MAP_ANONYMOUS, -1, 0);
+    sigaltstack(&apart, NULL);
+    sigaction(SIGSEGV, &action, NULL);
 }
 
 static size_t continued(const char *replies) {
@@ -133,6 +169,12 @@ static void measure(void) {
     store("10 INPUT A,B,C,D,E,F,G,H,I,J,K,L,M,N,O,P,Q,R,S,T,U,V,W,X,Y,Z,A,B,C,D\r");
     show("INPUT of 30 variables",
          typed("RUN\r1,2,3,4,5,6,7,8,9,0,1,2,3,4,5,6,7,8,9,0,1,2,3,4,5,6,7,8,9,0\r", NIBL_BUDGET_MOST));
+    puts("in use where a call writes:");
+    start();
+    show("PRINT of a number", written("PR 12345\r"));
+    show("PRINT of a string", written("PR \"12345\"\r"));
+    store("12345 DO\r");
+    show("LIST of a line", written("LIST\r"));
     puts("each more of these in a line:");
     start();
     each("item of PRINT", "PR A", ",A", "", "");
@@ -152,6 +194,7 @@ static void measure(void) {
 }
 
 int main(void) {
+    lend_output();
     for (tabled = 0; tabled < 2; tabled++) {
         puts(tabled ? "with a table of line places:" : "without a table of line places:");
         measure();

@@ -66,8 +66,8 @@ fn cases_of_the_landed_item_alone_are_answered() {
     let of = |upto: &str| line.replacen('{', &format!("{{\"upto\":{upto},"), 1);
     let answered = by_library(&line);
     assert!(answered.starts_with("{\"stop\":"), "{answered}");
-    assert_eq!(by_library(&of("3")), answered);
-    for item in (0..=13).filter(|&item| item != 3) {
+    assert_eq!(by_library(&of("4")), answered);
+    for item in (0..=13).filter(|&item| item != 4) {
         assert_eq!(by_library(&of(&item.to_string())), SKIP, "{item}");
     }
     for upto in ["14", "-1", "null", "\"1\""] {
@@ -103,7 +103,7 @@ fn what_a_case_need_not_say() {
 fn a_table_goes_in_and_comes_back_packed() {
     let left = |line: &str, table: &str| {
         let line = format!(
-            r#"{{"upto":3,"call":"line","page":"\u0000\n\u0008 END\r\u00ff\u00ff........","inp":"{line}\r","table":{table}}}"#
+            r#"{{"upto":4,"call":"line","page":"\u0000\n\u0008 END\r\u00ff\u00ff........","inp":"{line}\r","table":{table}}}"#
         );
         let outcome = by_library(&line);
         assert_eq!(outcome, drive(line.as_bytes()));

@@ -12,7 +12,7 @@ use crate::json::{parse, push_bytes, push_list, Json};
 use crate::record::{ForEntry, ForStack, Pause, Place, PlaceStack, Record};
 
 /// The last of document 02's items that is in force.
-const LANDED: u8 = 3;
+const LANDED: u8 = 4;
 
 const ITEMS: u8 = 13;
 

@@ -17,6 +17,9 @@ fn printed_rows() {
         ("PRINT 300*300", " 24464 "),
         ("PRINT NOT 0=0", " 0 "),
         ("PRINT 2+3*4 OR 1", " 15 "),
+        ("PRINT #8000", "-32768 "),
+        ("PRINT 0", " 0 "),
+        ("PRINT 1005", " 1005 "),
     ];
     for (typed, printed) in rows {
         assert_eq!(fresh_out(typed), printed, "{typed}");
@@ -53,6 +56,12 @@ fn largest_line_number() {
     let before = gate.page.clone();
     assert_eq!(gate.stop("32768 END"), 5);
     assert_eq!(gate.page, before);
+}
+
+#[test]
+fn line_0_listed() {
+    let mut gate = Gate::with(&["0 END"]);
+    assert_eq!(gate.out("LIST"), "0 END\r\n");
 }
 
 #[test]

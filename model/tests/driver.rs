@@ -170,20 +170,20 @@ fn with(field: &str) -> String {
 
 #[test]
 fn the_item_of_a_case() {
-    assert_eq!(drive(with("\"upto\":3").as_bytes()), OUTCOME);
-    for item in (0..=13).filter(|&item| item != 3) {
+    assert_eq!(drive(with("\"upto\":4").as_bytes()), OUTCOME);
+    for item in (0..=13).filter(|&item| item != 4) {
         let case = with(&format!("\"upto\":{item}"));
         assert_eq!(drive(case.as_bytes()), SKIP, "{item}");
         let other = format!("{{\"call\":\"save\",\"saved\":[1],\"upto\":{item}}}");
         assert_eq!(drive(other.as_bytes()), SKIP, "{item}");
     }
     for upto in [
-        "14", "-1", "256", "259", "3.0", "null", "true", "[3]", "{}", "\"3\"",
+        "14", "-1", "256", "260", "4.0", "null", "true", "[4]", "{}", "\"4\"",
     ] {
         let answer = drive(with(&format!("\"upto\":{upto}")).as_bytes());
         assert!(answer.starts_with("{\"error\":"), "{upto}: {answer}");
     }
-    let twice = drive(with("\"upto\":3,\"upto\":3").as_bytes());
+    let twice = drive(with("\"upto\":4,\"upto\":4").as_bytes());
     assert_eq!(twice, r#"{"error":"\"upto\" twice"}"#);
 }
 
@@ -197,7 +197,7 @@ fn what_later_items_add_is_absent_or_null() {
         ("lists", "[]"),
         ("room", "0"),
     ] {
-        for front in ["", "\"upto\":3,"] {
+        for front in ["", "\"upto\":4,"] {
             let case = with(&format!("{front}\"{field}\":null"));
             assert_eq!(drive(case.as_bytes()), OUTCOME, "{field}");
             let answer = drive(with(&format!("{front}\"{field}\":{value}")).as_bytes());
@@ -260,7 +260,7 @@ fn a_table_stands_before_the_record() {
         (alone, alone),
         (&others, &nines),
     ] {
-        let case = with(&format!("\"upto\":3,\"table\":{given}"));
+        let case = with(&format!("\"upto\":4,\"table\":{given}"));
         assert_eq!(drive(case.as_bytes()), with_table(left), "{given}");
     }
     assert_eq!(drive(with("\"table\":null").as_bytes()), OUTCOME);

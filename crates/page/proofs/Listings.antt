@@ -1,6 +1,6 @@
 -- A record as LIST writes it, and the listing one record at a time.
 -- Assumes nothing.
-use Prim.Native.Nat.{ℕ, zero, suc, _+_, _-_, _/_, _%_, _≤_, _<_}
+use Prim.Native.Nat.{ℕ, zero, suc, _+_, _-_, _≤_}
 use mathlib.Core.Path.{_≡_, refl, sym, ap, _∙_}
 use mathlib.Core.List.{List, [], _∷_, _++_}
 use native.Mathlib.Numerals.{add-one}
@@ -8,9 +8,9 @@ use native.Mathlib.Omega.{arith}
 use lib.ListN.{length, take, drop, set, length-append}
 use lib.Seq.{sets, length-sets, drop-drop}
 use lib.Dec.{leb}
-use borrow.Author.Tests.{le-leb, lt-ltb, le-ltb}
+use borrow.Author.Tests.{le-leb}
 use Rattle.nibl.specs.Page.{Stored, textAt, lengthAt}
-use Rattle.nibl.specs.Values.{is, no, digitsN, digits}
+use Rattle.nibl.specs.Values.{is, no, digits}
 use Rattle.nibl.specs.Meaning.{World, withOutput, put}
 use Rattle.nibl.specs.Calls.{listed, listFrom}
 use Rattle.value.specs.Writes.{Writes, itemFits}
@@ -20,38 +20,6 @@ use Rattle.value.proofs.Writing.{sets-append, writes-whole}
 use Rattle.page.specs.declared.Listed.the-variants as lines
 use Rattle.page.specs.Listing.{shown, listing, Here, shownIn}
 use Rattle.page.proofs.Walk.{by-cases, Met}
-
--- how many digits there are
-more : (k n : ℕ) (ds : List ℕ) → 10 ≤ n → digitsN (suc k) n ds ≡ digitsN k (n / 10) ((48 + n % 10) ∷ ds)
-more k n ds h = rw (le-ltb n 10 h, digitsN)
-
-last : (k n : ℕ) (ds : List ℕ) → n < 10 → length (digitsN (suc k) n ds) ≡ suc (length ds)
-last k n ds h = rw (lt-ltb n 10 h, digitsN)
-
-module _ (n : ℕ) where
-  pub digits-1 : n < 10 → 1 ≡ length (digits n)
-  unfolding digits
-  digits-1 h = sym (last 4 n [] h)
-
-  pub digits-2 : 10 ≤ n → n < 100 → 2 ≡ length (digits n)
-  unfolding digits
-  digits-2 h k = sym (ap length (more 4 n [] h) ∙ last 3 (n / 10) _ (omega arith))
-
-  pub digits-3 : 100 ≤ n → n < 1000 → 3 ≡ length (digits n)
-  unfolding digits
-  digits-3 h k = sym (ap length (more 4 n [] (omega arith) ∙ more 3 (n / 10) _ (omega arith)) ∙ last 2 (n / 10 / 10) _ (omega arith))
-
-  pub digits-4 : 1000 ≤ n → n < 10000 → 4 ≡ length (digits n)
-  unfolding digits
-  digits-4 h k =
-      sym (ap length (more 4 n [] (omega arith) ∙ more 3 (n / 10) _ (omega arith) ∙ more 2 (n / 10 / 10) _ (omega arith))
-      ∙ last 1 (n / 10 / 10 / 10) _ (omega arith))
-
-  pub digits-5 : 10000 ≤ n → n < 65536 → 5 ≡ length (digits n)
-  unfolding digits
-  digits-5 h k =
-      sym (ap length (more 4 n [] (omega arith) ∙ more 3 (n / 10) _ (omega arith) ∙ more 2 (n / 10 / 10) _ (omega arith) ∙ more 1 (n / 10 / 10 / 10) _ (omega arith))
-      ∙ last 0 (n / 10 / 10 / 10 / 10) _ (omega arith))
 
 -- a record's text is a part of its page
 take-own : (m : ℕ) (l : List ℕ) → take (length (take m l)) l ≡ take m l

@@ -12,7 +12,6 @@ ghost use Rattle.nibl.specs.Bytes.{if_then_else_, byte};
 ghost use Rattle.nibl.specs.Page.{recordBytes, isEnd, find, lineAt, lengthAt, lineOf, used, usedBy, recordsOf};
 ghost use Rattle.nibl.specs.Record.{positionOf};
 ghost use Rattle.nibl.specs.Calls.{lineFrom, textFrom, listed};
-ghost use Rattle.nibl.specs.Values.{digits};
 ghost use Rattle.value.specs.Writes.{Writes};
 ghost use Rattle.page.specs.Edits.{Seated, Seatable, moved, canMove, spliced, changed, storeAt, deleteAt, newOf};
 ghost use Rattle.page.specs.Listing.{shown, listing, Here};
@@ -25,6 +24,7 @@ use nibl::LineNumber;
 use nibl::Onward;
 use nibl::Place;
 use value::Wrote;
+use value::digit_count;
 use value::write_digits;
 use value::write_item;
 
@@ -475,25 +475,6 @@ pub fn new_page(page: &mut [u8]) -> Edited
     page[0] = END_MARK;
     page[1] = END_MARK;
     Edited::Done
-}
-
-// How many digits a number has.
-pub fn digit_count(n: u16) -> usize
-    ensures { λ r. ⌜ r ≡ length (digits n) ⌝ }
-{
-    if n < 10 {
-        return 1;
-    }
-    if n < 100 {
-        return 2;
-    }
-    if n < 1000 {
-        return 3;
-    }
-    if n < 10000 {
-        return 4;
-    }
-    5
 }
 
 // The record of `size` bytes at `at` as LIST writes it: digits, text, CR, LF.

@@ -52,7 +52,7 @@ fn is_storable(text: &[u8], line: u16, lim: usize, ops: &mut [u32]) -> bool
     requires { ⌜ Roomy (now text) (now ops) ⌝ }
     ensures { λ r. ⌜ r ≡ isStorable lim line (now (text .entry)) ⌝ }
 {
-    if lim < text.len() + page::digit_count(line) {
+    if lim < text.len() + value::digit_count(line) {
         return false;
     }
     if starts_digit(text) {

@@ -1,18 +1,15 @@
 -- Laws of a number's digits, for this crate's proofs and for callers to cite. Assumes nothing.
 use Prim.Native.Nat.{ℕ, zero, suc, _+_, _-_, _*_, _/_, _%_, _^_, _≤_, _<_}
-use mathlib.Core.Path.{_≡_, refl, sym, ap, _∙_}
+use mathlib.Core.Path.{_≡_, refl, sym, ap, _∙_, subst⁻¹}
 use mathlib.Core.Bool.{Bool, true, false}
 use mathlib.Core.List.{List, [], _∷_, _++_}
-use native.Mathlib.Nat.{pow-suc}
-use native.Mathlib.Numerals.{add-one}
+use native.Mathlib.Nat.{pow-suc, one-le-pow, zero-lt-suc, mul-comm, mul-assoc, mod-lt, mod-eq-of-lt, mod-add-div, add-mul-div-left, add-mul-mod-self-left, div-div-eq-div-mul}
 use native.Mathlib.Omega.{arith}
-use lib.ListN.{length, take, drop, set, getD, length-append, length-drop, length-set}
-use lib.Seq.{drop-cons, getD-set-same, drop-set-lt, take-at, take-all}
+use lib.ListN.{length, getD, length-append}
 use lib.Dec.{ltb}
 use borrow.Author.Tests.{lt-ltb, le-ltb, ltb-true, ltb-false, le-leb}
 use Rattle.nibl.specs.Bytes.{isDigit, All, none, each, decimalValue}
 use Rattle.nibl.specs.Values.{digitsN, digits, printed, magnitude}
-use Rattle.value.specs.Writes.{DigitsAt, signByte}
 
 -- what holds of a last digit, and of a digit with the others before it, holds of the digits
 digits-case : (P : List ℕ → Type 0) (k n : ℕ) (ds : List ℕ) → (n < 10 → P ((48 + n) ∷ ds)) → (9 < n → P (digitsN k (n / 10) ((48 + n % 10) ∷ ds)))
@@ -37,59 +34,75 @@ digits-before (suc k) n ds es =
     (λ h. digits-last k n (ds ++ es) h)
     (λ h. digits-step k n (ds ++ es) h ∙ digits-before k (n / 10) ((48 + n % 10) ∷ ds) es)
 
--- ---- digits collected backward
+-- ---- digits from the front
 
-put-before : (l : List ℕ) (k a : ℕ) → k < length l → drop k (set l k a) ≡ a ∷ drop (k + 1) l
-put-before l k a h =
-    let g : k < length (set l k a) = rw length-set h in
-    rw (drop-cons (set l k a) k 0 g, getD-set-same l k a 0 h, drop-set-lt (suc k) l k a (omega arith), add-one)
+-- k digits of n, the front one by its power of ten and those of the rest, zeros kept
+abbrev pub byPowers : ℕ → ℕ → List ℕ
+byPowers zero n = []
+byPowers (suc k) n = (48 + n / 10 ^ k) ∷ byPowers k (n % 10 ^ k)
 
--- eight bytes whose part from room + 2 on has the digits that are done: `left`, of at most `room` digits, is still to be put before them
-pub record Collected (before : List ℕ) (n : ℕ) (bytes : List ℕ) (room left : ℕ) : Type 0 where
-  pub low : 1 ≤ room
-  pub high : room ≤ 5
-  pub small : left < 10 ^ room
-  pub first-long : length before ≡ 8
-  pub long : length bytes ≡ 8
-  pub done : digitsN room left (drop (room + 2) bytes) ≡ digitsN 5 n (drop 7 before)
+-- a number parted by ten times p, and by ten
+module _ (n p : ℕ) (some : 0 < p) where
+  parted : n ≡ n % (p * 10) + 10 * (p * (n / (p * 10)))
+  parted =
+      sym (mod-add-div n (p * 10))
+      ∙ ap (λ m. n % (p * 10) + m) (ap (λ m. m * (n / (p * 10))) (mul-comm p 10) ∙ mul-assoc 10 p (n / (p * 10)))
 
-pub collected-none : (before : List ℕ) (n : ℕ) → length before ≡ 8 → n < 65536 → Collected before n before 5 n
-collected-none before n l h =
-    record { low = omega arith; high = omega arith; small = omega arith; first-long = l; long = l; done = refl }
+  part-last : n % (p * 10) % 10 ≡ n % 10
+  part-last = sym (ap (λ m. m % 10) parted ∙ add-mul-mod-self-left (n % (p * 10)) 10 (p * (n / (p * 10))))
 
-pub collected-turn : {before bytes : List ℕ} {n room left : ℕ} → Collected before n bytes room left → 9 < left
-    → Collected before n (set bytes (room + 1) (48 + left % 10)) (room - 1) (left / 10)
-collected-turn {room = zero} c h = absurd (omega arith)
-collected-turn {room = suc zero} c h = absurd (omega arith)
-collected-turn {bytes = bytes} {room = suc (suc m)} {left = left} c h =
-    let e : suc (suc m) - 1 ≡ suc m = omega arith in
-    let p : 10 ^ suc (suc m) ≡ 10 ^ suc m * 10 = pow-suc 10 (suc m) in
-    let i : suc m + 2 ≡ suc (suc m) + 1 = omega arith in
-    let j : suc (suc m) + 1 + 1 ≡ suc (suc m) + 2 = omega arith in
-    let g : suc (suc m) + 1 < length bytes = omega arith in
-    rw e
-    (record {
-      low = omega arith;
-      high = omega arith;
-      small = omega arith;
-      first-long = c .first-long;
-      long = simp length-set (c .long);
-      done = rw (i, put-before bytes (suc (suc m) + 1) (48 + left % 10) g, j) (sym (digits-step (suc m) left _ h) ∙ c .done);
-    })
+  tenth : n / 10 ≡ n % (p * 10) / 10 + p * (n / (p * 10))
+  tenth = ap (λ m. m / 10) parted ∙ add-mul-div-left (n % (p * 10)) (p * (n / (p * 10))) (omega arith)
 
-pub collected-end : {before bytes : List ℕ} {n room left : ℕ} → Collected before n bytes room left → left < 10
-    → DigitsAt before n (room + 1) (set bytes (room + 1) (48 + left))
+  part-low : n % (p * 10) / 10 < p
+  part-low = let h : n % (p * 10) < p * 10 = mod-lt n (omega arith) in omega arith
+
+  part-front : n / (p * 10) ≡ n / 10 / p
+  part-front = sym (div-div-eq-div-mul n 10 p ∙ ap (λ m. n / m) (mul-comm 10 p))
+
+  part-rest : n % (p * 10) / 10 ≡ n / 10 % p
+  part-rest = sym (ap (λ m. m % p) tenth ∙ add-mul-mod-self-left (n % (p * 10) / 10) p (n / (p * 10)) ∙ mod-eq-of-lt part-low)
+
+pub power-some : (k : ℕ) → 0 < 10 ^ k
+power-some k = one-le-pow k 10 (zero-lt-suc 9)
+
+-- the last of them is the last digit, and those before it are those of the tenth
+by-powers-last : (k n : ℕ) → n < 10 ^ suc k → byPowers (suc k) n ≡ byPowers k (n / 10) ++ ((48 + n % 10) ∷ [])
+by-powers-last zero n h = ap (λ d. (48 + d) ∷ []) (omega arith)
+by-powers-last (suc k) n h =
+    let p : 10 ^ suc k ≡ 10 ^ k * 10 = pow-suc 10 k in
+    let z = power-some k in
+    rw (by-powers-last k (n % 10 ^ suc k) (mod-lt n (power-some (suc k))), p, part-last n (10 ^ k) z, part-front n (10 ^ k) z, part-rest n (10 ^ k) z)
+
+-- as many of them by powers of ten as there are, and the number is below the next power
+pub record FromFront (n : ℕ) (l : List ℕ) : Type 0 where
+  pub same : l ≡ byPowers (length l) n
+  pub below : n < 10 ^ length l
+
+from-front : (k n : ℕ) → n < 10 ^ k → FromFront n (digitsN k n [])
+from-front zero n h = record { same = refl; below = h }
+from-front (suc k) n h =
+    let p : 10 ^ suc k ≡ 10 ^ k * 10 = pow-suc 10 k in
+    digits-case (FromFront n) k n []
+    (λ g. record { same = ap (λ d. (48 + d) ∷ []) (omega arith); below = omega arith })
+    (λ g.
+    subst⁻¹ (FromFront n) (digits-before k (n / 10) [] ((48 + n % 10) ∷ []))
+    (more (digitsN k (n / 10) []) (from-front k (n / 10) (omega arith))))
+  where
+    more : (l : List ℕ) → FromFront (n / 10) l → FromFront n (l ++ ((48 + n % 10) ∷ []))
+    more l f =
+        let e : length (l ++ ((48 + n % 10) ∷ [])) ≡ suc (length l) = simp length-append (omega arith) in
+        let p : 10 ^ suc (length l) ≡ 10 ^ length l * 10 = pow-suc 10 (length l) in
+        let b : n < 10 ^ suc (length l) = omega (arith, f .below) in
+        record {
+          same = rw e (ap (λ r. r ++ ((48 + n % 10) ∷ [])) (f .same) ∙ sym (by-powers-last (length l) n b));
+          below = rw e b;
+        }
+
+-- a number's digits are the front one by the highest power that it reaches and the digits of the rest, zeros kept
+pub digits-from-front : (n : ℕ) → n < 100000 → FromFront n (digits n)
 unfolding digits
-collected-end {room = zero} c h = absurd (omega arith)
-collected-end {before = before} {bytes = bytes} {n = n} {room = suc m} {left = left} c h =
-    let j : suc m + 1 + 1 ≡ suc m + 2 = omega arith in
-    let g : suc m + 1 < length bytes = omega arith in
-    let after = set bytes (suc m + 1) (48 + left) in
-    let e : drop (suc m + 1) after ≡ digits n ++ drop 7 before =
-    rw (put-before bytes (suc m + 1) (48 + left) g, j)
-    (sym (digits-last m left _ h) ∙ c .done ∙ digits-before 5 n [] (drop 7 before)) in
-    let l = simp (length-append, length-drop, length-set, c .long, c .first-long) at (ap length e) in
-    record { long = simp length-set (c .long ∙ sym (c .first-long)); begin = omega arith; bytes = e }
+digits-from-front n h = from-front 5 n h
 
 -- ---- how many digits there are
 
@@ -111,26 +124,30 @@ pub digits-few : (n : ℕ) → length (digits n) ≤ 5
 unfolding digits
 digits-few n = within 5 n []
 
+-- so many as the power of ten that n reaches says
+pub one-digit : (n : ℕ) → n < 10 → length (digits n) ≡ 1
+unfolding digits
+one-digit n h = ap length (digits-last 4 n [] h)
+
+count : (j k n : ℕ) (ds : List ℕ) → k ≤ j → 10 ^ k ≤ n → n < 10 ^ suc k → length (digitsN (suc j) n ds) ≡ suc k + length ds
+count j zero n ds h low high = ap length (digits-last j n ds high) ∙ omega arith
+count zero (suc k) n ds h low high = absurd (omega arith)
+count (suc j) (suc k) n ds h low high =
+    let p : 10 ^ suc k ≡ 10 ^ k * 10 = pow-suc 10 k in
+    let q : 10 ^ suc (suc k) ≡ 10 ^ suc k * 10 = pow-suc 10 (suc k) in
+    let z = power-some k in
+    ap length (digits-step (suc j) n ds (omega arith))
+    ∙ count j k (n / 10) ((48 + n % 10) ∷ ds) (omega arith) (omega arith) (omega arith)
+    ∙ omega arith
+
+pub more-digits : (k n : ℕ) → k ≤ 4 → 10 ^ k ≤ n → n < 10 ^ suc k → length (digits n) ≡ suc k
+unfolding digits
+more-digits k n h low high = count 4 k n [] h low high ∙ omega arith
+
 -- a sign, one to five digits and a space
 pub printed-length : (v : ℕ) → length (printed v) ≡ length (digits (magnitude v)) + 2
 unfolding printed
 printed-length v = simp length-append (omega arith)
-
--- ---- what is written of the eight bytes
-
-module _ {before after : List ℕ} {n first : ℕ} (d : DigitsAt before n first after) (space : drop 7 before ≡ 32 ∷ []) where
-  pub digits-part : take (7 - first) (drop first after) ≡ digits n
-  digits-part = rw (d .bytes) (take-at (digits n) (drop 7 before) (7 - first) (omega arith))
-
-  -- n is the magnitude of v
-  pub printed-part : (v : ℕ) → n ≡ magnitude v → length before ≡ 8 → take (8 - (first - 1)) (drop (first - 1) (set after (first - 1) (signByte v))) ≡ printed v
-  unfolding printed
-  printed-part v e l =
-      let few = digits-few n in
-      let g : first - 1 < length after = omega arith in
-      let q : first - 1 + 1 ≡ first = omega arith in
-      let h : length (signByte v ∷ (digits n ++ (32 ∷ []))) ≤ 8 - (first - 1) = simp length-append (omega arith) in
-      rw (put-before after (first - 1) (signByte v) g, q, d .bytes, space, take-all _ _ h, e)
 
 -- ---- what the digits say
 

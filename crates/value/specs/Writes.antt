@@ -2,12 +2,12 @@
 use Prim.Native.Nat.{ℕ, _+_}
 use mathlib.Core.Path.{_≡_}
 use mathlib.Core.Bool.{Bool}
-use mathlib.Core.List.{List, _++_}
-use lib.ListN.{length, drop}
+use mathlib.Core.List.{List}
+use lib.ListN.{length}
 use lib.Seq.{sets}
 use lib.Dec.{leb}
 use Rattle.nibl.specs.Bytes.{if_then_else_, byte}
-use Rattle.nibl.specs.Values.{Value, is, no, digits, isNegative}
+use Rattle.nibl.specs.Values.{Value, is, no, isNegative}
 use Rattle.value.specs.declared.Wrote.{Wrote}
 use Rattle.value.specs.declared.Wrote.the-variants.{To, Full}
 
@@ -23,12 +23,6 @@ itemFits output at item = leb (at + length item) (length output)
 pub record Writes (before : List ℕ) (at : ℕ) (item : List ℕ) (r : Wrote) (after : List ℕ) : Type 0 where
   pub answer : wroteOf r ≡ (if itemFits before at item then is (at + length item) else no 17)
   pub output : after ≡ (if itemFits before at item then sets before at item else before)
-
--- the digits of n end before the last of the bytes and begin at `first`; the last is kept
-pub record DigitsAt (before : List ℕ) (n first : ℕ) (after : List ℕ) : Type 0 where
-  pub long : length after ≡ length before
-  pub begin : first + length (digits n) ≡ 7
-  pub bytes : drop first after ≡ digits n ++ drop 7 before
 
 abbrev pub signByte : ℕ → ℕ
 signByte v = if isNegative v then byte "-" else byte " "

@@ -1,13 +1,16 @@
 // 16-bit values: the operators on patterns of 16 bits, and a number's bytes. A pattern is signed where the order or
 // the sign counts. Nothing here traps: what has no value is answered by its stop number.
-ghost use Prim.Native.Nat.{_≤_};
+ghost use Prim.Native.Nat.{_+_, _-_, _^_, _≤_, _<_};
 ghost use mathlib.Core.Path.{_≡_};
-ghost use lib.ListN.{length};
+ghost use lib.Dec.{leb};
+ghost use lib.ListN.{length, set};
+ghost use lib.Seq.{sets};
+ghost use Rattle.nibl.specs.Bytes.{byte};
 ghost use Rattle.nibl.specs.Values.{add16, sub16, mul16, not16, less16, bit, magnitude, isNegative, mod16, apply, is, digits, printed};
 ghost use Rattle.nibl.specs.Tree.{dividedBy, equal};
 ghost use Rattle.value.specs.Operators.{valueOf};
 ghost use Rattle.codes.specs.Operators.{opNumber, opOf};
-ghost use Rattle.value.specs.Writes.{Writes, DigitsAt, signByte};
+ghost use Rattle.value.specs.Writes.{Writes, signByte};
 
 // The stop number of a division or MOD by 0.
 const BY_ZERO: u8 = 13;
@@ -141,14 +144,21 @@ pub fn apply(op: u8, a: u16, b: u16) -> Value
     }
 }
 
+// Whether so many bytes fit an output of that length from a position on.
+fn has_room(room: usize, at: usize, size: usize) -> bool
+    ensures { λ r. ⌜ r ≡ leb (at + size) room ⌝ }
+{
+    if room < at {
+        return false;
+    }
+    size <= room - at
+}
+
 // Writes an item from a position of the output on, whole or not at all.
 pub fn write_item(output: &mut [u8], at: usize, item: &[u8]) -> Wrote
     ensures { λ r. ⌜ Writes (now (output .entry)) at (now (item .entry)) r (now (output .exit)) ⌝ }
 {
-    if output.len() < at {
-        return Wrote::Full;
-    }
-    if output.len() - at < item.len() {
+    if !has_room(output.len(), at, item.len()) {
         return Wrote::Full;
     }
     let mut i = 0;
@@ -159,30 +169,80 @@ pub fn write_item(output: &mut [u8], at: usize, item: &[u8]) -> Wrote
     Wrote::To(at + item.len())
 }
 
-// Puts the digits of n before the last of the eight bytes, the last digit first, and says where they begin.
-fn put_digits(bytes: &mut [u8; 8], n: u16) -> usize
-    requires { ⌜ length (now bytes) ≡ 8 ⌝ }
-    ensures { λ r. ⌜ DigitsAt (now (bytes .entry)) n r (now (bytes .exit)) ⌝ }
+// How many digits a number has.
+pub fn digit_count(n: u16) -> usize
+    ensures { λ r. ⌜ r ≡ length (digits n) ⌝ }
 {
-    // how many digits there may still be
-    let mut room: usize = 5;
-    let mut left = n;
-    while 9 < left {
-        bytes[room + 1] = (ZERO + left % 10) as u8;
-        left = left / 10;
-        room -= 1;
+    if n < 10 {
+        return 1;
     }
-    bytes[room + 1] = (ZERO + left) as u8;
-    room + 1
+    if n < 100 {
+        return 2;
+    }
+    if n < 1000 {
+        return 3;
+    }
+    if n < 10000 {
+        return 4;
+    }
+    5
+}
+
+// How many bytes a value takes that PRINT writes: its sign, its digits and a space.
+pub fn printed_length(v: u16) -> usize
+    ensures { λ r. ⌜ r ≡ length (printed v) ⌝ }
+{
+    digit_count(magnitude(v)) + 2
+}
+
+// What the first of so many digits counts: a power of ten.
+fn front_power(count: usize) -> u16
+    requires { ⌜ (1 ≤ count) × (count ≤ 5) ⌝ }
+    ensures { λ r. ⌜ r ≡ 10 ^ (count - 1) ⌝ }
+{
+    match count {
+        5 => 10000,
+        4 => 1000,
+        3 => 100,
+        2 => 10,
+        _ => 1,
+    }
+}
+
+// A digit goes to the front of the rest of the output.
+fn put_digit(rest: &mut [u8], digit: u16)
+    requires { ⌜ (0 < length (now rest)) × (digit < 10) ⌝ }
+    ensures { λ _. ⌜ now (rest .exit) ≡ set (now (rest .entry)) 0 (byte "0" + digit) ⌝ }
+{
+    rest[0] = (ZERO + digit) as u8;
+}
+
+// The digits of n, `count` of them, go to the front of the rest of the output, where they have room: from the first on, each by
+// the power of ten that it counts.
+fn put_digits(rest: &mut [u8], count: usize, n: u16)
+    requires { ⌜ (count ≡ length (digits n)) × (count ≤ length (now rest)) ⌝ }
+    ensures { λ _. ⌜ now (rest .exit) ≡ sets (now (rest .entry)) 0 (digits n) ⌝ }
+{
+    let mut left = n;
+    let mut next = 0;
+    while next < count {
+        let power = front_power(count - next);
+        put_digit(&mut rest[next..], left / power);
+        next += 1;
+        left = left % power;
+    }
 }
 
 // A number's digits, without leading zeros, as LIST writes a line number.
 pub fn write_digits(output: &mut [u8], at: usize, n: u16) -> Wrote
     ensures { λ r. ⌜ Writes (now (output .entry)) at (digits n) r (now (output .exit)) ⌝ }
 {
-    let mut bytes = [nibl::SPACE; 8];
-    let first = put_digits(&mut bytes, n);
-    write_item(output, at, &bytes[first..7])
+    let count = digit_count(n);
+    if !has_room(output.len(), at, count) {
+        return Wrote::Full;
+    }
+    put_digits(&mut output[at..], count, n);
+    Wrote::To(at + count)
 }
 
 // "-" or a space.
@@ -199,8 +259,12 @@ fn sign_byte(v: u16) -> u8
 pub fn write_number(output: &mut [u8], at: usize, v: u16) -> Wrote
     ensures { λ r. ⌜ Writes (now (output .entry)) at (printed v) r (now (output .exit)) ⌝ }
 {
-    let mut bytes = [nibl::SPACE; 8];
-    let sign = put_digits(&mut bytes, magnitude(v)) - 1;
-    bytes[sign] = sign_byte(v);
-    write_item(output, at, &bytes[sign..])
+    let size = printed_length(v);
+    if !has_room(output.len(), at, size) {
+        return Wrote::Full;
+    }
+    output[at] = sign_byte(v);
+    output[at + size - 1] = nibl::SPACE;
+    put_digits(&mut output[at + 1..], size - 2, magnitude(v));
+    Wrote::To(at + size)
 }

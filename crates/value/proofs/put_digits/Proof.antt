@@ -1,57 +1,75 @@
--- `put_digits` meets its contract. The loop's invariant: `Collected`. Assumes nothing.
+-- `put_digits` meets its contract. The loop's invariant: `Putting`. Assumes nothing.
 use borrow.Author.Needs.{needs}
+use Prim.Native.Nat.{_+_, _-_, _/_, _<_}
+use mathlib.Core.List.{[], _∷_}
 use native.Mathlib.Omega.{arith}
-use Rattle.value.proofs.Digits.{Collected, collected-none, collected-turn, collected-end}
+use Rattle.value.proofs.Digits.{digits-few}
+use Rattle.value.proofs.Putting.{Putting, putting-none, putting-turn, putting-end, power-front, digit-below}
+use Rattle.value.proofs.Writing.{part-sets}
 use Rattle.value.proofs.put_digits.Statement.{statement}
 use Rattle.value.proofs.put_digits.Tie as tie
 
 abbrev Inv-loop : tie.InvT-loop
-Inv-loop bytes₀ n room₀ left₀ bytes room left = Collected bytes₀ n bytes room left
+Inv-loop rest₀ count n left₀ next₀ rest left next = Putting rest₀ count n rest left next
 
 abbrev μ-loop : tie.MeasureT-loop
-μ-loop bytes₀ n room₀ left₀ bytes room left = left
+μ-loop rest₀ count n left₀ next₀ rest left next = count - next
+
+-- a power of ten is not 0
+some : (c : tie.After-front-power Inv-loop μ-loop) → 0 < c .front-power .result
+some c = power-front (c .before .before .loop .inv) (c .before .loop-test .taken) (c .front-power .ensures)
 
 loop-holds : tie.Need-loop-holds Inv-loop μ-loop
-loop-holds c = collected-none _ _ (c .pre) (search needs)
+loop-holds c =
+    let s = c .before in
+    putting-none (s .args .rest .now) (s .args .count) (s .args .n) (s .pre .0) (omega arith) (s .pre .1)
 
-add-bytes : tie.Need-add-bytes Inv-loop μ-loop
-add-bytes c = omega arith
+sub-front-power : tie.Need-sub-front-power Inv-loop μ-loop
+sub-front-power c = search needs
 
-cast-bytes : tie.Need-cast-bytes Inv-loop μ-loop
-cast-bytes c = omega arith
+front-power-requires : tie.Need-front-power-requires Inv-loop μ-loop
+front-power-requires c κs = let s = c .before .before .before in (omega arith, omega (arith, s .pre .0, digits-few (s .args .n)))
 
-add-bytes-2 : tie.Need-add-bytes-2 Inv-loop μ-loop
-add-bytes-2 c = omega arith
+sub-put-digit : tie.Need-sub-put-digit Inv-loop μ-loop
+sub-put-digit c = search needs
 
-element-write-bytes : tie.Need-element-write-bytes Inv-loop μ-loop
-element-write-bytes c = omega arith
+part-put-digit-start : tie.Need-part-put-digit-start Inv-loop μ-loop
+part-put-digit-start c = omega (arith, c .before .before .loop .inv .room)
 
-sub-room : tie.Need-sub-room Inv-loop μ-loop
-sub-room c = omega arith
+part-put-digit-end : tie.Need-part-put-digit-end Inv-loop μ-loop
+part-put-digit-end c = search needs
+
+div-put-digit : tie.Need-div-put-digit Inv-loop μ-loop
+div-put-digit c = let z = some (c .before) in omega arith
+
+put-digit-requires : tie.Need-put-digit-requires Inv-loop μ-loop
+put-digit-requires c κs =
+    let f = c .before in
+    let p = f .before .before .loop .inv in
+    (omega (arith, p .room), digit-below p (f .before .loop-test .taken) (f .front-power .ensures))
+
+add-next : tie.Need-add-next Inv-loop μ-loop
+add-next c = search needs
+
+rem-left : tie.Need-rem-left Inv-loop μ-loop
+rem-left c = let z = some (c .before .before .before .before) in omega arith
 
 loop-less : tie.Need-loop-less Inv-loop μ-loop
-loop-less c = omega arith
+loop-less c = search needs
 
 loop-again : tie.Need-loop-again Inv-loop μ-loop
-loop-again c = collected-turn (c .before .loop .inv) (omega arith)
+loop-again c =
+    let f = c .before .before .before .before in
+    let l = f .before .before .loop in
+    let h = f .before .loop-test .taken in
+    rw (c .before .before .put-digit .ensures, part-sets (l .rest) ((48 + l .left / f .front-power .result) ∷ []) (l .next) (omega (arith, l .inv .room)))
+    (putting-turn (l .inv) h (f .front-power .ensures))
 
-add-bytes-3 : tie.Need-add-bytes-3 Inv-loop μ-loop
-add-bytes-3 c = omega arith
-
-cast-bytes-2 : tie.Need-cast-bytes-2 Inv-loop μ-loop
-cast-bytes-2 c = omega arith
-
-add-bytes-4 : tie.Need-add-bytes-4 Inv-loop μ-loop
-add-bytes-4 c = omega arith
-
-element-write-bytes-2 : tie.Need-element-write-bytes-2 Inv-loop μ-loop
-element-write-bytes-2 c = omega arith
-
-add-result : tie.Need-add-result Inv-loop μ-loop
-add-result c = omega arith
+same-length : tie.Need-same-length Inv-loop μ-loop
+same-length c = search needs
 
 returns : tie.Need-returns Inv-loop μ-loop
-returns c = collected-end (c .before .loop .inv) (omega arith)
+returns c = putting-end (c .before .loop .inv) (omega arith)
 
 pub put-digits-spec : {M : Type 1} → statement M
 put-digits-spec =
@@ -60,16 +78,16 @@ put-digits-spec =
     Inv-loop
     μ-loop
     loop-holds
-    add-bytes
-    cast-bytes
-    add-bytes-2
-    element-write-bytes
-    sub-room
+    sub-front-power
+    front-power-requires
+    sub-put-digit
+    part-put-digit-start
+    part-put-digit-end
+    div-put-digit
+    put-digit-requires
+    add-next
+    rem-left
     loop-less
     loop-again
-    add-bytes-3
-    cast-bytes-2
-    add-bytes-4
-    element-write-bytes-2
-    add-result
+    same-length
     returns)

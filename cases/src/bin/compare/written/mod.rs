@@ -1,5 +1,6 @@
 //! Lists of what the rules treat apart, each entry tried through the calls.
 
+mod numbers;
 mod pages;
 mod programs;
 mod texts;
@@ -15,6 +16,7 @@ pub type Visit<'a> = dyn FnMut(Case, usize) + 'a;
 
 pub fn each(visit: &mut Visit) {
     values::each(visit);
+    numbers::each(visit);
     texts::each(visit);
     pages::each(visit);
     programs::each(visit);

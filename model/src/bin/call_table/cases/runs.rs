@@ -84,12 +84,14 @@ const LONG_REPLY: &str =
 
 /// With so much room in the output.
 #[rustfmt::skip]
-const IN_ROOM: [(usize, Run); 7] = [
+const IN_ROOM: [(usize, Run); 9] = [
     (1, (17, "no room for a string", &["10 A=1:PRINT \"AB\""], "")),
     (2, (17, "no room for a number", &["10 PRINT 7"], "")),
     (3, (17, "no room for a string of the memory", &["10 PRINT $0"], "")),
     (4, (17, "no room for CR LF", &["10 PRINT 7"], "")),
     (5, (0, "just room for CR LF", &["10 PRINT 7"], "")),
+    (6, (17, "no room for a number's last space", &["10 PRINT -30005;"], "")),
+    (7, (0, "just room for a number", &["10 PRINT -30005;"], "")),
     (7, (17, "no room for the third item", &["10 PRINT 7,$0,\"X\""], "")),
     (0, (17, "no room for the question mark", &["10 INPUT A"], "1\r")),
 ];
