@@ -6,6 +6,7 @@
  */
 #include <signal.h>
 #include <stdio.h>
+#include <stdlib.h>
 #include <string.h>
 #include <sys/mman.h>
 #include <ucontext.h>
@@ -61,15 +62,19 @@ static size_t typed(const char *text, size_t steps) {
 /* How deep the stack was where the output was written first. */
 static size_t touched;
 
+/* A fault anywhere else is left to end the program: with no handler it comes again. */
 static void unlock(int number, siginfo_t *info, void *context) {
     const ucontext_t *at = context;
+    const uint8_t *hit = info->si_addr;
 #if defined __x86_64__
     const uint8_t *top = (const uint8_t *)at->uc_mcontext.gregs[REG_RSP];
 #else
     const uint8_t *top = (const uint8_t *)at->uc_mcontext.sp;
 #endif
-    (void)number;
-    (void)info;
+    if (hit < output || output + OUTPUT <= hit) {
+        signal(number, SIG_DFL);
+        return;
+    }
     touched = (size_t)(frame - top);
     mprotect(output, OUTPUT, PROT_READ | PROT_WRITE);
 }
@@ -78,17 +83,23 @@ static size_t written(const char *text) {
     touched = 0;
     mprotect(output, OUTPUT, PROT_READ);
     typed(text, NIBL_BUDGET_MOST);
+    if (touched == 0) {
+        fprintf(stderr, "stack: nothing was written: %s\n", text);
+        exit(1);
+    }
     return touched;
 }
 
-/* The handler has a stack of its own: the one of the call may be any. */
+/* The handler has a stack of its own: nothing of it is to show on the painted one. */
 static void lend_output(void) {
     static uint8_t handlers[1 << 16];
     const stack_t apart = {.ss_sp = handlers, .ss_size = sizeof handlers};
-    struct sigaction action = {.sa_sigaction = unlock, .sa_flags = SA_SIGINFO | SA_ONSTACK};
+    const struct sigaction action = {.sa_sigaction = unlock, .sa_flags = SA_SIGINFO | SA_ONSTACK};
     output = mmap(NULL, OUTPUT, PROT_READ | PROT_WRITE, MAP_PRIVATE | MAP_ANONYMOUS, -1, 0);
-    sigaltstack(&apart, NULL);
-    sigaction(SIGSEGV, &action, NULL);
+    if (output == MAP_FAILED || sigaltstack(&apart, NULL) != 0 || sigaction(SIGSEGV, &action, NULL) != 0) {
+        perror("stack");
+        exit(1);
+    }
 }
 
 static size_t continued(const char *replies) {

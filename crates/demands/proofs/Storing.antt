@@ -6,7 +6,7 @@ use mathlib.Core.List.{List, [], _∷_}
 use native.Mathlib.Omega.{arith}
 use lib.ListN.{length, length-append}
 use lib.Dec.{ltb, leb}
-use borrow.Author.Tests.{lt-ltb, le-leb, leb-true}
+use borrow.Author.Tests.{le-leb, leb-true}
 use Rattle.nibl.specs.Bytes.{isDigit, All, none, each, decimalValue}
 use Rattle.nibl.specs.Words.{decimal, Run, Word, spaced, decimalDigits}
 use Rattle.nibl.specs.Grammar.{aStore}
@@ -19,7 +19,7 @@ use Rattle.nibl.proofs.Whole.{reading-complete}
 use Rattle.page.specs.Standing.{Storable}
 use Rattle.page.proofs.Program.{both}
 use Rattle.page.proofs.Changes.{storable}
-use Rattle.value.proofs.Digits.{digits-before}
+use Rattle.value.proofs.Digits.{digits-before, one-digit}
 
 -- No number has more digits than those it was typed with
 one-bound-more : (k n : ℕ) (ds : List ℕ) → length (digitsN k n ds) ≤ length (digitsN (suc k) n ds)
@@ -47,10 +47,6 @@ one-digit-more (suc k) n c h = by (ltb (n * 10 + c) 10) where
   by true = omega arith
   by false =
       omega (arith, ap (λ (m : ℕ). length (digitsN k m (x ∷ []))) q, ap length (digits-before k n [] (x ∷ [])), length-append (digitsN k n []) (x ∷ []), one-bound-more k n [])
-
-one-digit : (n : ℕ) → n < 10 → length (digits n) ≡ 1
-unfolding digits
-one-digit n h = rw (lt-ltb n 10 h, digitsN)
 
 shorter : {ds : List ℕ} → All isDigit ds → (n : ℕ) → length (digits (decimalValue n ds)) ≤ length (digits n) + length ds
 unfolding digits

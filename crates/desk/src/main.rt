@@ -1,7 +1,7 @@
 // The rule desk's rows that are not starred, run through the proved call `calls::take_line`: the highest line number and the one
-// above it, 72 and 73 bytes kept, and the session that document 01 shows; and numbers with zeros in them. For each typed line it
-// says what the desk expects and what came, in the words of the session program: the bytes written, with CR and LF shown as \r
-// and \n, and then stop number, line number or "-", and steps.
+// above it, 72 and 73 bytes kept, and the session that document 01 shows; and numbers of few digits and of many. For each typed
+// line it says what the desk expects and what came, in the words of the session program: the bytes written, with CR and LF shown
+// as \r and \n, and then stop number, line number or "-", and steps.
 use nibl::Answer;
 use nibl::CR;
 use nibl::Call;
@@ -302,7 +302,7 @@ fn shown(desk: Desk) -> Desk {
 }
 
 // The lowest value, 0, zeros inside a number and line 0: no zero is left out, and none leads but a 0 that stands alone.
-fn zeros(desk: Desk) -> Desk {
+fn digits(desk: Desk) -> Desk {
     let mut page = empty_page();
     let mut memory = [0u8; MEMORY];
     let lowest = row(
@@ -354,7 +354,7 @@ fn main() {
         rows: 0,
         good: 0,
     };
-    let desk = zeros(shown(too_long(longest(above(highest(none))))));
+    let desk = digits(shown(too_long(longest(above(highest(none))))));
     io::print_decimal(1, desk.rows as u64);
     say(b" rows, ");
     io::print_decimal(1, desk.good as u64);

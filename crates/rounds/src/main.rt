@@ -25,8 +25,10 @@ const LINES_BY_TABLE: u16 = 16;
 
 const STEPS_BY_TABLE: u16 = 17;
 
-// How many bytes have the values that are written.
+// How many bytes the values take that are written, and where the last digit is put.
 const VALUES: usize = 10;
+
+const LAST_DIGIT: usize = 33;
 
 // Where the page's byte stands that a typed line changes: a digit of the middle line.
 const CHANGED: usize = 2005;
@@ -379,7 +381,7 @@ fn value_at(bytes: &[u8], at: usize) -> u16
     value::add(value::mul(high, 256), byte_value(bytes[at + 1]))
 }
 
-// The values of the first bytes are written behind them, one after the other; where they end.
+// The values of the first bytes are written behind them, one after the other: where they end, and the last digit.
 fn numbers(bytes: &mut [u8]) -> u16
     ensures { λ _. ⌜ length (now (bytes .exit)) ≡ length (now (bytes .entry)) ⌝ }
 {
@@ -395,7 +397,10 @@ fn numbers(bytes: &mut [u8]) -> u16
         }
         at += 2;
     }
-    add(0, end)
+    if bytes.len() <= LAST_DIGIT {
+        return 0;
+    }
+    add(add(0, end), wide(bytes[LAST_DIGIT]))
 }
 
 // A line that is typed on an empty page.

@@ -1,5 +1,5 @@
 -- Laws of a number's digits, for this crate's proofs and for callers to cite. Assumes nothing.
-use Prim.Native.Nat.{ℕ, zero, suc, _+_, _-_, _*_, _/_, _%_, _^_, _≤_, _<_}
+use Prim.Native.Nat.{ℕ, zero, suc, _+_, _*_, _/_, _%_, _^_, _≤_, _<_}
 use mathlib.Core.Path.{_≡_, refl, sym, ap, _∙_, subst⁻¹}
 use mathlib.Core.Bool.{Bool, true, false}
 use mathlib.Core.List.{List, [], _∷_, _++_}
@@ -99,7 +99,7 @@ from-front (suc k) n h =
           below = rw e b;
         }
 
--- a number's digits are the front one by the highest power that it reaches and the digits of the rest, zeros kept
+-- a number's digits are, as many as there are, the front one by its power of ten and the digits of the rest, zeros kept
 pub digits-from-front : (n : ℕ) → n < 100000 → FromFront n (digits n)
 unfolding digits
 digits-from-front n h = from-front 5 n h
@@ -124,25 +124,25 @@ pub digits-few : (n : ℕ) → length (digits n) ≤ 5
 unfolding digits
 digits-few n = within 5 n []
 
--- so many as the power of ten that n reaches says
 pub one-digit : (n : ℕ) → n < 10 → length (digits n) ≡ 1
 unfolding digits
 one-digit n h = ap length (digits-last 4 n [] h)
 
-count : (j k n : ℕ) (ds : List ℕ) → k ≤ j → 10 ^ k ≤ n → n < 10 ^ suc k → length (digitsN (suc j) n ds) ≡ suc k + length ds
-count j zero n ds h low high = ap length (digits-last j n ds high) ∙ omega arith
-count zero (suc k) n ds h low high = absurd (omega arith)
-count (suc j) (suc k) n ds h low high =
+digits-counted : (j k n : ℕ) (ds : List ℕ) → k ≤ j → 10 ^ k ≤ n → n < 10 ^ suc k → length (digitsN (suc j) n ds) ≡ suc k + length ds
+digits-counted j zero n ds h low high = ap length (digits-last j n ds high) ∙ omega arith
+digits-counted zero (suc k) n ds h low high = absurd (omega arith)
+digits-counted (suc j) (suc k) n ds h low high =
     let p : 10 ^ suc k ≡ 10 ^ k * 10 = pow-suc 10 k in
     let q : 10 ^ suc (suc k) ≡ 10 ^ suc k * 10 = pow-suc 10 (suc k) in
     let z = power-some k in
     ap length (digits-step (suc j) n ds (omega arith))
-    ∙ count j k (n / 10) ((48 + n % 10) ∷ ds) (omega arith) (omega arith) (omega arith)
+    ∙ digits-counted j k (n / 10) ((48 + n % 10) ∷ ds) (omega arith) (omega arith) (omega arith)
     ∙ omega arith
 
+-- a number that reaches a power of ten, and not the next one, has a digit for it and for each lower one
 pub more-digits : (k n : ℕ) → k ≤ 4 → 10 ^ k ≤ n → n < 10 ^ suc k → length (digits n) ≡ suc k
 unfolding digits
-more-digits k n h low high = count 4 k n [] h low high ∙ omega arith
+more-digits k n h low high = digits-counted 4 k n [] h low high ∙ omega arith
 
 -- a sign, one to five digits and a space
 pub printed-length : (v : ℕ) → length (printed v) ≡ length (digits (magnitude v)) + 2

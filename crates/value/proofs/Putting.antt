@@ -10,7 +10,7 @@ use lib.Seq.{sets}
 use Rattle.nibl.specs.Values.{digits, printed, magnitude}
 use Rattle.value.specs.Writes.{signByte}
 use Rattle.value.proofs.Digits.{byPowers, digits-from-front, power-some, printed-length}
-use Rattle.value.proofs.Writing.{sets-append, sets-behind}
+use Rattle.value.proofs.Writing.{sets-append, set-before-sets}
 
 -- of `count` digits those before `next` are put, and `left` is still to be put, by the others
 pub record Putting (before : List ℕ) (count n : ℕ) (rest : List ℕ) (left next : ℕ) : Type 0 where
@@ -40,13 +40,13 @@ module _ {before rest : List ℕ} {count n left next power : ℕ} (p : Putting b
   by : power ≡ 10 ^ (count - (next + 1))
   by = q ∙ ap (λ k. 10 ^ k) (omega arith)
 
-  pub power-front : 0 < power
-  power-front = omega (arith, by, power-some (count - (next + 1)))
+  pub power-not-zero : 0 < power
+  power-not-zero = omega (arith, by, power-some (count - (next + 1)))
 
   pub digit-below : left / power < 10
   digit-below =
       let e : 10 ^ (count - next) ≡ power * 10 = ap (λ k. 10 ^ k) more ∙ pow-suc 10 (count - (next + 1)) ∙ ap (λ k. k * 10) (sym by) in
-      div-lt-iff-lt-mul power-front .1 (rw (mul-comm 10 power, ← e) (p .below))
+      div-lt-iff-lt-mul power-not-zero .1 (rw (mul-comm 10 power, ← e) (p .below))
 
   pub putting-turn : Putting before count n (set rest next (48 + left / power)) (left % power) (next + 1)
   putting-turn =
@@ -54,7 +54,7 @@ module _ {before rest : List ℕ} {count n left next power : ℕ} (p : Putting b
         within = omega arith;
         room = simp length-set (p .room);
         long = simp length-set (p .long);
-        below = subst (λ m. left % power < m) by (mod-lt left power-front);
+        below = subst (λ m. left % power < m) by (mod-lt left power-not-zero);
         done =
             (λ i. sets (set rest next (48 + left / by i)) (add-one next i) (byPowers (count - (next + 1)) (left % by i)))
             ∙ ap (λ k. sets rest next (byPowers k left)) (sym more)
@@ -74,5 +74,5 @@ printed-put output at v =
     let ds : List ℕ = digits (magnitude v) in
     let e : at + length (printed v) - 1 ≡ suc at + length ds = omega (arith, printed-length v) in
     rw (e, add-one)
-    (sets-behind ds (set output at (signByte v)) (suc at) (suc at + length ds) 32 (omega arith)
+    (set-before-sets ds (set output at (signByte v)) (suc at) (suc at + length ds) 32 (omega arith)
     ∙ sym (sets-append ds (32 ∷ []) (set output at (signByte v)) (suc at)))

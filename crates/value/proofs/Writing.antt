@@ -23,10 +23,10 @@ sets-append (a ∷ v) w l i =
     sets-append v w (set l i a) (suc i) ∙ ap (λ k. sets (sets (set l i a) (suc i) v) k w) e
 
 -- what is stored behind an item may be stored before it
-pub sets-behind : (v l : List ℕ) (i e a : ℕ) → i + length v ≤ e → sets (set l e a) i v ≡ set (sets l i v) e a
-sets-behind [] l i e a h = refl
-sets-behind (b ∷ v) l i e a h =
-    ap (λ m. sets m (suc i) v) (set-comm l e i a b (λ q. omega arith)) ∙ sets-behind v (set l i b) (suc i) e a (omega arith)
+pub set-before-sets : (v l : List ℕ) (i e a : ℕ) → i + length v ≤ e → sets (set l e a) i v ≡ set (sets l i v) e a
+set-before-sets [] l i e a h = refl
+set-before-sets (b ∷ v) l i e a h =
+    ap (λ m. sets m (suc i) v) (set-comm l e i a b (λ q. omega arith)) ∙ set-before-sets v (set l i b) (suc i) e a (omega arith)
 
 -- a store after i bytes of an item makes it i + 1
 pub sets-more : (l s : List ℕ) (at i : ℕ) → i < length s → set (sets l at (take i s)) (at + i) (getD s i 0) ≡ sets l at (take (i + 1) s)

@@ -263,6 +263,7 @@ pub fn write_number(output: &mut [u8], at: usize, v: u16) -> Wrote
     if !has_room(output.len(), at, size) {
         return Wrote::Full;
     }
+    // both before the digits: the loop then has less to keep on the stack
     output[at] = sign_byte(v);
     output[at + size - 1] = nibl::SPACE;
     put_digits(&mut output[at + 1..], size - 2, magnitude(v));

@@ -340,7 +340,7 @@ fn values() -> Vec<u8> {
     values.chain([0; 32]).collect()
 }
 
-/// The values of the first bytes are written behind them, one after the other; where they end.
+/// The values of the first bytes are written behind them, one after the other: where they end, and the last digit.
 fn numbers_written(bytes: &mut [u8]) -> u16 {
     let (values, room) = bytes.split_at_mut(2 * NUMBERS.len());
     let mut end = 0;
@@ -349,7 +349,7 @@ fn numbers_written(bytes: &mut [u8]) -> u16 {
         room[end..end + item.len()].copy_from_slice(item.as_bytes());
         end += item.len();
     }
-    add(0, values.len() + end)
+    add(add(0, values.len() + end), room[end - 2])
 }
 
 /// A line that is typed on an empty page.
@@ -448,13 +448,13 @@ fn run(input: &[u8]) -> Option<u16> {
                 halves(black_box(page), black_box(table), spread())
             }))
         }
-        "18" => Some(repeat(rounds, || numbers_written(black_box(page)))),
-        "19" => Some(repeat(rounds, || prints(black_box(page), "RUN\r"))),
-        "20" => Some(repeat(rounds, || prints(black_box(page), "LIST\r"))),
         "17" => {
             let table = &mut table(page);
             Some(repeat(rounds, || steps(black_box(page), Some(table))))
         }
+        "18" => Some(repeat(rounds, || numbers_written(black_box(page)))),
+        "19" => Some(repeat(rounds, || prints(black_box(page), "RUN\r"))),
+        "20" => Some(repeat(rounds, || prints(black_box(page), "LIST\r"))),
         _ => None,
     }
 }

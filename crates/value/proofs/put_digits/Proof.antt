@@ -4,7 +4,7 @@ use Prim.Native.Nat.{_+_, _-_, _/_, _<_}
 use mathlib.Core.List.{[], _∷_}
 use native.Mathlib.Omega.{arith}
 use Rattle.value.proofs.Digits.{digits-few}
-use Rattle.value.proofs.Putting.{Putting, putting-none, putting-turn, putting-end, power-front, digit-below}
+use Rattle.value.proofs.Putting.{Putting, putting-none, putting-turn, putting-end, power-not-zero, digit-below}
 use Rattle.value.proofs.Writing.{part-sets}
 use Rattle.value.proofs.put_digits.Statement.{statement}
 use Rattle.value.proofs.put_digits.Tie as tie
@@ -17,7 +17,7 @@ abbrev μ-loop : tie.MeasureT-loop
 
 -- a power of ten is not 0
 some : (c : tie.After-front-power Inv-loop μ-loop) → 0 < c .front-power .result
-some c = power-front (c .before .before .loop .inv) (c .before .loop-test .taken) (c .front-power .ensures)
+some c = power-not-zero (c .before .before .loop .inv) (c .before .loop-test .taken) (c .front-power .ensures)
 
 loop-holds : tie.Need-loop-holds Inv-loop μ-loop
 loop-holds c =
