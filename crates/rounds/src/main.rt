@@ -26,9 +26,9 @@ const LINES_BY_TABLE: u16 = 16;
 const STEPS_BY_TABLE: u16 = 17;
 
 // How many bytes the values take that are written, and where the last digit is put.
-const VALUES: usize = 10;
+const VALUES: usize = 2000;
 
-const LAST_DIGIT: usize = 33;
+const LAST_DIGIT: usize = 6998;
 
 // Where the page's byte stands that a typed line changes: a digit of the middle line.
 const CHANGED: usize = 2005;

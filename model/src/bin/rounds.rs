@@ -334,15 +334,19 @@ fn printing() -> Vec<u8> {
     program(256, [(0, " PRINT 7,42,-510,1976,-30005;:GOTO 0")])
 }
 
+/// How many values are written: these numbers again and again.
+const VALUES: usize = 1000;
+
 /// The two bytes of each of them, and room to write them behind.
 fn values() -> Vec<u8> {
-    let values = NUMBERS.iter().flat_map(|number| number.to_be_bytes());
-    values.chain([0; 32]).collect()
+    let numbers = NUMBERS.iter().cycle().take(VALUES);
+    let values = numbers.flat_map(|number| number.to_be_bytes());
+    values.chain([0; 5000]).collect()
 }
 
 /// The values of the first bytes are written behind them, one after the other: where they end, and the last digit.
 fn numbers_written(bytes: &mut [u8]) -> u16 {
-    let (values, room) = bytes.split_at_mut(2 * NUMBERS.len());
+    let (values, room) = bytes.split_at_mut(2 * VALUES);
     let mut end = 0;
     for value in values.chunks(2) {
         let item = printed(i16::from_be_bytes([value[0], value[1]]));

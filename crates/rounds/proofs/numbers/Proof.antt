@@ -10,7 +10,7 @@ abbrev Inv-loop : tie.InvT-loop
 Inv-loop bytes₀ end₀ at₀ bytes end at = length bytes ≡ length bytes₀
 
 abbrev μ-loop : tie.MeasureT-loop
-μ-loop bytes₀ end₀ at₀ bytes end at = 10 - at
+μ-loop bytes₀ end₀ at₀ bytes end at = 2000 - at
 
 pub numbers-spec : {M : Type 1} → statement M
 numbers-spec =
