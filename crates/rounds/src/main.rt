@@ -285,6 +285,17 @@ fn full() -> Session {
     }
 }
 
+// A call that takes its input, and writes its output, from the first byte on.
+fn from_the_front(budget: usize) -> Call {
+    Call {
+        inpos: 0,
+        outpos: 0,
+        sense: 0,
+        budget: budget,
+        tabled: 0,
+    }
+}
+
 // A typed line: its stop and column, how far the input was taken, how many places are left, and the page's byte that the line
 // changes.
 fn take(page: &mut [u8], session: Session, input: &[u8]) -> u16
@@ -292,13 +303,6 @@ fn take(page: &mut [u8], session: Session, input: &[u8]) -> u16
 {
     let mut memory = [0u8; 1];
     let mut output = [0u8; 1];
-    let call = Call {
-        inpos: 0,
-        outpos: 0,
-        sense: 0,
-        budget: 0,
-        tabled: 0,
-    };
     let mut unlent = [0u16; 1];
     let ended = calls::take_line(
         session,
@@ -306,7 +310,7 @@ fn take(page: &mut [u8], session: Session, input: &[u8]) -> u16
         &mut memory,
         input,
         &mut output,
-        call,
+        from_the_front(0),
         &mut unlent,
     );
     let answer = ended.answer;
@@ -347,13 +351,6 @@ fn prints(page: &mut [u8], line: &[u8]) -> u16
 {
     let mut memory = [0u8; 1];
     let mut output = [0u8; 4096];
-    let call = Call {
-        inpos: 0,
-        outpos: 0,
-        sense: 0,
-        budget: 32767,
-        tabled: 0,
-    };
     let mut unlent = [0u16; 1];
     let ended = calls::take_line(
         Session::fresh(),
@@ -361,7 +358,7 @@ fn prints(page: &mut [u8], line: &[u8]) -> u16
         &mut memory,
         line,
         &mut output,
-        call,
+        from_the_front(32767),
         &mut unlent,
     );
     let answer = ended.answer;
