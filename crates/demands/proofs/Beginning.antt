@@ -2,17 +2,16 @@
 -- paused. Assumes nothing.
 use Prim.Native.Nat.{ℕ}
 use mathlib.Core.Path.{_≡_, refl, ap, _∙_}
-use mathlib.Core.Option.{none, some}
 use Rattle.nibl.specs.Tree.{run, immediate}
 use Rattle.nibl.specs.Typing.{Gathered}
 use Rattle.nibl.specs.Meaning.{World, withSession}
-use Rattle.nibl.specs.Calls.{Lent, Ran, runFrom, textFrom, runOutcome, stops, firstRefusal, lentEnv, afterImmediate, obey, takeLine, continueFrom, continueRun, leaves, limit}
+use Rattle.nibl.specs.Calls.{Lent, Ran, past, fetch, runFrom, runOutcome, stops, firstRefusal, lentEnv, afterImmediate, obey, takeLine, continueFrom, continueRun, leaves, limit}
 use Rattle.nibl.specs.Record.{nowhere, pausedAt, withPaused}
 use Rattle.nibl.proofs.Whole.{typed-complete}
 use Rattle.demands.specs.Lent.{Typing}
 use Rattle.demands.specs.Leaves.{lineTaken}
 use Rattle.demands.specs.Starts.{Starts, byRUN, byStatement, StartsTyped, typed, StartsPaused, paused, ranFrom}
-use Rattle.demands.proofs.Runs.{run-none, run-zero}
+use Rattle.demands.proofs.Runs.{run-past, run-zero}
 use Rattle.demands.proofs.Accepted.{continue-at}
 use Rattle.demands.proofs.Tables.{left-kept}
 use Rattle.demands.proofs.Retyping.{line-read}
@@ -37,10 +36,10 @@ module _ (x : Lent) where
   a-paused-run-goes-on (paused z h) = continue-at limit x z ∙ ap (continueFrom limit x) h
 
   -- A run that begins where nothing is left is done at any budget; with a budget of 0 it is paused where it begins
-  pub nothing-to-run-is-0 : (q : ℕ) (w : World) → textFrom (x .page) q ≡ none → ranFrom x q w ≡ stops 0 w (x .page)
-  nothing-to-run-is-0 q w h = ap (λ (r : Ran). runOutcome r (x .page)) (run-none (x .call .budget) (lentEnv limit x) q w h)
+  pub nothing-to-run-is-0 : (q : ℕ) (w : World) → fetch (x .page) q ≡ past → ranFrom x q w ≡ stops 0 w (x .page)
+  nothing-to-run-is-0 q w h = ap (λ (r : Ran). runOutcome r (x .page)) (run-past (x .call .budget) (lentEnv limit x) q w h)
 
-  pub no-budget-pauses-at-once : (q a : ℕ) (w : World) → x .call .budget ≡ 0 → textFrom (x .page) q ≡ some a
+  pub no-budget-pauses-at-once : (q : ℕ) (w : World) → x .call .budget ≡ 0 → (fetch (x .page) q ≡ past → ⊥)
       → ranFrom x q w ≡ stops 14 (withSession w (withPaused (w .session) (pausedAt q))) (x .page)
-  no-budget-pauses-at-once q a w b h =
-      ap (λ (k : ℕ). runOutcome (runFrom k (lentEnv limit x) q w) (x .page)) b ∙ ap (λ (r : Ran). runOutcome r (x .page)) (run-zero (lentEnv limit x) q w a h)
+  no-budget-pauses-at-once q w b h =
+      ap (λ (k : ℕ). runOutcome (runFrom k (lentEnv limit x) q w) (x .page)) b ∙ ap (λ (r : Ran). runOutcome r (x .page)) (run-zero (lentEnv limit x) q w h)

@@ -1,24 +1,22 @@
 -- "Budget": a run given a and continued with b is a run given a + b. Assumes nothing.
-use Prim.Native.Nat.{ℕ, zero, suc, _+_, _-_, _≤_, suc-le-suc}
+use Prim.Native.Nat.{ℕ, zero, suc, _+_, _≤_, suc-le-suc}
 use mathlib.Core.Path.{_≡_, refl, _∙_, ap, sym}
 use mathlib.Core.Bool.{Bool, true, false, _||_}
 use mathlib.Core.List.{List, _∷_, _++_}
-use mathlib.Core.Option.{Option, none, some}
 use native.Mathlib.Nat.{zero-add, suc-add}
 use native.Mathlib.Omega.{arith}
 use lib.ListN.{length}
 use lib.Dec.{eqb}
 use borrow.Author.Tests.{eqb-true}
 use Rattle.nibl.specs.Bytes.{if_then_else_}
-use Rattle.nibl.specs.Tree.{Member, Stmt}
-use Rattle.nibl.specs.Read.{Found, nothing, found, member}
-use Rattle.nibl.specs.Page.{isAmong, lineOf}
+use Rattle.nibl.specs.Tree.{Stmt}
+use Rattle.nibl.specs.Page.{isAmong}
 use Rattle.nibl.specs.Record.{mark}
 use Rattle.nibl.specs.Meaning.{World, Env, on, skip, go, stop, Done, done, exec}
-use Rattle.nibl.specs.Calls.{Ran, stepped, textFrom, lineFrom, envAt, afterStep, step, runFrom}
+use Rattle.nibl.specs.Calls.{Ran, stepped, Standing, Fetched, past, unread, here, fetch, envAt, afterStep, step, runFrom}
 use Rattle.demands.proofs.Does.{refusals, GivesVariables, gave, refused, gives, Does, writes, takes, refuses, passes, skips, assigns, assignsFlags, stores, goesTo, saves, returns, loops, repeats, leaves, begins, again, finishes, inputs}
 use Rattle.demands.proofs.Effects.{exec-does}
-use Rattle.demands.proofs.Runs.{placeEnding, crOf, run-none, run-zero, run-suc, after-law, every-run}
+use Rattle.demands.proofs.Runs.{here-not-past, run-past, run-zero, run-unread, run-suc, after-law, every-run}
 
 -- a run that went on where the first paused
 abbrev pub wentOnWith : Ran → (ℕ → World → Ran) → Ran
@@ -97,35 +95,32 @@ after-joined (done skip w) p cr k j m s h = h (suc cr) w
 after-joined (done (go q) w) p cr k j m s h = h q w
 after-joined (done (stop n) w) p cr k j m (stopped g) h = rw (not-paused n g, wentOnWith)
 
-step-joined : (e : Env) (a : ℕ) (w : World) (f : Found Member) (k j m : ℕ → World → Ran) → ((q : ℕ) (w : World) → m q w ≡ wentOnWith (k q w) j)
-    → step e a w f m ≡ wentOnWith (step e a w f k) j
-step-joined e a w nothing k j m h = refl
-step-joined e a w (found x s) k j m h =
-    let p = a + (length (lineFrom (e .page) a) - x .left) in
-    let cr = a + length (lineFrom (e .page) a) in
-    ap (stepped (lineOf (e .page) p)) (after-joined (exec (envAt e p) (x .statement) w) p cr k j m (exec-stops (envAt e p) (x .statement) w) h)
-    ∙ stepped-joined (lineOf (e .page) p) (afterStep (exec (envAt e p) (x .statement) w) p cr k) j
+step-joined : (e : Env) (x : Standing) (w : World) (k j m : ℕ → World → Ran) → ((q : ℕ) (w : World) → m q w ≡ wentOnWith (k q w) j) → step e x w m ≡ wentOnWith (step e x w k) j
+step-joined e x w k j m h =
+    let p = x .place in
+    ap (stepped (x .line)) (after-joined (exec (envAt e p) (x .statement) w) p (x .cr) k j m (exec-stops (envAt e p) (x .statement) w) h)
+    ∙ stepped-joined (x .line) (afterStep (exec (envAt e p) (x .statement) w) p (x .cr) k) j
 
 -- past the last line both are done
-split-none : (a b : ℕ) (e : Env) (q : ℕ) (w : World) → textFrom (e .page) q ≡ none → runFrom (a + b) e q w ≡ wentOnWith (runFrom a e q w) (runFrom b e)
-split-none a b e q w h = rw (run-none (a + b) e q w h, run-none a e q w h) refl
+split-past : (a b : ℕ) (e : Env) (q : ℕ) (w : World) → fetch (e .page) q ≡ past → runFrom (a + b) e q w ≡ wentOnWith (runFrom a e q w) (runFrom b e)
+split-past a b e q w h = rw (run-past (a + b) e q w h, run-past a e q w h) refl
 
 -- "run with a, continue with b, is run with a + b"
 pub split-run : (a b : ℕ) (e : Env) (q : ℕ) (w : World) → runFrom (a + b) e q w ≡ wentOnWith (runFrom a e q w) (runFrom b e)
-split-run zero b e q w = by (textFrom (e .page) q) refl where
-  by : (o : Option ℕ) → textFrom (e .page) q ≡ o → runFrom (zero + b) e q w ≡ wentOnWith (runFrom zero e q w) (runFrom b e)
-  by none h = split-none zero b e q w h
-  by (some t) h = rw (zero-add b, run-zero e q w t h) refl
-split-run (suc a) b e q w = by (λ q w. split-run a b e q w) (textFrom (e .page) q) refl where
-  by : ((q : ℕ) (w : World) → runFrom (a + b) e q w ≡ wentOnWith (runFrom a e q w) (runFrom b e)) → (o : Option ℕ) → textFrom (e .page) q ≡ o
+split-run zero b e q w = by (fetch (e .page) q) refl where
+  by : (f : Fetched) → fetch (e .page) q ≡ f → runFrom (zero + b) e q w ≡ wentOnWith (runFrom zero e q w) (runFrom b e)
+  by past h = split-past zero b e q w h
+  by (unread t) h = let n : fetch (e .page) q ≡ past → ⊥ = λ g. let z : _≡_ {A = ℕ} 0 1 = cc in omega arith in rw (zero-add b, run-zero e q w n) refl
+  by (here x) h = rw (zero-add b, run-zero e q w (here-not-past h)) refl
+split-run (suc a) b e q w = by (λ q w. split-run a b e q w) (fetch (e .page) q) refl where
+  by : ((q : ℕ) (w : World) → runFrom (a + b) e q w ≡ wentOnWith (runFrom a e q w) (runFrom b e)) → (f : Fetched) → fetch (e .page) q ≡ f
       → runFrom (suc a + b) e q w ≡ wentOnWith (runFrom (suc a) e q w) (runFrom b e)
-  by f none h = split-none (suc a) b e q w h
-  by f (some t) h =
-      rw (suc-add a b, run-suc (a + b) e q w t h, run-suc a e q w t h)
-      (step-joined e t w (member (lineFrom (e .page) t)) (runFrom a e) (runFrom b e) (runFrom (a + b) e) f)
+  by i past h = split-past (suc a) b e q w h
+  by i (unread t) h = rw (suc-add a b, run-unread (a + b) e q w t h, run-unread a e q w t h) refl
+  by i (here x) h = rw (suc-add a b, run-suc (a + b) e q w x h, run-suc a e q w x h) (step-joined e x w (runFrom a e) (runFrom b e) (runFrom (a + b) e) i)
 
 -- "steps at most the budget"
 pub steps-within : (k : ℕ) (e : Env) (q : ℕ) (w : World) → length (runFrom k e q w .lines) ≤ k
-steps-within k e q w = every-run e (λ k q w r. length (r .lines) ≤ k) (λ k q w h. omega arith) (λ q w a h. omega arith) (λ k q w a h g. omega arith)
-    (λ k q w a m s h g i.
-    suc-le-suc (after-law (λ r. length (r .lines) ≤ k) (exec (envAt e (placeEnding e a m)) (m .statement) w) (placeEnding e a m) (crOf e a) (runFrom k e) i (λ n u. omega arith))) k q w
+steps-within k e q w = every-run e (λ k q w r. length (r .lines) ≤ k) (λ k q w h. omega arith) (λ q w h. omega arith) (λ k q w a h. omega arith)
+    (λ k q w x h i.
+    suc-le-suc (after-law (λ r. length (r .lines) ≤ k) (exec (envAt e (x .place)) (x .statement) w) (x .place) (x .cr) (runFrom k e) i (λ n u. omega arith))) k q w

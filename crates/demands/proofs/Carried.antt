@@ -14,7 +14,7 @@ use Rattle.demands.specs.Leaves.{worldAfter}
 use Rattle.letter.proofs.Typed.{taken}
 use Rattle.demands.proofs.Does.{GivesVariables, gave, refused, gives, Does, writes, takes, refuses, passes, skips, assigns, assignsFlags, stores, goesTo, saves, returns, loops, repeats, leaves, begins, again, finishes, inputs}
 use Rattle.demands.proofs.Effects.{exec-does}
-use Rattle.demands.proofs.Runs.{placeEnding, crOf, every-run}
+use Rattle.demands.proofs.Runs.{every-run}
 
 pub record Placed (input : List ℕ) (w : World) : Type 0 where
   pub inside : w .inpos ≤ length input
@@ -64,6 +64,6 @@ module _ (input : List ℕ) where
 
   pub run-placed : (e : Env) → e .input ≡ input → (k q : ℕ) (w : World) → Placed input w → Placed input (runFrom k e q w .world)
   run-placed e i k q w =
-      every-run e (λ k q w r. Placed input w → Placed input (r .world)) (λ k q w h p. p) (λ q w a h p. p) (λ k q w a h g p. p)
-      (λ k q w a m s h g f p. after-placed (exec (envAt e (placeEnding e a m)) (m .statement) w) (placeEnding e a m) (crOf e a) (runFrom k e)
-      (does-placed i (exec-does (envAt e (placeEnding e a m)) (m .statement) w) p) f) k q w
+      every-run e (λ k q w r. Placed input w → Placed input (r .world)) (λ k q w h p. p) (λ q w h p. p) (λ k q w a h p. p)
+      (λ k q w x h f p. after-placed (exec (envAt e (x .place)) (x .statement) w) (x .place) (x .cr) (runFrom k e)
+      (does-placed i (exec-does (envAt e (x .place)) (x .statement) w) p) f) k q w

@@ -25,7 +25,7 @@ use Rattle.page.proofs.Program.{Program, none as no-record, each}
 use Rattle.page.proofs.Laid.{good-laid, laid-program}
 use Rattle.demands.specs.Lent.{gatheredLine, Typing, OneOfThese, firstRefusals, twoAndThree}
 use Rattle.demands.specs.Leaves.{unchanged, BothUnchanged, lineTakenAt, spotOf, columnAt, TakesLine}
-use Rattle.demands.proofs.Runs.{placeEnding, crOf, after-law, every-run}
+use Rattle.demands.proofs.Runs.{fetched-line, after-law, every-run}
 use Rattle.demands.proofs.Ways.{Takes, refused, noCR, overlong, unread, reads, every-line, Continues, refused′, continues, every-continue}
 use Rattle.demands.proofs.Accepted.{accepted-of}
 use Rattle.demands.proofs.Tables.{left-kept}
@@ -114,11 +114,12 @@ named-step n l (m ∷ ls) low f h = f h
 
 pub run-named : (k : ℕ) (e : Env) (q : ℕ) (w : World) → Lined (e .page) → stopAt (runFrom k e q w .stop) (runFrom k e q w .lines) ≡ noLine → OneOfThese unsaid (runFrom k e q w .stop)
 run-named k e q w low =
-    every-run e (λ k q w r. stopAt (r .stop) (r .lines) ≡ noLine → OneOfThese unsaid (r .stop)) (λ k q w h n. refl) (λ q w a h n. refl) (λ k q w a h g n. refl)
-    (λ k q w a m s h g i.
-    let l : ℕ = lineOf (e .page) (placeEnding e a m) in
-    after-law (λ r. stopAt (r .stop) (l ∷ r .lines) ≡ noLine → OneOfThese unsaid (r .stop)) (exec (envAt e (placeEnding e a m)) (m .statement) w) (placeEnding e a m) (crOf e a) (runFrom k e)
-    (λ q w. named-step (runFrom k e q w .stop) l (runFrom k e q w .lines) (low (placeEnding e a m)) (i q w)) (λ n w. named-last n l (low (placeEnding e a m)))) k q w
+    every-run e (λ k q w r. stopAt (r .stop) (r .lines) ≡ noLine → OneOfThese unsaid (r .stop)) (λ k q w h n. refl) (λ q w h n. refl) (λ k q w a h n. refl)
+    (λ k q w x h i.
+    let l : ℕ = x .line in
+    let named : l < noLine = rw (fetched-line (e .page) q x h) (low (x .place)) in
+    after-law (λ r. stopAt (r .stop) (l ∷ r .lines) ≡ noLine → OneOfThese unsaid (r .stop)) (exec (envAt e (x .place)) (x .statement) w) (x .place) (x .cr) (runFrom k e)
+    (λ q w. named-step (runFrom k e q w .stop) l (runFrom k e q w .lines) named (i q w)) (λ n w. named-last n l named)) k q w
 
 -- "a typed line's 7": one with no line
 abbrev Silent : Outcome → Type 0

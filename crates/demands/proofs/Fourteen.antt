@@ -24,7 +24,8 @@ use Rattle.demands.proofs.LastStep.{Still, over, waits, unread, no-step
 use Rattle.demands.proofs.Line.{the-answers-line}
 use Rattle.demands.proofs.Beginning.{a-run-begins, a-paused-run-goes-on, nothing-to-run-is-0, no-budget-pauses-at-once}
 use Rattle.demands.proofs.Five.{exactly-5, continuing-never-answers-5}
-use Rattle.demands.proofs.Reading.{past-none, next-finds}
+use Rattle.demands.proofs.Reading.{past-fetched, next-fetches}
+use Rattle.demands.proofs.Runs.{here-not-past}
 use Rattle.demands.proofs.Stepping.{Begun, typed-begun, paused-begun, nothing-past, some-next}
 use Rattle.demands.proofs.Steps.{the-last-statement, the-last-statement-of-continue}
 
@@ -56,8 +57,8 @@ module _ (x : Lent) (From : ℕ → World → Type 0) (o' o : Outcome) where
     where
       by : Still (x .page) budget q (runFrom budget env q w) → runFrom budget env q w .stop ≡ 14 → (o .answer .steps ≡ budget) × Left
       by (over h n) c = absurd (omega arith)
-      by (waits a h n k at) c =
-          some-next limit env (omega arith) good q a s h (λ y j. (z ∙ sym k, record { at = q; waiting = y; stands = begun b z; next = j }))
+      by (waits h n k at) c =
+          some-next limit env (omega arith) good q s h (λ y j. (z ∙ sym k, record { at = q; waiting = y; stands = begun b z; next = j }))
       by (unread n) c = absurd (omega arith)
 
   paused-left : OneMore env budget o' o → o .answer .stop ≡ 14 → (o .answer .steps ≡ budget) × Left
@@ -71,15 +72,14 @@ module _ (x : Lent) (From : ℕ → World → Type 0) (o' o : Outcome) where
   left-paused begins n l = by (l .stands) where
     by : StandsAt From env budget o' o (l .at) → o .answer .stop ≡ 14
     by (begun {w = w} b z) =
-        let f = next-finds (l .next) in
-        ap (λ o. o .answer .stop) (begins (l .at) w b ∙ no-budget-pauses-at-once x (l .at) (f .start) w (sym n ∙ z) (f .follows))
+        ap (λ o. o .answer .stop) (begins (l .at) w b ∙ no-budget-pauses-at-once x (l .at) w (sym n ∙ z) (here-not-past (next-fetches (l .next))))
     by (later m g) = end (m .ends) where
       end : EndsCall (x .page) (m .last .place) (m .last .cr) (m .how) (m .after) budget o → o .answer .stop ≡ 14
       end (halts h c s) = absurd (goes-on g h)
       end (runsOut q f h c s) =
           let same = goes-once f g in
-          let i = next-finds (l .next) .follows in
-          let j = past-none h in
+          let i = next-fetches (l .next) in
+          let j = past-fetched h in
           let z : _≡_ {A = ℕ} 0 1 = cc in
           absurd (omega arith)
       end (pauses q a f h c k s) = c
@@ -113,7 +113,7 @@ no-step-made : (x : Lent) (q : ℕ) (w : World) (o : Outcome) → Begun x q w �
 no-step-made x q w o b e z five = by (no-step (x .call .budget) (lentEnv limit x) q w (sym (ap (λ o. o .answer .steps) e) ∙ z) .still) where
   by : Still (x .page) (x .call .budget) q (runFrom (x .call .budget) (lentEnv limit x) q w) → NoStepMade (x .page) (x .call .budget) q w o
   by (over h n) = nothingLeft (nothing-past limit (lentEnv limit x) (omega arith) (b .good) q (b .stands) h) (e ∙ nothing-to-run-is-0 x q w h)
-  by (waits a h n k at) = some-next limit (lentEnv limit x) (omega arith) (b .good) q a (b .stands) h (λ y j. pausedAtOnce y j k (e ∙ no-budget-pauses-at-once x q a w k h))
+  by (waits h n k at) = some-next limit (lentEnv limit x) (omega arith) (b .good) q (b .stands) h (λ y j. pausedAtOnce y j k (e ∙ no-budget-pauses-at-once x q w k h))
   by (unread n) = absurd (five (ap (λ o. o .answer .stop) e ∙ n))
 
 pub a-run-of-no-steps : (x : Lent) → Sized (x .session) → {q : ℕ} {w : World} → StartsTyped limit x q w → takeLine x .answer .steps ≡ 0

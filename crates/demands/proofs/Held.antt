@@ -23,7 +23,7 @@ use Rattle.demands.specs.Asks.{inputVars}
 use Rattle.demands.specs.Items.{ItemOf, ListItem}
 use Rattle.demands.specs.Leaves.{WholeItems, noItem, item, WholeLines, noneTaken, line, SameButVars, Refused, Returned, Grown, worldAfter}
 use Rattle.demands.proofs.Effects.{exec-does, list-does}
-use Rattle.demands.proofs.Runs.{placeEnding, crOf, every-run}
+use Rattle.demands.proofs.Runs.{every-run}
 use Rattle.demands.proofs.Refusing.{Refusing, exec-refuses, list-refuses}
 use Rattle.demands.proofs.Refusing as refusing
 
@@ -210,6 +210,6 @@ after-steady w (done (stop n) u) p cr k l f = l
 
 pub run-steady : (k : ℕ) (e : Env) (q : ℕ) (w : World) → Steady w (runFrom k e q w .world)
 run-steady k e q w =
-    every-run e (λ k q w r. Steady w (r .world)) (λ k q w h. steady) (λ q w a h. steady) (λ k q w a h g. steady)
-    (λ k q w a m s h g i. after-steady w (exec (envAt e (placeEnding e a m)) (m .statement) w) (placeEnding e a m) (crOf e a) (runFrom k e)
-    (does-steady (exec-does (envAt e (placeEnding e a m)) (m .statement) w)) i) k q w
+    every-run e (λ k q w r. Steady w (r .world)) (λ k q w h. steady) (λ q w h. steady) (λ k q w a h. steady)
+    (λ k q w x h i. after-steady w (exec (envAt e (x .place)) (x .statement) w) (x .place) (x .cr) (runFrom k e)
+    (does-steady (exec-does (envAt e (x .place)) (x .statement) w)) i) k q w

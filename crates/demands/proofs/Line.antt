@@ -22,7 +22,7 @@ use Rattle.demands.specs.Lent.{OneOfThese}
 use Rattle.demands.specs.Sound.{Shows, without, itsLine, Answered, byLine, byRun}
 use Rattle.demands.specs.Starts.{StartsTyped, StartsPaused}
 use Rattle.demands.proofs.Ways.{Takes, refused, noCR, overlong, unread, reads, every-line, Continues, refused′, continues, every-continue}
-use Rattle.demands.proofs.Runs.{placeEnding}
+use Rattle.demands.proofs.Runs.{fetched-line}
 use Rattle.demands.proofs.Numbers.{first-numbers}
 use Rattle.demands.proofs.Fixed.{unsaid, lines-low}
 use Rattle.demands.proofs.LastStep.{LastStep}
@@ -56,13 +56,13 @@ record Stopped (page : List ℕ) (r : Ran) : Type 0 where
 
 goings-stopped : {page : List ℕ} {k : ℕ} {r : Ran} → Goings page k r → (eqb (r .stop) 0 || eqb (r .stop) 14) ≡ false → Stopped page r
 goings-stopped (runsOut h f) e = absurd (false≢true (sym e))
-goings-stopped (pauses h r s f) e = absurd (false≢true (sym e))
+goings-stopped (pauses h s f) e = absurd (false≢true (sym e))
 goings-stopped (halts h m f) e = record { place = h; last = here }
 goings-stopped (steps p h g) e = let s = goings-stopped g e in record { place = s .place; last = later (s .last) }
 
 some-step : {page : List ℕ} {k : ℕ} {r : Ran} → Goings page k r → (r .stop ≡ 0 → ⊥) → (r .stop ≡ 14 → ⊥) → 1 ≤ length (r .lines)
 some-step (runsOut h f) m n = absurd (m refl)
-some-step (pauses h r s f) m n = absurd (n refl)
+some-step (pauses h s f) m n = absurd (n refl)
 some-step (halts h k f) m n = omega arith
 some-step (steps p h g) m n = omega arith
 
@@ -87,8 +87,8 @@ run-shows lim e short k q w h s = goings-show lim e short (h .good) (runFrom k e
 
 -- and the last step is the one that gave the stop
 pub record LineOf {e : Env} {k q : ℕ} {w : World} {r : Ran} (t : LastStep e k q w r) : Type 0 where
-  pub line : stopAt (r .stop) (r .lines) ≡ lineOf (e .page) (placeEnding e (t .start) (t .last))
-  pub lies : LiesIn (e .page) (placeEnding e (t .start) (t .last)) (lineOf (e .page) (placeEnding e (t .start) (t .last)))
+  pub line : stopAt (r .stop) (r .lines) ≡ t .last .line
+  pub lies : LiesIn (e .page) (t .last .place) (t .last .line)
 
 module _ (lim : ℕ) (e : Env) (short : lim ≤ 251) (k q : ℕ) (w : World) (h : Sound lim (e .page) (w .session)) (s : Stands (e .page) q)
     (m : runFrom k e q w .stop ≡ 0 → ⊥) (n : runFrom k e q w .stop ≡ 14 → ⊥) where
@@ -105,7 +105,10 @@ module _ (lim : ℕ) (e : Env) (short : lim ≤ 251) (k q : ℕ) (w : World) (h 
     by : {l : ℕ} → Shows (e .page) r l → stopAt (r .stop) (r .lines) ≡ l → LineOf t
     by (without (inl i)) f = absurd (m i)
     by (without (inr i)) f = absurd (n i)
-    by (itsLine i j l p d c) f = let at = t .place stopped in record { line = rw (← at) f; lies = rw (← at) d }
+    by (itsLine i j l p d c) f =
+        let at = t .place stopped in
+        let it = fetched-line (e .page) (runFrom (t .before) e q w .at) (t .last) (t .fetches) in
+        record { line = rw (it, ← at) f; lies = rw (it, ← at) d }
 
 -- Of the calls
 module _ (lim : ℕ) (short : lim ≤ 251) (x : Lent) (sound : Sound lim (x .page) (x .session)) where

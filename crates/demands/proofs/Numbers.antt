@@ -12,7 +12,7 @@ use Rattle.nibl.specs.Meaning.{World, Env, on, skip, go, stop, Done, done, with
 use Rattle.nibl.specs.Calls.{Lent, Outcome, Ran, stepped, afterStep, envAt, runFrom, stops, inRange, tableIsTrue, firstRefusal, edited, listFrom, afterImmediate, needsProgram, obey, takeLine, continueFrom, continueRun, limit, begun, lentEnv}
 use Rattle.nibl.specs.Record.{stackless}
 use Rattle.demands.specs.Lent.{OneOfThese, replyNumbers, Numbered}
-use Rattle.demands.proofs.Runs.{placeEnding, crOf, every-run}
+use Rattle.demands.proofs.Runs.{every-run}
 use Rattle.demands.proofs.Budget.{StopsWith, stopped, stopNumbers, does-stops, exec-stops}
 use Rattle.demands.proofs.Effects.{widen, list-does}
 use Rattle.demands.proofs.Ways.{Takes, refused, noCR, overlong, unread, reads, every-line, Continues, refused′, continues, every-continue}
@@ -30,8 +30,8 @@ step-numbers (done (stop n) w) (stopped h) l p cr k f = widen stopNumbers runNum
 
 pub run-numbers : (k : ℕ) (e : Env) (q : ℕ) (w : World) → OneOfThese runNumbers (runFrom k e q w .stop)
 run-numbers k e q w =
-    every-run e (λ k q w r. OneOfThese runNumbers (r .stop)) (λ k q w h. refl) (λ q w a h. refl) (λ k q w a h g. refl)
-    (λ k q w a m s h g i. step-numbers (exec (envAt e (placeEnding e a m)) (m .statement) w) (exec-stops (envAt e (placeEnding e a m)) (m .statement) w) 0 (placeEnding e a m) (crOf e a) (runFrom k e) i) k q w
+    every-run e (λ k q w r. OneOfThese runNumbers (r .stop)) (λ k q w h. refl) (λ q w h. refl) (λ k q w a h. refl)
+    (λ k q w x h i. step-numbers (exec (envAt e (x .place)) (x .statement) w) (exec-stops (envAt e (x .place)) (x .statement) w) 0 (x .place) (x .cr) (runFrom k e) i) k q w
 
 -- the first refusals, and 0 for none
 abbrev pub firstNumbers : List ℕ

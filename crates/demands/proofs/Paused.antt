@@ -15,15 +15,15 @@ use Rattle.nibl.specs.Read.{typed}
 use Rattle.nibl.specs.Column.{columnOf}
 use Rattle.nibl.specs.Typing.{Gathered}
 use Rattle.nibl.specs.Meaning.{World, Env}
-use Rattle.nibl.specs.Calls.{Lent, Outcome, Ran, ran, textFrom, runFrom, refusedLine, firstRefusal, begun, lentEnv, obeyRead, obeyLine, takeLine, takeLineIn, continueRun, continueRunIn, limit}
+use Rattle.nibl.specs.Calls.{Lent, Outcome, Ran, ran, Standing, here, fetch, runFrom, refusedLine, firstRefusal, begun, lentEnv, obeyRead, obeyLine, takeLine, takeLineIn, continueRun, continueRunIn, limit}
 use Rattle.page.proofs.Walk.{by-cases}
-use Rattle.page.specs.Standing.{Stands, Ready}
+use Rattle.page.specs.Standing.{Stands}
 use Rattle.record.specs.Sound.{Sized, Sound}
 use Rattle.record.proofs.Fitted.{sound-fit, fit-sound}
 use Rattle.demands.specs.Lent.{budgeted, gatheredLine, Typing}
 use Rattle.demands.specs.Reading.{PastTheLast}
-use Rattle.demands.proofs.Reading.{past-none}
-use Rattle.demands.proofs.Runs.{run-none, run-suc}
+use Rattle.demands.proofs.Reading.{past-fetched}
+use Rattle.demands.proofs.Runs.{run-past, run-suc}
 use Rattle.demands.proofs.Budget.{wentOnWith, split-run, steps-within}
 use Rattle.demands.proofs.Running.{Goings, runsOut, pauses, steps, run-goes}
 use Rattle.demands.proofs.Running.{stops as halts}
@@ -32,21 +32,19 @@ use Rattle.demands.proofs.Accepted.{accepted-less, take-at, continue-at
 use Rattle.demands.proofs.Sound.{unrefused}
 
 pub past-the-last-line : (e : Env) (q : ℕ) (w : World) → PastTheLast (e .page) q → (k : ℕ) → runFrom k e q w ≡ ran 0 q w
-past-the-last-line e q w h k = run-none k e q w (past-none h)
+past-the-last-line e q w h k = run-past k e q w (past-fetched h)
 
--- where a run paused: the budget is spent, and a text follows that can be read
+-- where a run paused: the budget is spent, and a member follows
 record Pause (page : List ℕ) (k : ℕ) (r : Ran) : Type 0 where
   spent : length (r .lines) ≡ k
-  lim : ℕ
-  start : ℕ
-  follows : textFrom page (r .at) ≡ some start
-  ready : Ready lim page start
+  waiting : Standing
+  fetches : fetch page (r .at) ≡ here waiting
 
 goings-pause : {page : List ℕ} {k : ℕ} {r : Ran} → Goings page k r → r .stop ≡ 14 → Pause page k r
 goings-pause (runsOut h f) e = absurd (omega arith)
-goings-pause (pauses {lim = l} {a = a} h r s f) e = record { spent = refl; lim = l; start = a; follows = h; ready = r }
+goings-pause (pauses {x = x} h s f) e = record { spent = refl; waiting = x; fetches = h }
 goings-pause (halts h m f) e = absurd (false≢true (rw e at m))
-goings-pause (steps p h g) e = let s = goings-pause g e in record { spent = ap suc (s .spent); lim = s .lim; start = s .start; follows = s .follows; ready = s .ready }
+goings-pause (steps p h g) e = let s = goings-pause g e in record { spent = ap suc (s .spent); waiting = s .waiting; fetches = s .fetches }
 
 -- Exactly: with one step more in the budget there is one step more
 abbrev pub Exactly : ℕ → ℕ → ℕ → ℕ → Type 0
@@ -56,16 +54,16 @@ module _ (lim : ℕ) (e : Env) (short : lim ≤ 251) (q : ℕ) (w : World) (h : 
   paused-where : (k : ℕ) → runFrom k e q w .stop ≡ 14 → Pause (e .page) k (runFrom k e q w)
   paused-where k i = goings-pause (run-goes lim e short (h .good) k q w s (sound-fit h)) i
 
-  -- a text that follows gives one step
-  one-step : (l a : ℕ) (r : Ran) → textFrom (e .page) (r .at) ≡ some a → Ready l (e .page) a → 1 ≤ length (runFrom 1 e (r .at) (r .world) .lines)
-  one-step l a r i y = rw (run-suc 0 e (r .at) (r .world) a i, y .finds) (omega arith)
+  -- that member gives one step
+  one-step : (r : Ran) (x : Standing) → fetch (e .page) (r .at) ≡ here x → 1 ≤ length (runFrom 1 e (r .at) (r .world) .lines)
+  one-step r x i = rw (run-suc 0 e (r .at) (r .world) x i) (omega arith)
 
   more-steps : (k : ℕ) → runFrom k e q w .stop ≡ 14 → length (runFrom (suc k) e q w .lines) ≡ suc k
   more-steps k i =
       let r : Ran = runFrom k e q w in
       let p = paused-where k i in
       let t : Ran = runFrom 1 e (r .at) (r .world) in
-      let one : 1 ≤ length (t .lines) = one-step (p .lim) (p .start) r (p .follows) (p .ready) in
+      let one : 1 ≤ length (t .lines) = one-step r (p .waiting) (p .fetches) in
       let whole : runFrom (suc k) e q w .lines ≡ r .lines ++ t .lines =
       ap (λ (n : ℕ). runFrom n e q w .lines) (sym (add-one k)) ∙ ap (λ (y : Ran). y .lines) (split-run k 1 e q w) ∙ rw (eq-eqb (r .stop) 14 i) in
       omega (arith, ap length whole, length-append (r .lines) (t .lines), steps-within (suc k) e q w)

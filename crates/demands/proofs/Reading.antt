@@ -3,7 +3,7 @@ use Prim.Native.Nat.{ℕ, zero, suc, _+_, _-_, _≤_, _<_}
 use mathlib.Core.Path.{_≡_, refl, sym, ap, _∙_}
 use mathlib.Core.Bool.{Bool, false, _&&_}
 use mathlib.Core.List.{List, [], _∷_, _++_}
-use mathlib.Core.Option.{none, some}
+use mathlib.Core.Option.{some}
 use native.Mathlib.Omega.{arith}
 use lib.ListN.{length, getD, drop, length-drop}
 use lib.Seq.{drop-append-le, drop-drop, drop-length}
@@ -15,7 +15,7 @@ use Rattle.nibl.specs.Grammar.{Members, lastMember, moreMembers}
 use Rattle.nibl.specs.Readings.{ListReading}
 use Rattle.nibl.specs.Read.{found, member}
 use Rattle.nibl.specs.Page.{Stored, lineOf, recordsOf}
-use Rattle.nibl.specs.Calls.{textFrom, lineFrom}
+use Rattle.nibl.specs.Calls.{past as nothing, here, textFrom, lineFrom, fetch}
 use Rattle.nibl.specs.Record.{pausedAt}
 use Rattle.nibl.proofs.Words.{front-run}
 use Rattle.nibl.proofs.Over.{word-over}
@@ -32,7 +32,7 @@ use Rattle.page.proofs.Laid.{Laid, good-laid}
 use Rattle.page.proofs.Laid as laid
 use Rattle.demands.specs.Items.{In, first, further}
 use Rattle.demands.specs.Good.{RecordAt, Boundary, start, behind, GoodPage, placeOf, IsPlace, endsMember, PauseFits, atStart, afterPlace}
-use Rattle.demands.specs.Reading.{Standing, standing, InTurn, here, later, NextAt, firstOf, after, PastTheLast}
+use Rattle.demands.specs.Reading.{Standing, standing, InTurn, here as inFront, later, NextAt, firstOf, after, PastTheLast}
 use Rattle.demands.proofs.Good.{whole-record, written-end, good-exact, record-here, boundary-onward}
 
 -- A record's text
@@ -67,9 +67,9 @@ boundary-text : {page : List ℕ} {at n : ℕ} {t : List ℕ} → Boundary page 
 unfolding textFrom
 boundary-text {t = t} b r = rw (boundary-before b, r .bytes, written-end (r .high) (r .low) t (r .after) (omega (arith, r .number, r .small)))
 
-pub past-none : {page : List ℕ} {q : ℕ} → PastTheLast page q → textFrom page q ≡ none
-unfolding textFrom
-past-none p = rw (boundary-before (p .boundary), p .mark .bytes)
+pub past-fetched : {page : List ℕ} {q : ℕ} → PastTheLast page q → fetch page q ≡ nothing
+unfolding textFrom fetch
+past-fetched p = rw (boundary-before (p .boundary), p .mark .bytes)
 
 text-colon : (page : List ℕ) (p : ℕ) → getD page p 0 ≡ 58 → textFrom page (suc p) ≡ some (suc p)
 unfolding textFrom
@@ -88,12 +88,12 @@ record Turn (l m : Member) (ms : List Member) : Type 0 where
   follows : Followed ms left (m ∷ rest)
 
 no-turn : {A : Type 0} {l m : Member} {ms : List Member} → InTurn l m ms → ms ≡ [] → A
-no-turn here h = let z : _≡_ {A = ℕ} 0 1 = cc in absurd (omega arith)
+no-turn inFront h = let z : _≡_ {A = ℕ} 0 1 = cc in absurd (omega arith)
 no-turn (later i) h = let z : _≡_ {A = ℕ} 0 1 = cc in absurd (omega arith)
 
 in-turn : {s : List ℕ} {l m : Member} {ms : List Member} → Members W s ms → InTurn l m ms → Turn l m ms
 in-turn (lastMember p a) (later i) = no-turn i refl
-in-turn (moreMembers {u = u} p k ms) (here {ms = rest}) = record { left = length u; rest = rest; ends-there = refl; follows = ends.first refl }
+in-turn (moreMembers {u = u} p k ms) (inFront {ms = rest}) = record { left = length u; rest = rest; ends-there = refl; follows = ends.first refl }
 in-turn (moreMembers p k ms) (later i) =
     let t = in-turn ms i in record { left = t .left; rest = t .rest; ends-there = t .ends-there; follows = ends.later (t .follows) }
 
@@ -110,23 +110,16 @@ succeeds (lastMember p a) (further i) = nobody i refl where
   nobody (further i) h = let z : _≡_ {A = ℕ} 0 1 = cc in absurd (omega arith)
 succeeds (moreMembers p k ms) first = next-of ms where
   next-of : {s : List ℕ} {l : Member} {ms : List Member} → Members W s ms → Succeeds l (l ∷ ms)
-  next-of (lastMember p a) = followed _ here
-  next-of (moreMembers p k ms) = followed _ here
+  next-of (lastMember p a) = followed _ inFront
+  next-of (moreMembers p k ms) = followed _ inFront
 succeeds (moreMembers p k ms) (further i) = by (succeeds ms i) where
   by : {m l : Member} {ms : List Member} → Succeeds m ms → Succeeds m (l ∷ ms)
   by (isLast e) = isLast e
   by (followed k i) = followed k (later i)
 
--- What a run finds at a position
-pub record Finds (page : List ℕ) (q : ℕ) (x : Standing) : Type 0 where
-  pub start : ℕ
-  pub follows : textFrom page q ≡ some start
-  pub last : Member
-  pub rest : List ℕ
-  pub stands : member (lineFrom page start) ≡ found last rest
-  pub statement : x .statement ≡ last .statement
-  pub place : x .place ≡ start + (length (lineFrom page start) - last .left)
-  pub cr : x .cr ≡ start + length (lineFrom page start)
+-- What a run fetches at a position. Its line is that of its place
+abbrev lined : List ℕ → Standing → Standing
+lined page x = record { statement = x .statement; line = lineOf page (x .place); place = x .place; cr = x .cr }
 
 begins-found : {s : List ℕ} {m : Member} {ms : List Member} {P : Type 0} → Begins s m ms → ((u : List ℕ) → member s ≡ found m u → P) → P
 begins-found (alone z e) f = f [] e
@@ -134,29 +127,23 @@ begins-found (before l e r) f = f _ e
 
 module _ (page : List ℕ) (at n : ℕ) (t : List ℕ) (r : RecordAt page at n t) where
   -- from i on in the text of a record
-  finds-in : {all : List Member} {m : Member} {ms : List Member} (q i : ℕ) → ListReading t all → i ≤ length t → textFrom page q ≡ some (at + 3 + i) → ListReading (drop i t) (m ∷ ms)
-      → Finds page q (standing at n t m)
-  finds-in {m = m} q i known h e reads =
+  fetched-in : {all : List Member} {m : Member} {ms : List Member} (q i : ℕ) → ListReading t all → i ≤ length t → textFrom page q ≡ some (at + 3 + i) → ListReading (drop i t) (m ∷ ms)
+      → fetch page q ≡ here (lined page (standing at n t m))
+  unfolding fetch
+  fetched-in {m = m} q i known h e reads =
       begins-found (reading-begins (drop i t) (reading-complete reads)) (λ u f.
-      let line = text-line page at n t r known i h in
+      let text = text-line page at n t r known i h in
       let long : length (drop i t) ≡ length t - i = length-drop i t in
       let left = members-left reads in
-      record {
-        start = at + 3 + i;
-        follows = e;
-        last = m;
-        rest = u;
-        stands = rw line f;
-        statement = refl;
-        place = rw line (omega arith);
-        cr = rw line (omega arith);
-      })
+      let place : at + 3 + i + (length (drop i t) - m .left) ≡ placeOf at t m = omega arith in
+      let cr : at + 3 + i + length (drop i t) ≡ at + 3 + length t = omega arith in
+      rw (e, text, f, text, place, cr))
 
-pub next-finds : {page : List ℕ} {q : ℕ} {x : Standing} → NextAt page q x → Finds page q x
-next-finds {page = page} (firstOf {at = at} {n = n} {t = t} b r reads) =
+pub next-fetches : {page : List ℕ} {q : ℕ} {x : Standing} → NextAt page q x → fetch page q ≡ here (lined page x)
+next-fetches {page = page} (firstOf {at = at} {n = n} {t = t} b r reads) =
     let z : at + 3 + 0 ≡ at + 3 = omega arith in
-    finds-in page at n t r at 0 reads (omega arith) (boundary-text b r ∙ ap some (sym z)) reads
-next-finds {page = page} (after {at = at} {n = n} {t = t} {l = l} b r reads i) =
+    fetched-in page at n t r at 0 reads (omega arith) (boundary-text b r ∙ ap some (sym z)) reads
+next-fetches {page = page} (after {at = at} {n = n} {t = t} {l = l} b r reads i) =
     let u = in-turn reads i in
     let f = what-follows reads (u .follows) in
     let k : ℕ = u .left in
@@ -164,7 +151,7 @@ next-finds {page = page} (after {at = at} {n = n} {t = t} {l = l} b r reads i) =
     let same : length t - l .left ≡ length t - suc k = ap (λ (j : ℕ). length t - j) (u .ends-there) in
     let colon = text-byte page at n t r (length t - suc k) 58 (drop (length t - k) t ++ (13 ∷ r .after)) (omega arith) (rw (f .colon)) in
     let next : suc (at + 3 + (length t - suc k)) ≡ at + 3 + (length t - k) = omega arith in
-    finds-in page at n t r (suc (placeOf at t l)) (length t - k) reads (omega arith)
+    fetched-in page at n t r (suc (placeOf at t l)) (length t - k) reads (omega arith)
     (rw same (text-colon page (at + 3 + (length t - suc k)) colon ∙ ap some next)) (f .reads)
 
 -- what stands at a position: the end mark, or a member
@@ -186,22 +173,13 @@ module _ (lim : ℕ) (page : List ℕ) (short : lim ≤ 251) (good : GoodPage li
   next-line (firstOf {m = m} b r reads) = member-line m b r
   next-line (after {m = m} b r reads i) = member-line m b r
 
-  -- one member at most is next
+  -- so it is the one that is fetched, and one member at most is next
+  pub next-fetched : {q : ℕ} {x : Standing} → NextAt page q x → fetch page q ≡ here x
+  next-fetched {x = x} i =
+      next-fetches i ∙ sym (ap (λ (l : ℕ). here (record { statement = x .statement; line = l; place = x .place; cr = x .cr })) (next-line i))
+
   pub next-unique : {q : ℕ} {x y : Standing} → NextAt page q x → NextAt page q y → x ≡ y
-  next-unique {x = x} {y = y} i j =
-      let f = next-finds i in
-      let g = next-finds j in
-      let a = f .follows in
-      let b = g .follows in
-      let same : f .start ≡ g .start = cc in
-      let c = f .stands in
-      let d = g .stands in
-      let last : f .last ≡ g .last = cc in
-      let statement : x .statement ≡ y .statement = f .statement ∙ ap (λ (m : Member). m .statement) last ∙ sym (g .statement) in
-      let place : x .place ≡ y .place = f .place ∙ (λ k. same k + (length (lineFrom page (same k)) - last k .left)) ∙ sym (g .place) in
-      let cr : x .cr ≡ y .cr = f .cr ∙ ap (λ (k : ℕ). k + length (lineFrom page k)) same ∙ sym (g .cr) in
-      let line : x .line ≡ y .line = next-line i ∙ ap (lineOf page) place ∙ sym (next-line j) in
-      λ k. record { statement = statement k; line = line k; place = place k; cr = cr k }
+  next-unique i j = let f = next-fetched i in let g = next-fetched j in cc
 
   at-boundary : {q : ℕ} → Boundary page q → Stood page q
   at-boundary {q = q} b = by (boundary-onward lim page known b .laid) where
@@ -227,28 +205,15 @@ module _ (lim : ℕ) (page : List ℕ) (short : lim ≤ 251) (good : GoodPage li
   stood-at atStart = at-boundary start
   stood-at (afterPlace i) = at-place i
 
-  -- so that what a run finds where it may stand is the member that is next there
-  pub found-next : {q a : ℕ} {m : Member} {s : List ℕ} → PauseFits page (pausedAt q) → textFrom page q ≡ some a → member (lineFrom page a) ≡ found m s → {p : ℕ}
-      → p ≡ a + (length (lineFrom page a) - m .left) → NextAt page q (record { statement = m .statement; line = lineOf page p; place = p; cr = a + length (lineFrom page a) })
-  found-next {q = q} {a = a} {m = m} h e f {p = p} z = by (stood-at h) where
-    by : Stood page q → NextAt page q (record { statement = m .statement; line = lineOf page p; place = p; cr = a + length (lineFrom page a) })
-    by (past i) = let g = past-none i in let c : _≡_ {A = ℕ} 0 1 = cc in absurd (omega arith)
-    by (next {x = x} i) =
-        let g = next-finds i in
-        let b = g .follows in
-        let same : g .start ≡ a = cc in
-        let d = g .stands in
-        let last : g .last ≡ m = cc in
-        let statement : x .statement ≡ m .statement = g .statement ∙ ap (λ (m : Member). m .statement) last in
-        let place : x .place ≡ p = g .place ∙ (λ k. same k + (length (lineFrom page (same k)) - last k .left)) ∙ sym z in
-        let cr : x .cr ≡ a + length (lineFrom page a) = g .cr ∙ ap (λ (k : ℕ). k + length (lineFrom page k)) same in
-        let line : x .line ≡ lineOf page p = next-line i ∙ ap (lineOf page) place in
-        let it : x ≡ record { statement = m .statement; line = lineOf page p; place = p; cr = a + length (lineFrom page a) } =
-        λ k. record { statement = statement k; line = line k; place = place k; cr = cr k } in
-        rw it at i
+  -- so that what a run fetches where it may stand is the member that is next there
+  pub fetched-next : {q : ℕ} {x : Standing} → PauseFits page (pausedAt q) → fetch page q ≡ here x → NextAt page q x
+  fetched-next {q = q} {x = x} h e = by (stood-at h) where
+    by : Stood page q → NextAt page q x
+    by (past i) = let g = past-fetched i in let c : _≡_ {A = ℕ} 0 1 = cc in absurd (omega arith)
+    by (next {x = y} i) = let g = next-fetched i in let it : y ≡ x = cc in rw it at i
 
-  pub none-past : {q : ℕ} → PauseFits page (pausedAt q) → textFrom page q ≡ none → PastTheLast page q
-  none-past {q = q} h e = by (stood-at h) where
+  pub fetched-past : {q : ℕ} → PauseFits page (pausedAt q) → fetch page q ≡ nothing → PastTheLast page q
+  fetched-past {q = q} h e = by (stood-at h) where
     by : Stood page q → PastTheLast page q
     by (past i) = i
-    by (next i) = let g = next-finds i .follows in let c : _≡_ {A = ℕ} 0 1 = cc in absurd (omega arith)
+    by (next i) = let g = next-fetched i in let c : _≡_ {A = ℕ} 0 1 = cc in absurd (omega arith)

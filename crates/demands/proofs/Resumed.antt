@@ -45,7 +45,7 @@ line-joined n l (k ∷ m ∷ ks) ls = line-joined n l (m ∷ ks) ls
 
 goings-line : {page : List ℕ} {k : ℕ} {r : Ran} → Goings page k r → (ks : List ℕ) → stopAt (r .stop) (ks ++ r .lines) ≡ stopAt (r .stop) (r .lines)
 goings-line (runsOut h f) ks = silent 0 (ks ++ []) refl
-goings-line (pauses h r s f) ks = silent 14 (ks ++ []) refl
+goings-line (pauses h s f) ks = silent 14 (ks ++ []) refl
 goings-line (halts h m f) ks = line-joined _ _ ks []
 goings-line (steps {r = r} p h g) ks = line-joined (r .stop) _ ks (r .lines)
 

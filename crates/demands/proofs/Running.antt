@@ -1,10 +1,9 @@
 -- How a run of a good page with a fitting record goes: at every step a member is read, its end is a place, and the record still fits.
 -- Assumes nothing.
 use Prim.Native.Nat.{ℕ, suc, _+_, _≤_}
-use mathlib.Core.Path.{_≡_}
+use mathlib.Core.Path.{_≡_, refl}
 use mathlib.Core.Bool.{Bool, true, false}
 use mathlib.Core.List.{List, [], _∷_}
-use mathlib.Core.Option.{none, some}
 use native.Mathlib.Omega.{arith}
 use lib.ListN.{length}
 use lib.Dec.{leb}
@@ -12,14 +11,14 @@ use Rattle.nibl.specs.Tree.{Stmt}
 use Rattle.nibl.specs.Page.{Stored, isAmong, isGood, placesOf, lineOf}
 use Rattle.nibl.specs.Record.{mark}
 use Rattle.nibl.specs.Meaning.{World, Env, on, skip, go, stop, Done, done, put, went, exec}
-use Rattle.nibl.specs.Calls.{Ran, ran, stepped, textFrom, lineFrom, envAt, afterStep, runFrom, needsProgram, listed, listFrom}
+use Rattle.nibl.specs.Calls.{Ran, ran, stepped, Standing, Fetched, past, unread, here, fetch, envAt, afterStep, runFrom, needsProgram, listed, listFrom}
 use Rattle.nibl.proofs.Words.{if-split}
-use Rattle.page.specs.Standing.{Stands, Ready}
-use Rattle.page.proofs.Standing.{ready-read, ready-end, stands-ready}
+use Rattle.page.specs.Standing.{Stands}
+use Rattle.page.proofs.Standing.{fetches-here, fetches-read}
 use Rattle.record.specs.Fit.{Fit, Goes, toNext, toRecord, toPlace, toEnd}
 use Rattle.record.proofs.Statements.{list-goes, immediate-goes, member-goes}
 use Rattle.demands.proofs.Effects.{exec-does, list-does}
-use Rattle.demands.proofs.Runs.{placeEnding, crOf, every-run}
+use Rattle.demands.proofs.Runs.{every-run}
 use Rattle.demands.proofs.Budget.{StopsWith, stopped, stopNumbers, does-stops}
 
 -- a statement left a fitting record, and goes on to where a run may stand, or stops with one of its numbers
@@ -60,9 +59,9 @@ statement-left lim e short good q w h n f = record { goes = immediate-goes e lim
 -- The ways in which a run goes, within its budget
 pub data Goings (page : List ℕ) : ℕ → Ran → Type 0 where
   -- past the last line
-  runsOut : {k q : ℕ} {w : World} → textFrom page q ≡ none → Fit (placesOf page) (w .session) → Goings page k (ran 0 q w)
-  -- the budget is spent, and a text follows
-  pauses : {lim q a : ℕ} {w : World} → textFrom page q ≡ some a → Ready lim page a → Stands page q → Fit (placesOf page) (w .session) → Goings page 0 (ran 14 q w)
+  runsOut : {k q : ℕ} {w : World} → fetch page q ≡ past → Fit (placesOf page) (w .session) → Goings page k (ran 0 q w)
+  -- the budget is spent, and a member follows
+  pauses : {q : ℕ} {w : World} {x : Standing} → fetch page q ≡ here x → Stands page q → Fit (placesOf page) (w .session) → Goings page 0 (ran 14 q w)
   -- the member that p ends stopped the run
   stops : {k n p : ℕ} {w : World} → isAmong (placesOf page) p ≡ true → isAmong stopNumbers n ≡ true → Fit (placesOf page) (w .session)
       → Goings page (suc k) (stepped (lineOf page p) (ran n p w))
@@ -72,6 +71,21 @@ pub data Goings (page : List ℕ) : ℕ → Ran → Type 0 where
 module _ (lim : ℕ) (e : Env) (short : lim ≤ 251) (good : isGood lim (e .page) ≡ true) where
   abbrev Sure : ℕ → (ℕ → World → Ran) → Type 0
   Sure k f = (q : ℕ) (w : World) → Stands (e .page) q → Fit (placesOf (e .page)) (w .session) → Goings (e .page) k (f q w)
+
+  -- where a run may stand and is not past the last line, a member follows
+  pub some-fetched : {P : Type 0} (q : ℕ) → Stands (e .page) q → (fetch (e .page) q ≡ past → ⊥) → ((x : Standing) → fetch (e .page) q ≡ here x → P) → P
+  some-fetched {P = P} q s n g = by (fetch (e .page) q) refl where
+    by : (f : Fetched) → fetch (e .page) q ≡ f → P
+    by past h = absurd (n h)
+    by (unread a) h = absurd (fetches-read lim (e .page) short good q a s h)
+    by (here x) h = g x h
+
+  -- what a member does that was fetched there
+  pub fetched-goes : (q : ℕ) (x : Standing) (w : World) → Stands (e .page) q → fetch (e .page) q ≡ here x → Fit (placesOf (e .page)) (w .session)
+      → Goes (e .page) (exec (envAt e (x .place)) (x .statement) w)
+  fetched-goes q x w s h f =
+      let r = fetches-here lim (e .page) short good q x s h in
+      rw (r .statement) (member-goes lim e short good (x .place) (r .text) (r .rest) (r .first) w (r .end) (r .reads) f)
 
   step-goes : (k p cr : ℕ) (d : Done) (f : ℕ → World → Ran) → isAmong (placesOf (e .page)) p ≡ true → isAmong (placesOf (e .page)) cr ≡ true → LeavesFit (e .page) d → Sure k f
       → Goings (e .page) (suc k) (stepped (lineOf (e .page) p) (afterStep d p cr f))
@@ -86,13 +100,13 @@ module _ (lim : ℕ) (e : Env) (short : lim ≤ 251) (good : isGood lim (e .page
   run-goes k q w =
       every-run e (λ k q w r. Stands (e .page) q → Fit (placesOf (e .page)) (w .session) → Goings (e .page) k r)
       (λ k q w h s f. runsOut h f)
-      (λ q w a h s f. pauses h (stands-ready lim (e .page) short good q a s h) s f)
-      (λ k q w a h g s f. absurd (ready-read (stands-ready lim (e .page) short good q a s h) g))
-      (λ k q w a m t h g i s f.
-      let r = stands-ready lim (e .page) short good q a s h in
-      let end : isAmong (placesOf (e .page)) (placeEnding e a m) ≡ true = ready-end r m t g in
-      step-goes k (placeEnding e a m) (crOf e a) _ (runFrom k e) end (r .cr)
+      (λ q w n s f. some-fetched q s n (λ x h. pauses h s f))
+      (λ k q w a h s f. absurd (fetches-read lim (e .page) short good q a s h))
+      (λ k q w x h i s f.
+      let r = fetches-here lim (e .page) short good q x s h in
+      rw (r .line)
+      (step-goes k (x .place) (x .cr) _ (runFrom k e) (r .end) (r .cr)
       (record {
-        goes = member-goes lim e short good (placeEnding e a m) (lineFrom (e .page) a) t m w end g f;
-        stops = does-stops (exec-does (envAt e (placeEnding e a m)) (m .statement) w);
-      }) i) k q w
+        goes = fetched-goes q x w s h f;
+        stops = does-stops (exec-does (envAt e (x .place)) (x .statement) w);
+      }) i)) k q w

@@ -27,13 +27,13 @@ use Rattle.demands.proofs.Obeys.{lineNumbers, Obeyed, stands, edits, ru
 -- What a run leaves
 pub goings-fit : {page : List ℕ} {k : ℕ} {r : Ran} → Goings page k r → Fit (placesOf page) (r .world .session)
 goings-fit (runsOut h f) = f
-goings-fit (pauses h r s f) = f
+goings-fit (pauses h s f) = f
 goings-fit (halts h n f) = f
 goings-fit (steps p h g) = goings-fit g
 
 pub goings-stands : {page : List ℕ} {k : ℕ} {r : Ran} → Goings page k r → r .stop ≡ 14 → Stands page (r .at)
 goings-stands (runsOut h f) e = absurd (omega arith)
-goings-stands (pauses h r s f) e = s
+goings-stands (pauses h s f) e = s
 goings-stands (halts h m f) e = absurd (false≢true (rw e at m))
 goings-stands (steps p h g) e = goings-stands g e
 
@@ -46,7 +46,7 @@ obeyNumbers = 14 ∷ lineNumbers
 
 pub goings-number : {page : List ℕ} {k : ℕ} {r : Ran} → Goings page k r → isAmong goingNumbers (r .stop) ≡ true
 goings-number (runsOut h f) = refl
-goings-number (pauses h r s f) = refl
+goings-number (pauses h s f) = refl
 goings-number (halts {n = n} h m f) = widen stopNumbers goingNumbers refl n m
 goings-number (steps p h g) = goings-number g
 

@@ -2,21 +2,16 @@
 use Prim.Native.Nat.{ℕ, suc, _≤_}
 use mathlib.Core.Path.{_≡_, refl, sym, ap, subst, _∙_}
 use mathlib.Core.Bool.{true}
-use mathlib.Core.List.{List}
-use mathlib.Core.Option.{none, some}
 use native.Mathlib.Omega.{arith}
-use Rattle.nibl.specs.Tree.{Member}
-use Rattle.nibl.specs.Read.{Found, found, member}
-use Rattle.nibl.specs.Page.{isAmong, isGood, placesOf, lineOf}
+use Rattle.nibl.specs.Page.{isGood, placesOf}
 use Rattle.nibl.specs.Record.{nowhere, pausedAt}
 use Rattle.nibl.specs.Typing.{Gathered}
 use Rattle.nibl.specs.Meaning.{World, Env, Next, on, skip, go, stop, Done, done, exec}
-use Rattle.nibl.specs.Calls.{Lent, Outcome, Ran, stepped, step, textFrom, lineFrom, envAt, afterStep, runFrom, firstRefusal, begun, lentEnv, takeLine, continueRun, limit}
-use Rattle.page.specs.Standing.{Stands}
-use Rattle.page.proofs.Standing.{ready-read, ready-end, stands-ready}
+use Rattle.nibl.specs.Calls.{Lent, Outcome, Ran, stepped, step, past as nothing, here, fetch, envAt, afterStep, runFrom, firstRefusal, begun, lentEnv, takeLine, continueRun, limit}
+use Rattle.page.specs.Standing.{Stands, Readable}
+use Rattle.page.proofs.Standing.{fetches-here, fetches-read}
 use Rattle.record.specs.Fit.{Fit, Goes, toNext, toRecord, toPlace, toEnd}
 use Rattle.record.specs.Sound.{Sized, Sound}
-use Rattle.record.proofs.Statements.{member-goes}
 use Rattle.record.proofs.Fitted.{sound-fit, fit-paused, fit-vars, fit-cleared, paused-stands}
 use Rattle.demands.specs.Lent.{Typing}
 use Rattle.demands.specs.Starts.{Starts, byRUN, byStatement, StartsTyped, typed, StartsPaused, paused, ranFrom}
@@ -27,9 +22,9 @@ use Rattle.demands.specs.ItemsIn.{StatementWrote}
 use Rattle.demands.specs.Stepping.{OneStep, Runs, over, pauses, halts, goesOn, LeavesRun}
 use Rattle.demands.specs.Leaves.{worldAfter}
 use Rattle.demands.proofs.Good.{good-exact, stands-exact}
-use Rattle.demands.proofs.Reading.{Stood, past, next, past-none, next-finds, next-line, stood-at, found-next, none-past}
-use Rattle.demands.proofs.Runs.{placeEnding, crOf, run-none, run-zero, run-suc, every-run}
-use Rattle.demands.proofs.Running.{statement-left}
+use Rattle.demands.proofs.Reading.{past-fetched, next-fetches, next-fetched, fetched-next, fetched-past}
+use Rattle.demands.proofs.Runs.{here-not-past, run-past, run-zero, run-suc, every-run}
+use Rattle.demands.proofs.Running.{some-fetched, fetched-goes, statement-left}
 use Rattle.demands.proofs.Sound.{unrefused}
 use Rattle.demands.proofs.Beginning.{a-run-begins, a-paused-run-goes-on}
 use Rattle.demands.proofs.ItemsIn.{a-statement-writes}
@@ -41,57 +36,44 @@ module _ (lim : ℕ) (e : Env) (short : lim ≤ 251) (good : isGood lim (e .page
   stands-so : (q : ℕ) → Stands (e .page) q → PauseFits (e .page) (pausedAt q)
   stands-so q s = stands-exact lim (e .page) short page-good (pausedAt q) .0 s
 
-  -- where nothing follows is the end mark, and a text that follows is a member's
-  pub nothing-past : (q : ℕ) → Stands (e .page) q → textFrom (e .page) q ≡ none → PastTheLast (e .page) q
-  nothing-past q s h = none-past lim (e .page) short page-good (stands-so q s) h
+  -- what is fetched where nothing follows is the end mark, and else the member that is next
+  pub nothing-past : (q : ℕ) → Stands (e .page) q → fetch (e .page) q ≡ nothing → PastTheLast (e .page) q
+  nothing-past q s h = fetched-past lim (e .page) short page-good (stands-so q s) h
 
-  pub some-next : {P : Type 0} (q a : ℕ) → Stands (e .page) q → textFrom (e .page) q ≡ some a → ((x : Standing) → NextAt (e .page) q x → P) → P
-  some-next {P = P} q a s h f = by (stood-at lim (e .page) short page-good (stands-so q s)) where
-    by : Stood (e .page) q → P
-    by (past p) = let i = past-none p in let z : _≡_ {A = ℕ} 0 1 = cc in absurd (omega arith)
-    by (next {x = x} i) = f x i
+  pub some-next : {P : Type 0} (q : ℕ) → Stands (e .page) q → (fetch (e .page) q ≡ nothing → ⊥) → ((x : Standing) → NextAt (e .page) q x → P) → P
+  some-next q s n f = some-fetched lim e short good q s n (λ x h. f x (fetched-next lim (e .page) short page-good (stands-so q s) h))
 
-  module _ (q a : ℕ) (m : Member) (t : List ℕ) (w : World) (s : Stands (e .page) q) (h : textFrom (e .page) q ≡ some a) (g : member (lineFrom (e .page) a) ≡ found m t) where
-    abbrev pub its : Standing
-    its = record { statement = m .statement; line = lineOf (e .page) (placeEnding e a m); place = placeEnding e a m; cr = crOf e a }
+  module _ (q : ℕ) (x : Standing) (w : World) (s : Stands (e .page) q) (h : fetch (e .page) q ≡ here x) where
+    pub its-next : NextAt (e .page) q x
+    its-next = fetched-next lim (e .page) short page-good (stands-so q s) h
 
-    pub its-next : NextAt (e .page) q its
-    its-next = found-next lim (e .page) short page-good (stands-so q s) h g refl
-
-    end-place : isAmong (placesOf (e .page)) (placeEnding e a m) ≡ true
-    end-place = ready-end (stands-ready lim (e .page) short good q a s h) m t g
-
-    cr-place : isAmong (placesOf (e .page)) (crOf e a) ≡ true
-    cr-place = stands-ready lim (e .page) short good q a s h .cr
-
-    -- what it does
-    its-goes : Fit (placesOf (e .page)) (w .session) → Goes (e .page) (exec (envAt e (placeEnding e a m)) (m .statement) w)
-    its-goes f = member-goes lim e short good (placeEnding e a m) (lineFrom (e .page) a) t m w end-place g f
+    readable : Readable (e .page) x
+    readable = fetches-here lim (e .page) short good q x s h
 
     -- where it goes on, a run may stand
-    pub goes-stands : Fit (placesOf (e .page)) (w .session) → {how : Next} {u : World} {q' : ℕ} → exec (envAt e (placeEnding e a m)) (m .statement) w ≡ done how u
-        → GoesTo (placeEnding e a m) (crOf e a) how q' → Stands (e .page) q'
-    goes-stands f d to = by (rw d at (its-goes f)) to where
-      by : {how : Next} {u : World} {q' : ℕ} → Goes (e .page) (done how u) → GoesTo (placeEnding e a m) (crOf e a) how q' → Stands (e .page) q'
-      by (toNext i) afterIt = end-place
-      by (toRecord i) afterRecord = cr-place
+    pub goes-stands : Fit (placesOf (e .page)) (w .session) → {how : Next} {u : World} {q' : ℕ} → exec (envAt e (x .place)) (x .statement) w ≡ done how u
+        → GoesTo (x .place) (x .cr) how q' → Stands (e .page) q'
+    goes-stands f d to = by (rw d at (fetched-goes lim e short good q x w s h f)) to where
+      by : {how : Next} {u : World} {q' : ℕ} → Goes (e .page) (done how u) → GoesTo (x .place) (x .cr) how q' → Stands (e .page) q'
+      by (toNext i) afterIt = readable .end
+      by (toRecord i) afterRecord = readable .cr
       by (toPlace c i) jumps = c
 
     its-runs : (k : ℕ) → Fit (placesOf (e .page)) (w .session) → ((q : ℕ) (u : World) → Stands (e .page) q → Fit (placesOf (e .page)) (u .session) → Runs e k q u (runFrom k e q u))
-        → Runs e (suc k) q w (stepped (its .line) (afterStep (exec (envAt e (its .place)) (its .statement) w) (its .place) (its .cr) (runFrom k e)))
-    its-runs k f more = by (exec (envAt e (its .place)) (its .statement) w) refl (its-goes f) where
-      step : {how : Next} {u : World} → exec (envAt e (its .place)) (its .statement) w ≡ done how u → OneStep e q w its how u
+        → Runs e (suc k) q w (stepped (x .line) (afterStep (exec (envAt e (x .place)) (x .statement) w) (x .place) (x .cr) (runFrom k e)))
+    its-runs k f more = by (exec (envAt e (x .place)) (x .statement) w) refl (fetched-goes lim e short good q x w s h f) where
+      step : {how : Next} {u : World} → exec (envAt e (x .place)) (x .statement) w ≡ done how u → OneStep e q w x how u
       step d =
           record {
             next = its-next;
             does = d;
-            writes = subst (λ c. StatementWrote (envAt e (its .place)) (its .statement) w (worldAfter c)) d (a-statement-writes (envAt e (its .place)) (its .statement) w);
+            writes = subst (λ c. StatementWrote (envAt e (x .place)) (x .statement) w (worldAfter c)) d (a-statement-writes (envAt e (x .place)) (x .statement) w);
           }
 
-      by : (d : Done) → exec (envAt e (its .place)) (its .statement) w ≡ d → Goes (e .page) d
-          → Runs e (suc k) q w (stepped (its .line) (afterStep d (its .place) (its .cr) (runFrom k e)))
-      by (done on u) d (toNext i) = goesOn (step d) afterIt (more (suc (its .place)) u end-place i)
-      by (done skip u) d (toRecord i) = goesOn (step d) afterRecord (more (suc (its .cr)) u cr-place i)
+      by : (d : Done) → exec (envAt e (x .place)) (x .statement) w ≡ d → Goes (e .page) d
+          → Runs e (suc k) q w (stepped (x .line) (afterStep d (x .place) (x .cr) (runFrom k e)))
+      by (done on u) d (toNext i) = goesOn (step d) afterIt (more (suc (x .place)) u (readable .end) i)
+      by (done skip u) d (toRecord i) = goesOn (step d) afterRecord (more (suc (x .cr)) u (readable .cr) i)
       by (done (go p) u) d (toPlace c i) = goesOn (step d) jumps (more p u c i)
       by (done (stop n) u) d (toEnd i) = halts (step d)
 
@@ -99,18 +81,13 @@ module _ (lim : ℕ) (e : Env) (short : lim ≤ 251) (good : isGood lim (e .page
   runs-so k q w =
       every-run e (λ k q w r. Stands (e .page) q → Fit (placesOf (e .page)) (w .session) → Runs e k q w r)
       (λ k q w h s f. over (nothing-past q s h))
-      (λ q w a h s f. some-next q a s h (λ x i. pauses i))
-      (λ k q w a h g s f. absurd (ready-read (stands-ready lim (e .page) short good q a s h) g))
-      (λ k q w a m t h g i s f. its-runs q a m t w s h g k f i) k q w
+      (λ q w n s f. some-next q s n (λ x i. pauses i))
+      (λ k q w a h s f. absurd (fetches-read lim (e .page) short good q a s h))
+      (λ k q w x h i s f. its-runs q x w s h k f i) k q w
 
   -- and there is one such run
-  next-step : {q : ℕ} {x : Standing} (k : ℕ) (w : World) → NextAt (e .page) q x
-      → runFrom (suc k) e q w ≡ stepped (x .line) (afterStep (exec (envAt e (x .place)) (x .statement) w) (x .place) (x .cr) (runFrom k e))
-  next-step {q = q} {x = x} k w i =
-      let f = next-finds i in
-      let line : x .line ≡ lineOf (e .page) (placeEnding e (f .start) (f .last)) = next-line lim (e .page) short page-good i ∙ ap (lineOf (e .page)) (f .place) in
-      run-suc k e q w (f .start) (f .follows) ∙ ap (λ (c : Found Member). step e (f .start) w c (runFrom k e)) (f .stands)
-      ∙ sym (λ j. stepped (line j) (afterStep (exec (envAt e (f .place j)) (f .statement j) w) (f .place j) (f .cr j) (runFrom k e)))
+  next-step : {q : ℕ} {x : Standing} (k : ℕ) (w : World) → NextAt (e .page) q x → runFrom (suc k) e q w ≡ step e x w (runFrom k e)
+  next-step {q = q} {x = x} k w i = run-suc k e q w x (next-fetched lim (e .page) short page-good i)
 
   goes-to : {p cr q' : ℕ} {how : Next} (u : World) (k : ℕ) → GoesTo p cr how q' → afterStep (done how u) p cr (runFrom k e) ≡ runFrom k e q' u
   goes-to u k afterIt = refl
@@ -118,8 +95,8 @@ module _ (lim : ℕ) (e : Env) (short : lim ≤ 251) (good : isGood lim (e .page
   goes-to u k jumps = refl
 
   pub runs-exact : {k q : ℕ} {w : World} {r : Ran} → Runs e k q w r → runFrom k e q w ≡ r
-  runs-exact {k = k} {q = q} {w = w} (over p) = run-none k e q w (past-none p)
-  runs-exact {q = q} {w = w} (pauses i) = let f = next-finds i in run-zero e q w (f .start) (f .follows)
+  runs-exact {k = k} {q = q} {w = w} (over p) = run-past k e q w (past-fetched p)
+  runs-exact {q = q} {w = w} (pauses i) = run-zero e q w (here-not-past (next-fetches i))
   runs-exact {w = w} (halts {k = k} {x = x} s) =
       next-step k w (s .next) ∙ ap (λ (d : Done). stepped (x .line) (afterStep d (x .place) (x .cr) (runFrom k e))) (s .does)
   runs-exact {w = w} (goesOn {k = k} {u = u} {x = x} s t more) =

@@ -27,7 +27,6 @@ use Rattle.demands.specs.Leaves.{noItem, noneTaken, Refused, worldAfter}
 use Rattle.page.specs.Standing.{Stands}
 use Rattle.record.specs.Sound.{Sized, Sound}
 use Rattle.record.proofs.Fitted.{sound-fit, fit-sound}
-use Rattle.demands.proofs.Runs.{placeEnding}
 use Rattle.demands.specs.Steps.{worldLeft, GoesTo, EndsCall, halts, runsOut, pauses, OneMore, RefusedLine}
 use Rattle.demands.proofs.Budget.{steps-within}
 use Rattle.demands.proofs.Ways.{Takes, refused, noCR, overlong, unread, reads, every-line, Continues, refused′, continues, every-continue}
@@ -39,12 +38,13 @@ use Rattle.demands.proofs.Five.{no-grammar-refusal-while-running, exact
 use Rattle.demands.proofs.Held.{run-steady, refusing-list, refused-as}
 use Rattle.demands.proofs.ItemsIn.{a-refusing-statement}
 use Rattle.demands.proofs.Immediate.{exec-keeps, list-keeps}
+use Rattle.demands.proofs.Runs.{fetched-line}
 use Rattle.demands.proofs.LastStep.{LastStep, RunEnds, last-step, unpaused-same}
 use Rattle.demands.proofs.LastStep as lastStep
 use Rattle.demands.proofs.Line.{a-last-steps-line}
 use Rattle.demands.proofs.Sound.{unrefused, goings-fit, goings-stands}
 use Rattle.demands.proofs.Running.{run-goes}
-use Rattle.demands.proofs.Stepping.{nothing-past, some-next, its, its-next, goes-stands}
+use Rattle.demands.proofs.Stepping.{nothing-past, some-next, its-next, goes-stands}
 use Rattle.demands.proofs.Obeys.{Obeyed, stands, edits, runs as runs-on, read-ways, continue-ways}
 
 of-unsaid : (n : ℕ) → OneOfThese unsaid n → (n ≡ 0 → ⊥) → (n ≡ 5 → ⊥) → (n ≡ 14 → ⊥) → ⊥
@@ -76,7 +76,7 @@ module _ (e : Env) (k q : ℕ) (w : World) (sound : Sound limit (e .page) (w .se
       → EndsCall (e .page) p cr how (r .world) k (runOutcome r (e .page))
   run-ends s (lastStep.halts i m) = halts i (λ c. false≢true (rw c at m)) (rw (ne-eqb (r .stop) 14 (λ c. false≢true (rw c at m))))
   run-ends s (lastStep.runsOut p g i c) = runsOut p g (nothing-past limit e (omega arith) (sound .good) p (s p g) i) c (rw c)
-  run-ends s (lastStep.pauses p a g i c n at) = some-next limit e (omega arith) (sound .good) p a (s p g) i (λ x j. pauses p x g j c n (rw (c, at)))
+  run-ends s (lastStep.pauses p g i c n at) = some-next limit e (omega arith) (sound .good) p (s p g) i (λ x j. pauses p x g j c n (rw (c, at)))
   run-ends s (lastStep.breaks c) = absurd (five c)
 
   run-more : (t : LastStep e k q w r) → OneMore e k (runOutcome (runFrom (t .before) e q w) (e .page)) (runOutcome r (e .page))
@@ -93,18 +93,18 @@ module _ (e : Env) (k q : ℕ) (w : World) (sound : Sound limit (e .page) (w .se
         paused = t .pauses;
         at = r′ .at;
         waits = rw c;
-        last = its limit e (omega arith) (sound .good) (r′ .at) (t .start) (t .last) (t .rest) (r′ .world) here (t .follows) (t .stands);
-        next = its-next limit e (omega arith) (sound .good) (r′ .at) (t .start) (t .last) (t .rest) (r′ .world) here (t .follows) (t .stands);
+        last = t .last;
+        next = its-next limit e (omega arith) (sound .good) (r′ .at) (t .last) (r′ .world) here (t .fetches);
         how = t .how;
         after = r .world;
-        runs = rw c (ap (exec (envAt e (placeEnding e (t .start) (t .last))) (t .last .statement)) same ∙ t .goes);
+        runs = rw c (ap (exec (envAt e (t .last .place)) (t .last .statement)) same ∙ t .goes);
         stops = λ a b. t .stops (λ i. of-unsaid (r .stop) i a five b);
         line = λ a b. a-last-steps-line limit e (omega arith) k q w sound stands a b t .line;
-        named = lines-low limit (e .page) (omega arith) (sound .good) (placeEnding e (t .start) (t .last));
+        named = rw (fetched-line (e .page) (r′ .at) (t .last) (t .fetches)) (lines-low limit (e .page) (omega arith) (sound .good) (t .last .place));
         clear = clear;
         ends =
             run-ends
-            (λ q′ to. goes-stands limit e (omega arith) (sound .good) (r′ .at) (t .start) (t .last) (t .rest) (r′ .world) here (t .follows) (t .stands) (goings-fit before) (t .goes) to)
+            (λ q′ to. goes-stands limit e (omega arith) (sound .good) (r′ .at) (t .last) (r′ .world) here (t .fetches) (goings-fit before) (t .goes) to)
             (t .ends);
         session = p .session;
         page = refl;

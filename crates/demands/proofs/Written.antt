@@ -17,7 +17,7 @@ use Rattle.demands.specs.Lent.{InRange}
 use Rattle.demands.proofs.Does.{GivesVariables, gave, refused, gives, Does, writes, takes, refuses, passes, skips, assigns, assignsFlags, stores, goesTo, saves, returns, loops, repeats, leaves, begins, again, finishes, inputs}
 use Rattle.demands.specs.Leaves.{WholeItems, noItem, item, WholeLines, noneTaken, line, WroteItems, StaysInRange, worldAfter}
 use Rattle.demands.proofs.Effects.{exec-does, list-does}
-use Rattle.demands.proofs.Runs.{placeEnding, crOf, every-run}
+use Rattle.demands.proofs.Runs.{every-run}
 use Rattle.demands.proofs.Ways.{Takes, noCR, overlong, unread, reads, every-line, Continues, refused′, continues, every-continue}
 use Rattle.demands.proofs.Ways as ways
 use Rattle.demands.proofs.Running.{list-stays}
@@ -129,10 +129,10 @@ module _ (e : Env) where
 
   run-grew : (k q : ℕ) (w : World) → GrewSo w (runFrom k e q w .world)
   run-grew k q w =
-      every-run e (λ k q w r. GrewSo w (r .world)) (λ k q w h. nothing-new AnItem (e .lim) (e .input)) (λ q w a h. nothing-new AnItem (e .lim) (e .input))
-      (λ k q w a h g. nothing-new AnItem (e .lim) (e .input))
-      (λ k q w a m s h g f. after-grew AnItem (e .lim) (e .input) w (exec (envAt e (placeEnding e a m)) (m .statement) w) (placeEnding e a m) (crOf e a) (runFrom k e)
-      (does-grew AnItem (e .lim) (e .input) (λ bs n. some-item) refl refl (exec-does (envAt e (placeEnding e a m)) (m .statement) w)) f) k q w
+      every-run e (λ k q w r. GrewSo w (r .world)) (λ k q w h. nothing-new AnItem (e .lim) (e .input)) (λ q w h. nothing-new AnItem (e .lim) (e .input))
+      (λ k q w a h. nothing-new AnItem (e .lim) (e .input))
+      (λ k q w x h f. after-grew AnItem (e .lim) (e .input) w (exec (envAt e (x .place)) (x .statement) w) (x .place) (x .cr) (runFrom k e)
+      (does-grew AnItem (e .lim) (e .input) (λ bs n. some-item) refl refl (exec-does (envAt e (x .place)) (x .statement) w)) f) k q w
 
   line-grew : (k : ℕ) (w : World) (t : Typed) → Came AnItem (e .lim) (e .input) w (obey k e w t)
   line-grew k w t =

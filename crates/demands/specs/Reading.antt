@@ -2,16 +2,10 @@
 use Prim.Native.Nat.{ℕ, suc, _+_}
 use mathlib.Core.List.{List, _∷_}
 use lib.ListN.{length}
-use Rattle.nibl.specs.Tree.{Stmt, Member}
+use Rattle.nibl.specs.Tree.{Member}
 use Rattle.nibl.specs.Readings.{ListReading}
+pub use Rattle.nibl.specs.Calls.{Standing}
 use Rattle.demands.specs.Good.{RecordAt, EndMark, Boundary, placeOf}
-
--- a member as it stands in the page: its statement, the number of its record, the place that ends it, and its record's CR
-pub record Standing : Type 0 where
-  pub statement : Stmt
-  pub line : ℕ
-  pub place : ℕ
-  pub cr : ℕ
 
 -- the member m of the text t, in the record of number n that stands at `at`
 abbrev pub standing : ℕ → ℕ → List ℕ → Member → Standing

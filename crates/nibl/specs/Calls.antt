@@ -79,6 +79,19 @@ ran n q w = record { stop = n; lines = []; at = q; world = w }
 abbrev pub stepped : ℕ → Ran → Ran
 stepped l r = record { stop = r .stop; lines = l ∷ r .lines; at = r .at; world = r .world }
 
+-- A member as it stands in the page: its statement, the number of its record, the place that ends it, and its record's CR
+pub record Standing : Type 0 where
+  pub statement : Stmt
+  pub line : ℕ
+  pub place : ℕ
+  pub cr : ℕ
+
+-- What a run finds at a position: nothing, past the last line; a text with no member, which no good page has; or the next member
+pub data Fetched : Type 0 where
+  past : Fetched
+  unread : ℕ → Fetched
+  here : Standing → Fetched
+
 -- Where the text begins that is next at a position: there, after a ":"; else in the record that stands there, if one does.
 -- The byte before tells which: a run goes on after a place, which is a ":" within a record or the CR before a record (or the
 -- end mark), or at the page's start, with no byte before it.
@@ -91,6 +104,24 @@ textFrom page q =
 abbrev pub lineFrom : List ℕ → ℕ → List ℕ
 lineFrom page a = front notCR (drop a page)
 
+-- the first member of the text that begins at a
+abbrev pub firstFrom : List ℕ → ℕ → Member → Standing
+firstFrom page a m =
+    let n = length (lineFrom page a) in
+    let p = a + (n - m .left) in
+    record { statement = m .statement; line = lineOf page p; place = p; cr = a + n }
+
+abbrev pub fetchMember : List ℕ → ℕ → Found Member → Fetched
+fetchMember page a nothing = unread a
+fetchMember page a (found m s) = here (firstFrom page a m)
+
+abbrev pub fetchText : List ℕ → Option ℕ → Fetched
+fetchText page none = past
+fetchText page (some a) = fetchMember page a (member (lineFrom page a))
+
+unfoldable pub fetch : List ℕ → ℕ → Fetched
+fetch page q = fetchText page (textFrom page q)
+
 abbrev pub envAt : Env → ℕ → Env
 envAt e p = record { lim = e .lim; page = e .page; input = e .input; sense = e .sense; here = p }
 
@@ -101,19 +132,14 @@ afterStep (done skip w) p cr k = k (suc cr) w
 afterStep (done (go q) w) p cr k = k q w
 afterStep (done (stop n) w) p cr k = ran n p w
 
--- the first member of the text from a on is run, and then k. There always is one, on a good page: 5 is never given here
-abbrev pub step : Env → ℕ → World → Found Member → (ℕ → World → Ran) → Ran
-step e a w nothing k = ran 5 a w
-step e a w (found m s) k =
-    let n = length (lineFrom (e .page) a) in
-    let p = a + (n - m .left) in
-    stepped (lineOf (e .page) p) (afterStep (exec (envAt e p) (m .statement) w) p (a + n) k)
+-- that member is run, and then k
+abbrev pub step : Env → Standing → World → (ℕ → World → Ran) → Ran
+step e x w k = stepped (x .line) (afterStep (exec (envAt e (x .place)) (x .statement) w) (x .place) (x .cr) k)
 
--- "Past the last line it is 0 at any budget"; "budget spent and a statement still to run: paused"
+-- "Past the last line it is 0 at any budget"; "budget spent and a statement still to run: paused". On a good page 5 is never given here
 unfoldable pub runFrom : ℕ → Env → ℕ → World → Ran
-runFrom zero e q w = elim (textFrom (e .page) q) [ none ↦ ran 0 q w | some a ↦ ran 14 q w ]
-runFrom (suc k) e q w =
-    elim (textFrom (e .page) q) [ none ↦ ran 0 q w | some a ↦ step e a w (member (lineFrom (e .page) a)) (runFrom k e) ]
+runFrom zero e q w = elim (fetch (e .page) q) [ past ↦ ran 0 q w | unread a ↦ ran 14 q w | here x ↦ ran 14 q w ]
+runFrom (suc k) e q w = elim (fetch (e .page) q) [ past ↦ ran 0 q w | unread a ↦ ran 5 a w | here x ↦ step e x w (runFrom k e) ]
 
 -- Outcomes. The column is "0 for every other stop" than that of a refused line
 abbrev pub outcome : ℕ → ℕ → ℕ → World → List ℕ → Outcome

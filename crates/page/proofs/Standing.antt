@@ -14,7 +14,7 @@ use Rattle.nibl.specs.Tree.{Member}
 use Rattle.nibl.specs.Grammar.{Members, lastMember, moreMembers}
 use Rattle.nibl.specs.Read.{nothing as unread, found, member, reading}
 use Rattle.nibl.specs.Page.{Stored, isEnd, lengthAt, isGood, recordsOf, size, positionIn, find, lineIn, lineOf, endsFrom, endsOf, placesIn, placesOf, isAmong}
-use Rattle.nibl.specs.Calls.{textFrom, lineFrom}
+use Rattle.nibl.specs.Calls.{Standing, Fetched, past, unread as unreadable, here, textFrom, lineFrom, fetchText, fetch}
 use Rattle.nibl.proofs.Words.{or-cases, front-run}
 use Rattle.nibl.proofs.Over.{word-over}
 use Rattle.nibl.proofs.Rules.{W}
@@ -22,7 +22,7 @@ use Rattle.nibl.proofs.Statements.{statement-left, left-short}
 use Rattle.nibl.proofs.Lines.{reading-sound}
 use Rattle.nibl.proofs.Ends.{text-notCR, Followed, first, later, After, after, reading-after, Begins, alone, before, reading-begins}
 use Rattle.page.specs.Standing.{Stands, LiesIn}
-pub use Rattle.page.specs.Standing.{Ready, Follows, nothing, text}
+pub use Rattle.page.specs.Standing.{Ready, Follows, nothing, text, Readable, Fetches, overAll, oneMore}
 use Rattle.page.proofs.Walk.{by-cases, or-right, first-at}
 use Rattle.page.proofs.Stored.{stored-read, stored-text, stored-short}
 use Rattle.page.proofs.Laid.{Whole, Laid, ends, laid, laid-room, good-laid}
@@ -303,6 +303,28 @@ module _ (lim : ℕ) (page : List ℕ) (short : lim ≤ 251) (good : isGood lim 
 
   pub stands-ready : (q a : ℕ) → Stands page q → textFrom page q ≡ some a → Ready lim page a
   stands-ready q a h = follows-ready (stands-follows q h)
+
+  -- what a run fetches where it may stand
+  pub stands-fetches : (q : ℕ) → Stands page q → Fetches page (fetch page q)
+  unfolding fetch
+  stands-fetches q h = by (stands-follows q h) where
+    by : Follows lim page q → Fetches page (fetchText page (textFrom page q))
+    by (nothing n) = rw n overAll
+    by (text {a = a} t r) =
+        rw (t, r .finds)
+        (oneMore (record { text = lineFrom page a; first = r .begins; rest = r .rest; reads = r .finds; statement = refl; line = refl; end = r .end; cr = r .cr }))
+
+  pub fetches-here : (q : ℕ) (x : Standing) → Stands page q → fetch page q ≡ here x → Readable page x
+  fetches-here q x h e = by (fetch page q) e (stands-fetches q h) where
+    by : (f : Fetched) → f ≡ here x → Fetches page f → Readable page x
+    by past e s = let z : _≡_ {A = ℕ} 0 1 = cc in absurd (omega arith)
+    by (here y) e (oneMore r) = let same : y ≡ x = cc in rw same at r
+
+  pub fetches-read : (q a : ℕ) → Stands page q → fetch page q ≡ unreadable a → ⊥
+  fetches-read q a h e = by (fetch page q) e (stands-fetches q h) where
+    by : (f : Fetched) → f ≡ unreadable a → Fetches page f → ⊥
+    by past e s = let z : _≡_ {A = ℕ} 0 1 = cc in omega arith
+    by (here y) e s = let z : _≡_ {A = ℕ} 0 1 = cc in omega arith
 
   pub text-short : (q a : ℕ) → Stands page q → textFrom page q ≡ some a → length (lineFrom page a) ≤ lim
   text-short q a h e = stands-ready q a h e .short

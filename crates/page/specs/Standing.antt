@@ -7,9 +7,9 @@ use mathlib.Core.Option.{none, some}
 use lib.ListN.{length, getD, drop}
 use Rattle.nibl.specs.Tree.{Member}
 use Rattle.nibl.specs.Read.{found, member}
-use Rattle.nibl.specs.Page.{Stored, lengthAt, isStorable, find, placesOf, isAmong, fitsPaused}
+use Rattle.nibl.specs.Page.{Stored, lengthAt, isStorable, find, lineOf, placesOf, isAmong, fitsPaused}
 use Rattle.nibl.specs.Record.{pausedAt}
-use Rattle.nibl.specs.Calls.{textFrom, lineFrom}
+use Rattle.nibl.specs.Calls.{Standing, Fetched, past, here, textFrom, lineFrom}
 
 -- every one is a byte, as in a slice
 abbrev pub Bytes : List ℕ → Type 0
@@ -47,3 +47,18 @@ pub record Ready (lim : ℕ) (page : List ℕ) (a : ℕ) : Type 0 where
 pub data Follows (lim : ℕ) (page : List ℕ) (q : ℕ) : Type 0 where
   nothing : textFrom page q ≡ none → Follows lim page q
   text : {a : ℕ} → textFrom page q ≡ some a → Ready lim page a → Follows lim page q
+
+-- So it fetches nothing, past the last line, or a member that was read, whose line is that of its place
+pub record Readable (page : List ℕ) (x : Standing) : Type 0 where
+  pub text : List ℕ
+  pub first : Member
+  pub rest : List ℕ
+  pub reads : member text ≡ found first rest
+  pub statement : x .statement ≡ first .statement
+  pub line : x .line ≡ lineOf page (x .place)
+  pub end : isAmong (placesOf page) (x .place) ≡ true
+  pub cr : isAmong (placesOf page) (x .cr) ≡ true
+
+pub data Fetches (page : List ℕ) : Fetched → Type 0 where
+  overAll : Fetches page past
+  oneMore : {x : Standing} → Readable page x → Fetches page (here x)

@@ -2,8 +2,8 @@
 use Prim.Native.Nat.{ℕ, _+_, _-_, _≤_}
 use mathlib.Core.Bool.{true}
 use mathlib.Core.List.{List, [], _∷_}
-use mathlib.Core.Option.{Option, none, some}
-use mathlib.Core.Path.{_≡_, refl, sym, ap, _∙_}
+use mathlib.Core.Option.{none, some}
+use mathlib.Core.Path.{_≡_, refl, ap, _∙_}
 use native.Mathlib.Omega.{arith}
 use borrow.Author.Tests.{le-leb}
 use denote.Enum.Declared.{tagOf}
@@ -11,9 +11,11 @@ use types.Run.{OneOf}
 use lib.ListN.{length, take}
 use Rattle.nibl.specs.Bytes.{if_then_else_}
 use Rattle.nibl.specs.Tree.{Member}
-use Rattle.nibl.specs.Read.{Found, nothing, found, member}
+use Rattle.nibl.specs.Read.{found, member}
 use Rattle.nibl.specs.Meaning.{World, Env, Done, exec}
-use Rattle.nibl.specs.Calls.{lineFrom, textFrom, envAt}
+use Rattle.nibl.specs.Calls.{Standing, lineFrom, textFrom, fetchMember, fetch, envAt}
+use Rattle.nibl.specs.Calls as nibl
+use Rattle.page.specs.Standing.{Readable}
 use Rattle.reader.specs.Code.{compile}
 use Rattle.reader.specs.Answers.{hasRoom, memberOf, memberOps}
 use Rattle.reader.specs.declared.MemberRead.{MemberRead}
@@ -26,7 +28,7 @@ use Rattle.operation.specs.Operations.{runOps}
 use Rattle.operation.proofs.Compiles.{compiled}
 use Rattle.operation.proofs.Readings.{member-fine}
 use Rattle.run.specs.StepEnds.{doneEnd, stepOf}
-use Rattle.run.specs.Fetching.{Fetch, past, fetched, fetchMember, fetchText, fetchOf, TextRoom}
+use Rattle.run.specs.Fetching.{Fetch, past, fetched, inOperations, fetchOf, TextRoom}
 
 -- of the text that begins at a, as the readers were lent it
 module _ (page ops text : List ℕ) (a : ℕ) (same : text ≡ lineFrom page a) (within : TextRoom page a ops) (small : length page ≤ 65535) where
@@ -39,7 +41,7 @@ module _ (page ops text : List ℕ) (a : ℕ) (same : text ≡ lineFrom page a) 
 
   module _ (r : MemberRead) (answered : r ≡ (if hasRoom text ops then memberOf (member text) else memberRead.NoRoom)) where
     -- without a member there is nothing to fetch
-    pub no-member : OneOf (1 ∷ 2 ∷ []) (tagOf the-type r) → past ≡ fetchMember page a (member (lineFrom page a))
+    pub no-member : OneOf (1 ∷ 2 ∷ []) (tagOf the-type r) → past ≡ inOperations (fetchMember page a (member (lineFrom page a)))
     no-member k = rw (← same, no-first text ops r room answered k) refl
 
     pub one-member : {n left : ℕ} → r ≡ memberRead.Member n left → First (lineFrom page a) n left
@@ -64,7 +66,7 @@ module _ (page ops text : List ℕ) (a : ℕ) (same : text ≡ lineFrom page a) 
         ap (take n) v ∙ written-front ops (compile (f .one .statement)) n (f .count) member-room
 
     pub member-fetched : (after : List ℕ) → after ≡ (if hasRoom text ops then memberOps ops (member text) else ops)
-        → fetched (take n after) (a + length text - left) (a + length text) ≡ fetchMember page a (member (lineFrom page a))
+        → fetched (take n after) (a + length text - left) (a + length text) ≡ inOperations (fetchMember page a (member (lineFrom page a)))
     member-fetched after h =
         let l = ap length same in
         let i = f .ends in
@@ -76,23 +78,20 @@ module _ (page ops text : List ℕ) (a : ℕ) (same : text ≡ lineFrom page a) 
 
 -- by where its text begins
 pub fetch-none : (page : List ℕ) (q : ℕ) → textFrom page q ≡ none → past ≡ fetchOf page q
-unfolding fetchOf
+unfolding fetch fetchOf
 fetch-none page q h = rw h refl
 
-pub fetch-some : (page : List ℕ) (q a : ℕ) → textFrom page q ≡ some a → fetchOf page q ≡ fetchMember page a (member (lineFrom page a))
-unfolding fetchOf
+pub fetch-some : (page : List ℕ) (q a : ℕ) → textFrom page q ≡ some a → fetchOf page q ≡ inOperations (fetchMember page a (member (lineFrom page a)))
+unfolding fetch fetchOf
 fetch-some page q a h = rw h refl
 
 -- The member that was fetched, and that there is none only past the last line
 pub record NextMember (page : List ℕ) (q : ℕ) (ops : List ℕ) (p cr : ℕ) : Type 0 where
-  pub from : ℕ
-  pub text : textFrom page q ≡ some from
-  pub one : Member
-  pub rest : List ℕ
-  pub finds : member (lineFrom page from) ≡ found one rest
-  pub operations : ops ≡ compile (one .statement)
-  pub place : p ≡ from + (length (lineFrom page from) - one .left)
-  pub end : cr ≡ from + length (lineFrom page from)
+  pub it : Standing
+  pub fetches : fetch page q ≡ nibl.here it
+  pub operations : ops ≡ compile (it .statement)
+  pub place : p ≡ it .place
+  pub end : cr ≡ it .cr
 
 abbrev opsIn : Fetch → List ℕ
 opsIn past = []
@@ -109,32 +108,27 @@ endIn (fetched ops p cr) = cr
 module _ (page : List ℕ) (q : ℕ) where
   pub fetch-found : {ops : List ℕ} {p cr : ℕ} → fetched ops p cr ≡ fetchOf page q → NextMember page q ops p cr
   unfolding fetchOf
-  fetch-found {ops} {p} {cr} e = by (textFrom page q) refl e where
-    read : (a : ℕ) → textFrom page q ≡ some a → (f : Found Member) → member (lineFrom page a) ≡ f → fetched ops p cr ≡ fetchMember page a f → NextMember page q ops p cr
-    read a t nothing m g = let z : _≡_ {A = ℕ} 0 1 = cc in absurd (omega arith)
-    read a t (found o s) m g = record { from = a; text = t; one = o; rest = s; finds = m; operations = ap opsIn g; place = ap placeIn g; end = ap endIn g }
+  fetch-found {ops} {p} {cr} e = by (fetch page q) refl e where
+    by : (f : nibl.Fetched) → fetch page q ≡ f → fetched ops p cr ≡ inOperations f → NextMember page q ops p cr
+    by nibl.past h g = let z : _≡_ {A = ℕ} 0 1 = cc in absurd (omega arith)
+    by (nibl.unread a) h g = let z : _≡_ {A = ℕ} 0 1 = cc in absurd (omega arith)
+    by (nibl.here x) h g = record { it = x; fetches = h; operations = ap opsIn g; place = ap placeIn g; end = ap endIn g }
 
-    by : (o : Option ℕ) → textFrom page q ≡ o → fetched ops p cr ≡ fetchText page o → NextMember page q ops p cr
-    by none t g = let z : _≡_ {A = ℕ} 0 1 = cc in absurd (omega arith)
-    by (some a) t g = read a t (member (lineFrom page a)) refl g
-
-  pub fetch-past : past ≡ fetchOf page q → ((a : ℕ) → textFrom page q ≡ some a → member (lineFrom page a) ≡ nothing → ⊥) → textFrom page q ≡ none
+  pub fetch-past : past ≡ fetchOf page q → ((a : ℕ) → fetch page q ≡ nibl.unread a → ⊥) → fetch page q ≡ nibl.past
   unfolding fetchOf
-  fetch-past e reads = by (textFrom page q) refl e where
-    read : (a : ℕ) → textFrom page q ≡ some a → (f : Found Member) → member (lineFrom page a) ≡ f → past ≡ fetchMember page a f → ⊥
-    read a t nothing m g = reads a t m
-    read a t (found o s) m g = let z : _≡_ {A = ℕ} 0 1 = cc in omega arith
-
-    by : (o : Option ℕ) → textFrom page q ≡ o → past ≡ fetchText page o → textFrom page q ≡ none
-    by none t g = t
-    by (some a) t g = absurd (read a t (member (lineFrom page a)) refl g)
+  fetch-past e reads = by (fetch page q) refl e where
+    by : (f : nibl.Fetched) → fetch page q ≡ f → past ≡ inOperations f → fetch page q ≡ nibl.past
+    by nibl.past h g = h
+    by (nibl.unread a) h g = absurd (reads a h)
+    by (nibl.here x) h g = let z : _≡_ {A = ℕ} 0 1 = cc in absurd (omega arith)
 
 -- the step
-pub member-steps : (e : Env) (w : World) (d : Done) {q : ℕ} {ops : List ℕ} {p cr : ℕ} (n : NextMember (e .page) q ops p cr)
-    → d ≡ runOps (envAt e p) ops w [] → doneEnd d p cr ≡ stepOf e (n .from) w (member (lineFrom (e .page) (n .from)))
+pub member-steps : (e : Env) (w : World) (d : Done) {q : ℕ} {ops : List ℕ} {p cr : ℕ} (n : NextMember (e .page) q ops p cr) → Readable (e .page) (n .it)
+    → d ≡ runOps (envAt e p) ops w [] → doneEnd d p cr ≡ stepOf e (n .it) w
 unfolding stepOf
-member-steps e w d n g =
-    let m : Member = n .one in
-    let x : d ≡ exec (envAt e (n .from + (length (lineFrom (e .page) (n .from)) - m .left))) (m .statement) w
-    = g ∙ rw (n .operations, n .place) (compiled (envAt e (n .from + (length (lineFrom (e .page) (n .from)) - m .left))) (m .statement) w (member-fine (lineFrom (e .page) (n .from)) (n .rest) m (n .finds))) in
-    rw (n .place, n .end, x, n .finds) refl
+member-steps e w d n r g =
+    let x : Standing = n .it in
+    let c : runOps (envAt e (x .place)) (compile (x .statement)) w [] ≡ exec (envAt e (x .place)) (x .statement) w
+    = rw (r .statement) (compiled (envAt e (x .place)) (r .first .statement) w (member-fine (r .text) (r .rest) (r .first) (r .reads))) in
+    let y : d ≡ exec (envAt e (x .place)) (x .statement) w = g ∙ rw (n .operations, n .place) c in
+    rw (n .place, n .end, y) refl

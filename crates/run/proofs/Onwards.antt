@@ -1,18 +1,14 @@
 -- StepEnd a step a run stands where it may, and its record fits. Assumes nothing.
-use Prim.Native.Nat.{ℕ, _+_, _-_, _≤_}
+use Prim.Native.Nat.{ℕ, _≤_}
 use mathlib.Core.Bool.{true}
 use mathlib.Core.List.{List}
-use mathlib.Core.Option.{some}
 use mathlib.Core.Path.{_≡_, subst}
 use native.Mathlib.Omega.{arith}
-use lib.ListN.{length}
-use Rattle.nibl.specs.Tree.{Member}
-use Rattle.nibl.specs.Read.{found, nothing, member}
 use Rattle.nibl.specs.Page.{isAmong, isGood, placesOf}
 use Rattle.nibl.specs.Meaning.{World, Env, Next, on, skip, go, stop, Done, done, exec}
-use Rattle.nibl.specs.Calls.{textFrom, lineFrom, envAt}
-use Rattle.page.specs.Standing.{Stands}
-use Rattle.page.proofs.Standing.{ready-read, ready-end, stands-ready, place-stands}
+use Rattle.nibl.specs.Calls.{Standing, envAt}
+use Rattle.page.specs.Standing.{Stands, Readable}
+use Rattle.page.proofs.Standing.{place-stands}
 use Rattle.record.specs.Fit.{Fit, Goes, toNext, toRecord, toPlace, toEnd}
 use Rattle.record.proofs.Statements.{member-goes}
 use Rattle.run.specs.StepEnds.{StepEnd, doneEnd, stepOf}
@@ -34,15 +30,8 @@ stays-fit page (done (go x) w) p cr i c (toPlace s f) = record { fits = f; stand
 stays-fit page (done (stop n) w) p cr i c (toEnd f) = record { fits = f; stands = λ q e. let z : _≡_ {A = ℕ} 0 1 = cc in absurd (omega arith) }
 
 module _ (lim : ℕ) (e : Env) (short : lim ≤ 251) (good : isGood lim (e .page) ≡ true) where
-  pub reads : (q a : ℕ) → Stands (e .page) q → textFrom (e .page) q ≡ some a → member (lineFrom (e .page) a) ≡ nothing → ⊥
-  reads q a s t = ready-read (stands-ready lim (e .page) short good q a s t)
-
-  pub goes-after : (q a : ℕ) (w : World) (m : Member) (s : List ℕ) → Stands (e .page) q → Fit (placesOf (e .page)) (w .session) → textFrom (e .page) q ≡ some a
-      → member (lineFrom (e .page) a) ≡ found m s → StaysFit (e .page) (stepOf e a w (found m s))
+  pub goes-after : (x : Standing) (w : World) → Readable (e .page) x → Fit (placesOf (e .page)) (w .session) → StaysFit (e .page) (stepOf e x w)
   unfolding stepOf
-  goes-after q a w m s i h t f =
-      let r = stands-ready lim (e .page) short good q a i t in
-      let n = length (lineFrom (e .page) a) in
-      let p = a + (n - m .left) in
-      let end = ready-end r m s f in
-      stays-fit (e .page) (exec (envAt e p) (m .statement) w) p (a + n) end (r .cr) (member-goes lim e short good p (lineFrom (e .page) a) s m w end f h)
+  goes-after x w r h =
+      stays-fit (e .page) (exec (envAt e (x .place)) (x .statement) w) (x .place) (x .cr) (r .end) (r .cr)
+      (rw (r .statement) (member-goes lim e short good (x .place) (r .text) (r .rest) (r .first) w (r .end) (r .reads) h))

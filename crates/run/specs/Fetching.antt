@@ -1,12 +1,11 @@
 -- The member that is next in a program: what a fetch answers, however it comes by its operations.
-use Prim.Native.Nat.{ℕ, _+_, _-_, _≤_, _<_}
+use Prim.Native.Nat.{ℕ, _+_, _≤_, _<_}
 use mathlib.Core.List.{List}
-use mathlib.Core.Option.{Option, none, some}
+use mathlib.Core.Option.{some}
 use mathlib.Core.Path.{_≡_}
 use lib.ListN.{length, take}
-use Rattle.nibl.specs.Tree.{Member}
-use Rattle.nibl.specs.Read.{Found, nothing, found, member}
-use Rattle.nibl.specs.Calls.{lineFrom, textFrom}
+use Rattle.nibl.specs.Calls.{lineFrom, textFrom, fetch}
+use Rattle.nibl.specs.Calls as nibl
 use Rattle.reader.specs.Code.{compile}
 use Rattle.run.specs.declared.Fetched.{Fetched}
 use Rattle.run.specs.declared.Fetched.the-variants as answer
@@ -16,16 +15,14 @@ pub data Fetch : Type 0 where
   past : Fetch
   fetched : List ℕ → ℕ → ℕ → Fetch
 
-abbrev pub fetchMember : List ℕ → ℕ → Found Member → Fetch
-fetchMember page a nothing = past
-fetchMember page a (found m s) = let n = length (lineFrom page a) in fetched (compile (m .statement)) (a + (n - m .left)) (a + n)
-
-abbrev pub fetchText : List ℕ → Option ℕ → Fetch
-fetchText page none = past
-fetchText page (some a) = fetchMember page a (member (lineFrom page a))
+-- what was fetched, in operations. A text with no member, which no good page has, counts as the program's end
+abbrev pub inOperations : nibl.Fetched → Fetch
+inOperations nibl.past = past
+inOperations (nibl.unread a) = past
+inOperations (nibl.here x) = fetched (compile (x .statement)) (x .place) (x .cr)
 
 unfoldable pub fetchOf : List ℕ → ℕ → Fetch
-fetchOf page q = fetchText page (textFrom page q)
+fetchOf page q = inOperations (fetch page q)
 
 abbrev pub fetchedIn : Fetched → List ℕ → Fetch
 fetchedIn answer.Past ops = past

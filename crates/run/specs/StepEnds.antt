@@ -1,11 +1,9 @@
 -- A step of a run, and what a run leaves that goes on after so many.
-use Prim.Native.Nat.{ℕ, suc, _+_, _-_}
+use Prim.Native.Nat.{ℕ, suc, _+_}
 use mathlib.Core.List.{List}
 use lib.ListN.{length}
-use Rattle.nibl.specs.Tree.{Member}
-use Rattle.nibl.specs.Read.{Found, nothing, found}
 use Rattle.nibl.specs.Meaning.{World, Env, Next, on, skip, go, stop, Done, done, exec}
-use Rattle.nibl.specs.Calls.{Outcome, Ran, ran, outcome, stopAt, pausing, lineFrom, envAt}
+use Rattle.nibl.specs.Calls.{Outcome, Ran, ran, outcome, Standing, stopAt, pausing, envAt}
 use Rattle.nibl.specs.Record.{positionOf}
 use Rattle.run.specs.declared.Led.{Led}
 use Rattle.run.specs.declared.Led.the-variants as led
@@ -33,12 +31,8 @@ nextAfter (stop n) p cr = stop n
 abbrev pub doneEnd : Done → ℕ → ℕ → StepEnd
 doneEnd (done n w) p cr = stepEnd (nextAfter n p cr) p w
 
-unfoldable pub stepOf : Env → ℕ → World → Found Member → StepEnd
-stepOf e a w nothing = stepEnd (stop 5) a w
-stepOf e a w (found m s) =
-    let n = length (lineFrom (e .page) a) in
-    let p = a + (n - m .left) in
-    doneEnd (exec (envAt e p) (m .statement) w) p (a + n)
+unfoldable pub stepOf : Env → Standing → World → StepEnd
+stepOf e x w = doneEnd (exec (envAt e (x .place)) (x .statement) w) (x .place) (x .cr)
 
 -- the run after a step
 abbrev pub follow : StepEnd → (ℕ → World → Ran) → Ran

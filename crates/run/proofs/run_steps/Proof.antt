@@ -6,16 +6,15 @@ use mathlib.Core.Path.{_≡_, refl, sym, ap, _∙_}
 use native.Mathlib.Omega.{arith}
 use lib.ListN.{length, take, drop}
 use lib.Seq.{length-take-le}
-use Rattle.nibl.specs.Read.{member}
 use Rattle.nibl.specs.Page.{lineOf, placesOf}
 use Rattle.nibl.specs.Record.{mark, place, positionOf}
 use Rattle.nibl.specs.Meaning.{World, Env, Done, go}
-use Rattle.nibl.specs.Calls.{lineFrom, stopAt, runFrom, runOutcome}
+use Rattle.nibl.specs.Calls.{Standing, stopAt, runFrom, runOutcome}
 use Rattle.nibl.specs.declared.Place.{Place}
 use Rattle.nibl.specs.declared.Parts.{Parts}
 use Rattle.nibl.specs.declared.Onward.{Onward}
 use Rattle.page.specs.Standing.{Stands}
-use Rattle.page.proofs.Standing.{stands-inside}
+use Rattle.page.proofs.Standing.{stands-inside, fetches-read}
 use Rattle.record.specs.Fit.{Fit}
 use Rattle.world.specs.declared.jump.Way.{Way}
 use Rattle.operation.specs.Operations.{runOps}
@@ -36,9 +35,8 @@ use Rattle.run.specs.StepEnds.{StepEnd, ledTo, doneEnd, stepOf, tally}
 use Rattle.run.specs.Running.{MayRun, ranTo, ranIn, pauseOf}
 use Rattle.run.proofs.Starts.{ready-fair}
 use Rattle.run.proofs.Members.{NextMember, fetch-found, fetch-past, member-steps}
-use Rattle.run.proofs.Onwards.{reads}
 use Rattle.run.proofs.Tallies.{tally-none}
-use Rattle.run.proofs.Turns.{ends-out, ends-dry, stop-told, text-within, step-fits, step-stands, step-inside, step-goes, step-stops}
+use Rattle.run.proofs.Turns.{ends-out, ends-dry, stop-told, text-within, readable, step-fits, step-stands, step-inside, step-goes, step-stops}
 use borrow.Author.Needs.{needs}
 use Rattle.run.proofs.run_steps.Statement.{statement}
 use Rattle.run.proofs.run_steps.Tie as tie
@@ -106,10 +104,10 @@ module _ (k : tie.After-known-told Inv-loop μ-loop) where
   -- a step, by what its operations did; the slots of the line are as many as before
   step : (d : Did) (vars memory output : List ℕ)
       → didIn d vars memory output ≡ runOps (envWith (length (head .loop .reply)) (page head) (start head .args .input .now) (start head .args .sense) at) ops (world head) []
-      → doneEnd (didIn d vars memory output) (at .0) (cr .0) ≡ stepOf (env head) (fetches .from) (world head) (member (lineFrom (page head) (fetches .from)))
+      → doneEnd (didIn d vars memory output) (at .0) (cr .0) ≡ stepOf (env head) (fetches .it) (world head)
   step d vars memory output e =
-      member-steps (envWith (length (head .loop .reply)) (page head) (start head .args .input .now) (start head .args .sense) (place mark)) (world head) (didIn d vars memory output) fetches e
-      ∙ ap (λ (n : ℕ). stepOf (envWith n (page head) (start head .args .input .now) (start head .args .sense) (place mark)) (fetches .from) (world head) (member (lineFrom (page head) (fetches .from)))) (head .loop .inv .6)
+      member-steps (envWith (length (head .loop .reply)) (page head) (start head .args .input .now) (start head .args .sense) (place mark)) (world head) (didIn d vars memory output) fetches (readable (lim head) (env head) (begun head .short) (begun head .good) (from head) (fetches .it) (head .loop .inv .1) (fetches .fetches)) e
+      ∙ ap (λ (n : ℕ). stepOf (envWith n (page head) (start head .args .input .now) (start head .args .sense) (place mark)) (fetches .it) (world head)) (head .loop .inv .6)
 
   fits : count ≤ length written
   fits = let c = rw (k .before .f .given .1) at (k .before .before .before .before .before .fetch .ensures .1) in let s = k .before .before .before .before .before .fetch .kept .1 .1 .1 .0 in omega arith
@@ -239,20 +237,20 @@ module _ (s : tie.After-run-plain Inv-loop μ-loop) {vars memory output reply re
   abbrev l : tie.At-loop Inv-loop μ-loop
   l = loop s
 
-  abbrev a : ℕ
-  a = fetches (taken s) .from
+  abbrev a : Standing
+  a = fetches (taken s) .it
 
-  is-step : t ≡ stepOf (env l) a (world l) (member (lineFrom (page l) a))
+  is-step : t ≡ stepOf (env l) a (world l)
   is-step = step (taken s) (did way p) vars memory output (k .comes)
 
   place-small : at (taken s) .0 < 65535
   place-small =
-      let i = step-inside (lim l) (env l) (begun l .short) (begun l .good) (from l) a (l .loop .inv .1) (fetches (taken s) .text) (world l) (l .loop .inv .2) t is-step in
+      let i = step-inside (lim l) (env l) (begun l .short) (begun l .good) (from l) a (l .loop .inv .1) (fetches (taken s) .fetches) (world l) (l .loop .inv .2) t is-step in
       let p = fair l .places in
       omega arith
 
   still-fits : Fit (placesOf (page l)) (t .world .session)
-  still-fits = step-fits (lim l) (env l) (begun l .short) (begun l .good) (from l) a (l .loop .inv .1) (fetches (taken s) .text) (world l) (l .loop .inv .2) t is-step
+  still-fits = step-fits (lim l) (env l) (begun l .short) (begun l .good) (from l) a (l .loop .inv .1) (fetches (taken s) .fetches) (world l) (l .loop .inv .2) t is-step
 
   -- where its way leads: on
   module _ {led : Led} (leads : ledTo led ≡ t .next) {o : Onward} (e : led ≡ by.To o) where
@@ -263,10 +261,10 @@ module _ (s : tie.After-run-plain Inv-loop μ-loop) {vars memory output reply re
     g = sym leads ∙ ap ledTo e
 
     stands : Stands (page l) x
-    stands = step-stands (lim l) (env l) (begun l .short) (begun l .good) (from l) a (l .loop .inv .1) (fetches (taken s) .text) (world l) (l .loop .inv .2) t is-step x g
+    stands = step-stands (lim l) (env l) (begun l .short) (begun l .good) (from l) a (l .loop .inv .1) (fetches (taken s) .fetches) (world l) (l .loop .inv .2) t is-step x g
 
     goes-on : tally (l .loop .steps) (runFrom (l .loop .left) (env l) (from l) (world l)) (page l) ≡ tally (l .loop .steps + 1) (runFrom (l .loop .left - 1) (env l) x (t .world)) (page l)
-    goes-on = step-goes (lim l) (env l) (begun l .short) (begun l .good) (from l) a (l .loop .inv .1) (fetches (taken s) .text) (world l) (l .loop .inv .2) t is-step (l .loop .left) (l .loop .steps) (some-left s) x g
+    goes-on = step-goes (lim l) (env l) (begun l .short) (begun l .good) (from l) a (l .loop .inv .1) (fetches (taken s) .fetches) (world l) (l .loop .inv .2) t is-step (l .loop .left) (l .loop .steps) (some-left s) x g
 
   -- or to a stop, of which the answer says what the whole run comes to
   stops-so : {led : Led} → ledTo led ≡ t .next → {i : ℕ} → led ≡ by.Stops i
@@ -277,7 +275,7 @@ module _ (s : tie.After-run-plain Inv-loop μ-loop) {vars memory output reply re
       stop-told i (stopAt i (lineOf (page l) (at (taken s) .0) ∷ [])) (l .loop .steps + 1) (at (taken s) .0) p vars (page l) memory output
       ∙ sym
       (l .loop .inv .10
-      ∙ step-stops (lim l) (env l) (begun l .short) (begun l .good) (from l) a (l .loop .inv .1) (fetches (taken s) .text) (world l) (l .loop .inv .2) t is-step (l .loop .left) (l .loop .steps) (some-left s) i (sym leads ∙ ap ledTo e))
+      ∙ step-stops (lim l) (env l) (begun l .short) (begun l .good) (from l) a (l .loop .inv .1) (fetches (taken s) .fetches) (world l) (l .loop .inv .2) t is-step (l .loop .left) (l .loop .steps) (some-left s) i (sym leads ∙ ap ledTo e))
 
 loop-holds : tie.Need-loop-holds Inv-loop μ-loop
 loop-holds c =
@@ -304,13 +302,13 @@ fetch-requires c κs =
     let i = l .loop .inv .9 in
     record {
       places = begun l .places;
-      texts = λ a t. text-within (lim l) (env l) (begun l .short) (begun l .good) (from l) a (l .loop .inv .1) t (l .loop .ops) (omega arith);
+      texts = λ a t. text-within (lim l) (page l) (begun l .short) (begun l .good) (from l) a (l .loop .inv .1) t (l .loop .ops) (omega arith);
     }
 
 returns : tie.Need-returns Inv-loop μ-loop
 returns c =
     let l = c .before .before .before .before .before .before .before in
-    let t = fetch-past (page l) (from l) (rw (c .before .enum-told .given .1) at (c .before .before .before .before .before .fetch .ensures .0)) (λ a t m. reads (lim l) (env l) (begun l .short) (begun l .good) (from l) a (l .loop .inv .1) t m) in
+    let t = fetch-past (page l) (from l) (rw (c .before .enum-told .given .1) at (c .before .before .before .before .before .fetch .ensures .0)) (λ a h. fetches-read (lim l) (page l) (begun l .short) (begun l .good) (from l) a (l .loop .inv .1) h) in
     rw (c .run-ends .ensures) (sym (l .loop .inv .10 ∙ ends-out (env l) (from l) (world l) (l .loop .steps) (l .loop .left) t))
 
 pause-requires : tie.Need-pause-requires Inv-loop μ-loop
@@ -324,7 +322,7 @@ returns-2 c =
     let k = c .before .before .before in
     let l = head k in
     rw (c .run-ends2 .ensures, c .before .pause .ensures)
-    (sym (l .loop .inv .10 ∙ ends-dry (env l) (from l) (world l) (l .loop .steps) (l .loop .left) (fetches k .from) (c .before .before .if1 .taken) (fetches k .text)))
+    (sym (l .loop .inv .10 ∙ ends-dry (env l) (from l) (world l) (l .loop .steps) (l .loop .left) (fetches k .it) (c .before .before .if1 .taken) (fetches k .fetches)))
 
 sub-left : tie.Need-sub-left Inv-loop μ-loop
 sub-left c = let h = c .if1 .left in omega arith
