@@ -1,4 +1,4 @@
-//! Makes the proved library current and links it, and hands on the list of layouts. The archive is copied, so that what
+//! Makes the proved library current and links it, and hands on the list of layouts and the interface's number. The archive is copied, so that what
 //! was built stays whole when the repository's target directory is emptied.
 
 use std::path::{Path, PathBuf};
@@ -6,6 +6,9 @@ use std::process::{Command, Stdio};
 
 /// C's list of layouts.
 const LAYOUT: &str = "include/nibl.layout";
+
+/// C's header, which has the interface's number.
+const HEADER: &str = "include/nibl.h";
 
 /// What the library is made from: a change of one of these asks for it anew.
 const SOURCES: [&str; 4] = ["crates", "crates.txt", "tools/library", "tools/current.sh"];
@@ -28,6 +31,14 @@ fn layout(root: &Path) -> String {
         .collect()
 }
 
+/// The interface's number: `NIBL_VERSION` of the header.
+fn version(root: &Path) -> String {
+    let header = std::fs::read_to_string(root.join(HEADER)).expect("the header is there");
+    let mut lines = header.lines();
+    let number = lines.find_map(|line| line.strip_prefix("#define NIBL_VERSION "));
+    number.expect("the header has the number").to_string()
+}
+
 fn main() {
     let root = Path::new(env!("CARGO_MANIFEST_DIR")).join("..");
     let archive = library(&root);
@@ -36,8 +47,9 @@ fn main() {
     std::fs::write(Path::new(&out).join("layout.rs"), layout(&root)).expect("the list is written");
     println!("cargo:rustc-link-search=native={out}");
     println!("cargo:rustc-link-lib=static=nibl");
+    println!("cargo:rustc-env=NIBL_VERSION={}", version(&root));
     println!("cargo:rerun-if-changed={}", archive.display());
-    for source in SOURCES.into_iter().chain([LAYOUT]) {
+    for source in SOURCES.into_iter().chain([LAYOUT, HEADER]) {
         println!("cargo:rerun-if-changed={}", root.join(source).display());
     }
 }

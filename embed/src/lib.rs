@@ -60,7 +60,7 @@ struct Embedding;
 
 pub use answer::{Answer, Call, LINE_MOST, NO_LINE};
 pub use controller::{empty_page, Controller};
-pub use gate::{continue_run, take_line, Lent};
+pub use gate::{continue_run, take_line, version, Lent};
 pub use record::{ForEntry, ForStack, PlaceStack, Record, MARK, NOWHERE, START};
 pub use stop::Stop;
 pub use table::{empty_table, table_of, TABLE_LEAST};
