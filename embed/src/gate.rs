@@ -154,6 +154,8 @@ pub fn continue_run(record: &mut Record, lent: Lent, call: Call) -> Answer {
 
 #[cfg(test)]
 mod tests {
+    use std::string::ToString;
+
     use super::*;
 
     #[test]

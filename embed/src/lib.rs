@@ -40,10 +40,17 @@
 //! A table of line places may be lent too ([`Controller::with_table`]): a GOTO then finds its line without a walk along the
 //! page. Nothing else is different.
 //!
+//! The crate needs no `std`, only `core` and `alloc`, and it builds for any target that the kit's compiler has.
+//!
 //! The calls themselves are proved; this crate hands what is lent across, and is not.
 
+#![no_std]
 #![deny(unsafe_code)]
 #![warn(missing_docs)]
+
+extern crate alloc;
+#[cfg(test)]
+extern crate std;
 
 mod answer;
 mod controller;
