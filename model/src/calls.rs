@@ -1,4 +1,4 @@
-//! The two calls of the controller.
+//! The two calls of the controller that type and run.
 
 use crate::column::column;
 use crate::line::{read_line, Command, LineNumber, TypedLine};
@@ -99,17 +99,27 @@ impl Lent<'_> {
     }
 
     fn in_range(&self) -> bool {
-        (2..=4096).contains(&self.page.len())
-            && self.memory.len() <= 4096
+        self.page_and_memory_in_range()
             && self.input.len() <= 65_535
-            && self.output.len() <= 65_535
             && self.input_position as usize <= self.input.len()
-            && self.output_position as usize <= self.output.len()
+            && self.output_in_range()
             && self.budget <= 65_535
-            && self.table().is_none_or(|table| table.len() >= TABLE_LEAST)
+            && self.table_in_range()
     }
 
-    fn answer(&self, ending: Ending) -> Answer {
+    pub(crate) fn page_and_memory_in_range(&self) -> bool {
+        (2..=4096).contains(&self.page.len()) && self.memory.len() <= 4096
+    }
+
+    pub(crate) fn output_in_range(&self) -> bool {
+        self.output.len() <= 65_535 && self.output_position as usize <= self.output.len()
+    }
+
+    pub(crate) fn table_in_range(&self) -> bool {
+        self.table().is_none_or(|table| table.len() >= TABLE_LEAST)
+    }
+
+    pub(crate) fn answer(&self, ending: Ending) -> Answer {
         Answer {
             stop: ending.stop,
             line: ending.line,

@@ -10,15 +10,16 @@ use std::io::{self, BufRead, Write};
 use crate::calls::{continue_run, take_line, Answer, Lent};
 use crate::json::{parse, push_bytes, push_list, Json};
 use crate::record::{ForEntry, ForStack, Pause, Place, PlaceStack, Record};
+use crate::saved::{load, save};
 
 /// The last of document 02's items that is in force.
-const LANDED: u8 = 4;
+const LANDED: u8 = 5;
 
 const ITEMS: u8 = 13;
 
 /// What later items add to a case, to a record and to an entry of its FOR
 /// stack.
-const LATER: [&str; 6] = ["tables", "saved", "ranges", "form", "lists", "room"];
+const LATER: [&str; 5] = ["tables", "ranges", "form", "lists", "room"];
 const LATER_IN_RECORD: [&str; 4] = ["page", "gosub_pages", "do_pages", "trace"];
 const LATER_IN_FOR: [&str; 1] = ["page"];
 
@@ -30,6 +31,21 @@ const TABLE_MOST: usize = 1 << 20;
 pub enum Call {
     Line,
     Continue,
+    Save,
+    Load,
+}
+
+impl Call {
+    pub const ALL: [Call; 4] = [Call::Line, Call::Continue, Call::Save, Call::Load];
+
+    fn name(self) -> &'static str {
+        match self {
+            Call::Line => "line",
+            Call::Continue => "continue",
+            Call::Save => "save",
+            Call::Load => "load",
+        }
+    }
 }
 
 /// All a call is given.
@@ -47,6 +63,8 @@ pub struct Case {
     pub record: Record,
     /// The table of line places, where one is lent.
     pub table: Option<Vec<u16>>,
+    /// The form that a load takes.
+    pub saved: Vec<u8>,
 }
 
 /// Why a line does not give a call.
@@ -75,6 +93,7 @@ impl Case {
             sense: 0,
             record: Record::default(),
             table: None,
+            saved: Vec::new(),
         }
     }
 
@@ -94,17 +113,19 @@ impl Case {
         match self.call {
             Call::Line => take_line(&mut self.record, lent),
             Call::Continue => continue_run(&mut self.record, lent),
+            Call::Save => save(&self.record, lent),
+            Call::Load => load(&mut self.record, lent, &self.saved),
         }
     }
 
     pub fn read(line: &[u8]) -> Reading<Case> {
-        const KEYS: [&str; 12] = [
+        const KEYS: [&str; 13] = [
             "upto", "call", "page", "mem", "inp", "out", "inpos", "outpos", "budget", "sense",
-            "table", "rec",
+            "table", "rec", "saved",
         ];
         let whole = parse(line).map_err(Unread::Error)?;
         check_item(&whole)?;
-        let [_, call, page, mem, inp, out, inpos, outpos, budget, sense, table, rec] =
+        let [_, call, page, mem, inp, out, inpos, outpos, budget, sense, table, rec, saved] =
             entries(&whole, KEYS, &LATER)?;
         Ok(Case {
             call: read_call(required(call, "call")?)?,
@@ -118,16 +139,13 @@ impl Case {
             sense: or_default(sense, lent_number)?,
             record: or_default(rec, read_record)?,
             table: or_default(table, read_table)?,
+            saved: or_default(saved, read_bytes)?,
         })
     }
 
     /// The case as a line of JSON, without the line's end.
     pub fn write(&self) -> String {
-        let mut out = String::new();
-        out.push_str(match self.call {
-            Call::Line => "{\"call\":\"line\"",
-            Call::Continue => "{\"call\":\"continue\"",
-        });
+        let mut out = format!("{{\"call\":\"{}\"", self.call.name());
         push_field(&mut out, "page", &self.page);
         push_field(&mut out, "mem", &self.memory);
         push_field(&mut out, "inp", &self.input);
@@ -137,6 +155,9 @@ impl Case {
         push_number(&mut out, "budget", self.budget);
         push_number(&mut out, "sense", self.sense.into());
         push_table(&mut out, self.table.as_deref());
+        if self.call == Call::Load {
+            push_field(&mut out, "saved", &self.saved);
+        }
         push_record(&mut out, &self.record);
         out.push('}');
         out
@@ -295,11 +316,11 @@ fn field<T: TryFrom<i128>>(json: &Json) -> Reading<T> {
 }
 
 fn read_call(json: &Json) -> Reading<Call> {
-    match json {
-        Json::Text(call) if call == "line" => Ok(Call::Line),
-        Json::Text(call) if call == "continue" => Ok(Call::Continue),
-        _ => error("no call"),
-    }
+    let Json::Text(name) = json else {
+        return error("no call");
+    };
+    let call = Call::ALL.into_iter().find(|call| call.name() == name);
+    call.ok_or_else(|| Unread::Error("no call".into()))
 }
 
 /// A list of numbers of any length.

@@ -7,7 +7,7 @@
 //!
 //! Reading order: [`value`], [`stop`], [`typing`], [`words`], [`tree`],
 //! [`reader`], [`line`], [`column`], [`page`], [`table`], [`record`],
-//! [`machine`], [`statements`], [`calls`]. [`session`], [`case`] and [`json`]
+//! [`machine`], [`statements`], [`calls`], [`saved`]. [`session`], [`case`] and [`json`]
 //! serve the programs in `src/bin`, [`random`] makes sessions, cases and lines
 //! for comparisons, and [`rules`] pages to measure on.
 
@@ -24,6 +24,7 @@ pub mod random;
 pub mod reader;
 pub mod record;
 pub mod rules;
+pub mod saved;
 pub mod session;
 pub mod statements;
 pub mod stop;
@@ -35,4 +36,5 @@ pub mod words;
 
 pub use calls::{continue_run, take_line, Answer, Lent};
 pub use record::{ForEntry, ForStack, Pause, Place, PlaceStack, Record};
+pub use saved::{load, save};
 pub use stop::Stop;

@@ -24,12 +24,15 @@ pub enum Stop {
     BadPage = 18,
     BadRecord = 19,
     End = 20,
+    OtherForm = 22,
+    BadForm = 23,
+    OtherMemory = 24,
     BadTable = 26,
 }
 
 impl Stop {
     /// All of them, in rising number.
-    pub const ALL: [Stop; 21] = [
+    pub const ALL: [Stop; 24] = [
         Stop::Done,
         Stop::OutOfRange,
         Stop::PageFull,
@@ -50,6 +53,9 @@ impl Stop {
         Stop::BadPage,
         Stop::BadRecord,
         Stop::End,
+        Stop::OtherForm,
+        Stop::BadForm,
+        Stop::OtherMemory,
         Stop::BadTable,
     ];
 

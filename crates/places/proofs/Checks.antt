@@ -13,10 +13,12 @@ use borrow.Author.Tests.{le-leb, lt-leb, eq-eqb, ne-eqb, leb-true, leb-false, eq
 use Rattle.nibl.specs.Bytes.{if_then_else_, isDigit, starts}
 use Rattle.nibl.specs.found.Read.{reading}
 use Rattle.nibl.specs.Values.{digits}
-use Rattle.nibl.specs.Page.{isEnd, lineAt, lengthAt, textAt, hasReading, isStorable, isRecord, goodN}
+use Rattle.nibl.specs.Page.{Stored, isEnd, lineAt, lengthAt, textAt, hasReading, isStorable, isRecord, goodN}
+use Rattle.nibl.specs.found.Form.{Parted, broken, parted, behind, recordsIn}
 use Rattle.page.proofs.Walk.{by-cases}
 use Rattle.page.proofs.Program.{record-known, both}
 use Rattle.places.specs.Whole.{isWholeRecord, wholeSize, recordSize}
+use Rattle.places.specs.Ends.{endIn}
 
 -- a text that a page may hold
 pub starts-none : (p : ℕ → Bool) (t : List ℕ) → length t < 1 → starts p t ≡ false
@@ -188,3 +190,41 @@ module _ (lim : ℕ) where
               rw (e, k .0, goodN) (enough (length q) (suc (length (drop (lengthAt q) q))) (suc (lineAt q)) (drop (lengthAt q) q) (omega arith) (omega arith))
               ∙ ap (λ (m : ℕ). goodFrom (suc (lineAt q)) (drop m q)) (sym is);
         }
+
+-- the walk along so many records
+module _ (lim : ℕ) (s : List ℕ) where
+  -- where they end does not depend on what stands before
+  end-behind : (r : Stored) (p : Parted) → endIn s (behind r p) ≡ endIn s p
+  end-behind r broken = refl
+  end-behind r (parted rs q) = refl
+
+  module _ (k low at : ℕ) where
+    pub end-none : recordSize lim low (drop at s) ≡ 0 → endIn s (recordsIn lim (suc k) low (drop at s)) ≡ 0
+    unfolding recordsIn recordSize
+    end-none z =
+        by-cases (isRecord lim low (drop at s))
+        (λ f. let r = record-known lim low (drop at s) f in let five = r .1 .1 .0 in absurd (omega (arith, rw f at z)))
+        (λ f. rw (f, recordsIn))
+
+    -- a record that may stand here: they end where those behind it do
+    pub record FurtherRecord (n : ℕ) : Type 0 where
+      pub inside : n ≤ length (drop at s)
+      pub end : endIn s (recordsIn lim (suc k) low (drop at s)) ≡ endIn s (recordsIn lim k (suc (lineAt (drop at s))) (drop (at + n) s))
+
+    pub end-next : (n : ℕ) → n ≡ recordSize lim low (drop at s) → 0 < n → FurtherRecord n
+    unfolding recordsIn
+    end-next n f h =
+        let q : List ℕ = drop at s in
+        let j = known lim low q (omega arith) in
+        let r = record-known lim low q (j .0) in
+        let whole = r .1 .1 .1 .0 in
+        let is : n ≡ lengthAt q = f ∙ j .1 in
+        let next : drop (lengthAt q) q ≡ drop (at + n) s = ap (λ (m : ℕ). drop m q) (sym is) ∙ drop-drop n at s in
+        record {
+          inside = omega arith;
+          end = rw (j .0, recordsIn) (end-behind (record { line = lineAt q; text = textAt q }) (recordsIn lim k (suc (lineAt q)) (drop (lengthAt q) q)) ∙ ap (λ (t : List ℕ). endIn s (recordsIn lim k (suc (lineAt q)) t)) next);
+        }
+
+  pub end-here : (low at : ℕ) → at ≤ length s → endIn s (recordsIn lim 0 low (drop at s)) ≡ at
+  unfolding recordsIn
+  end-here low at h = omega (arith, length-drop at s)

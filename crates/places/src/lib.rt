@@ -8,6 +8,8 @@ ghost use Rattle.nibl.specs.found.Read.{reading};
 ghost use Rattle.nibl.specs.Page.{hasReading, isStorable, isGood, textAt, endsOf, placesOf, isAmong};
 ghost use Rattle.page.specs.Walk.{sizeAt};
 ghost use Rattle.places.specs.Whole.{Roomy, wholeSize, recordSize};
+ghost use Rattle.places.specs.Ends.{endIn};
+ghost use Rattle.nibl.specs.found.Form.{recordsIn};
 use line::EndRead;
 use line::ListRead;
 use nibl::CR;
@@ -127,6 +129,27 @@ pub fn is_good(page: &[u8], lim: usize) -> bool
         at += size;
     }
     true
+}
+
+// Where so many records end that stand in a slice from a position on and that a good page may hold one behind the other. 0: one of them is none.
+pub fn records_end(s: &[u8], from: usize, count: usize, lim: usize) -> usize
+    requires { ⌜ from ≤ length (now s) ⌝ }
+    ensures { λ r. ⌜ r ≡ endIn (now (s .entry)) (recordsIn lim count 0 (drop from (now (s .entry)))) ⌝ }
+{
+    let mut ops = [0u32; ROOM];
+    let mut at = from;
+    let mut low: u32 = 0;
+    let mut left = count;
+    while 0 < left {
+        let size = record_size(s, at, low, lim, &mut ops);
+        if size < 1 {
+            return 0;
+        }
+        low = page::line_at(s, at) as u32 + 1;
+        at += size;
+        left -= 1;
+    }
+    at
 }
 
 // Whether a member of the record at `at` ends at that record's byte `i`.

@@ -133,6 +133,7 @@ pub fn case(random: &mut Random, size: Size) -> Case {
         sense: random.byte(),
         record,
         table: None,
+        saved: Vec::new(),
     };
     if random.percent(25) {
         warm_up(random, &mut case);

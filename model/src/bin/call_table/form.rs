@@ -83,7 +83,9 @@ impl Input {
         Numbers {
             call: match self.byte() {
                 0 => Call::Line,
-                _ => Call::Continue,
+                1 => Call::Continue,
+                2 => Call::Save,
+                _ => Call::Load,
             },
             sense: self.byte(),
             budget: self.long(),
@@ -181,6 +183,8 @@ fn push_case(out: &mut Vec<u8>, case: &Written) {
         let kind = match numbers.call {
             Call::Line => 0,
             Call::Continue => 1,
+            Call::Save => 2,
+            Call::Load => 3,
         };
         out.extend([kind, numbers.sense]);
         out.extend(numbers.budget.to_be_bytes());

@@ -3,7 +3,8 @@
 use std::fmt::Write as _;
 
 use model::case::Call;
-use model::{continue_run, take_line, Answer, ForStack, Lent, Pause, Place, PlaceStack, Record};
+use model::{continue_run, load, save, take_line};
+use model::{Answer, ForStack, Lent, Pause, Place, PlaceStack, Record};
 
 #[derive(Clone, Debug, Default, PartialEq, Eq)]
 pub struct Gate {
@@ -47,6 +48,8 @@ impl Gate {
         let answer = match numbers.call {
             Call::Line => take_line(&mut self.record, lent),
             Call::Continue => continue_run(&mut self.record, lent),
+            Call::Save => save(&self.record, lent),
+            Call::Load => load(&mut self.record, lent, &self.input),
         };
         self.input_position = answer.input_position;
         self.output_position = answer.output_position;

@@ -1,8 +1,8 @@
-//! Writes what the model's two calls leave of written cases, or writes the cases.
+//! Writes what the model's calls leave of written cases, or writes the cases.
 //!
 //!     call_table <CASES     the name of each case, and a row for each of its calls
 //!     call_table cases      the cases
-//!     call_table stops      how often each stop comes up, in typed lines and in continued runs
+//!     call_table stops      how often each stop comes up, in typed lines, continued runs, saves and loads
 //!
 //! The input has the number of cases, and then of each its name, after one byte for its length; the page, the memory,
 //! the input, the output and the table of line places; where the first call reads and writes; the session record; and the
@@ -12,7 +12,7 @@
 //! Lent bytes are their length, a byte that fills them, and those that stand before it, after their number; a table is the
 //! same of numbers. A record has its 26 variables; its flags (a byte); its pause (0 for none, 1 for the program's start,
 //! else a place + 2); and the stacks of GOSUB, DO and FOR, each with its depth and all its slots. A call is a kind (a byte:
-//! 0 for a typed line, 1 for a continued run), the sense byte, the budget, and a byte that is 0 where the table is not
+//! 0 for a typed line, 1 for a continued run, 2 for a save, 3 for a load of the input), the sense byte, the budget, and a byte that is 0 where the table is not
 //! lent. A number is two bytes, high first; a length of what is lent, a position and a budget are two such numbers.
 //!
 //! A row has the stop with its line, the steps, the column, both positions, the flags and the pause; the three stacks; the
@@ -60,11 +60,11 @@ fn count(cases: &[Written], call: Call, stop: Stop) -> usize {
         .count()
 }
 
-/// A row for each stop: its number, and how often a typed line and a continued run give it.
+/// A row for each stop: its number, and how often each call gives it.
 fn counts(cases: &[Written]) -> String {
     let row = |&stop: &Stop| {
-        let [line, run] = [Call::Line, Call::Continue].map(|call| count(cases, call, stop));
-        format!("{} {line} {run}\n", stop.number())
+        let [line, run, save, load] = Call::ALL.map(|call| count(cases, call, stop));
+        format!("{} {line} {run} {save} {load}\n", stop.number())
     };
     Stop::ALL.iter().map(row).collect()
 }
