@@ -14,9 +14,16 @@ pub const START: u16 = 1;
 #[derive(Clone, Copy, Debug, Default, PartialEq, Eq)]
 pub struct PlaceStack {
     /// So many slots are in use, the oldest first.
-    pub depth: usize,
+    pub depth: u64,
     /// Positions in the page of the ":" or the CR after which to go on; on the GOSUB stack also [`MARK`].
     pub places: [u16; 8],
+}
+
+impl PlaceStack {
+    /// The places that are in use, the oldest first: all slots, where a depth is too large, which no call leaves.
+    pub fn open(&self) -> &[u16] {
+        in_use(self.depth, &self.places)
+    }
 }
 
 /// A FOR that is open.
@@ -38,9 +45,21 @@ pub struct ForEntry {
 #[derive(Clone, Copy, Debug, Default, PartialEq, Eq)]
 pub struct ForStack {
     /// So many slots are in use, the oldest first.
-    pub depth: usize,
+    pub depth: u64,
     /// The open FORs.
     pub entries: [ForEntry; 4],
+}
+
+impl ForStack {
+    /// The FORs that are open, the oldest first: all slots, where the depth is too large, which no call leaves.
+    pub fn open(&self) -> &[ForEntry] {
+        in_use(self.depth, &self.entries)
+    }
+}
+
+fn in_use<T>(depth: u64, slots: &[T]) -> &[T] {
+    let depth = usize::try_from(depth).unwrap_or(slots.len());
+    &slots[..depth.min(slots.len())]
 }
 
 /// What the controller keeps between calls. Every bit pattern is a record; one that does not fit the page is refused

@@ -30,7 +30,7 @@ static void show(const char *what, const nibl_call *call, const nibl_answer *ans
     if (answer->stop == NIBL_NO_READING)
         printf("wrong after column %d, ", answer->column);
     printf("%d steps, wrote \"", answer->steps);
-    for (size_t at = call->outpos; at < answer->outpos; at++)
+    for (nibl_size at = call->outpos; at < answer->outpos; at++)
         if (output[at] >= ' ')
             putchar(output[at]);
     printf("\"\n");
@@ -47,7 +47,7 @@ static void show_table(void) {
 /* Makes the table of the page as it is, as a host does that has restored or changed one: a walk along the records, which ends
  * where none stands. */
 static void make_table(void) {
-    size_t at = 0;
+    nibl_size at = 0;
     table[0] = 0;
     while (at + 3 < sizeof page && (page[at] != NIBL_END_MARK || page[at + 1] != NIBL_END_MARK) && page[at + 2] > 3 &&
            page[at + 2] <= sizeof page - at) {
