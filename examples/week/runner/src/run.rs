@@ -16,7 +16,8 @@ use crate::weeks::{books, changed, Weeks};
 pub struct Run<'a> {
     case: &'a Case,
     first: Told,
-    listed: Vec<Outcome>,
+    /// The first week by listings.
+    listed: Told,
     second: Option<SecondTold>,
     left_page: Option<Vec<u8>>,
 }
@@ -35,6 +36,7 @@ impl<'a> Run<'a> {
     pub fn of(case: &'a Case, weeks: Weeks) -> Result<Run<'a>, String> {
         let mut books = books(case)?;
         let first = Told::of(weeks.first, case.changed, books.as_mut(), By::First)?;
+        let listed = Told::of(weeks.listed, case.changed, books.as_mut(), By::First)?;
         let second = match (weeks.second, books) {
             (Some(week), Some(mut books)) => Some(SecondTold {
                 lived: Told::of(week.lived, case.changed, Some(&mut books), By::Second)?,
@@ -46,7 +48,7 @@ impl<'a> Run<'a> {
         Ok(Run {
             case,
             first,
-            listed: weeks.listed,
+            listed,
             second,
             left_page: left_page(case, &changed(case)?),
         })
@@ -55,7 +57,6 @@ impl<'a> Run<'a> {
     /// All files, those that there are none of this time, too.
     pub fn files(&mut self) -> Result<Vec<File>, String> {
         let (case, rules) = (self.case, &self.case.rules);
-        let listed = Told::of(self.listed.clone(), case.changed, None, By::First)?;
         let second = self.second.as_ref();
         let of_second =
             |table: &dyn Fn(&SecondTold) -> String| second.map(|second| table(second).into_bytes());
@@ -70,7 +71,7 @@ impl<'a> Run<'a> {
             ),
             (
                 "listed.csv",
-                Some(report::report(&listed, rules).into_bytes()),
+                Some(report::report(&self.listed, rules).into_bytes()),
             ),
             (
                 "second.csv",
@@ -132,7 +133,7 @@ impl<'a> Run<'a> {
             text += &summary::same(&self.first.outcomes, &second.same.outcomes);
             remarked.extend(remarks(&second_name, &second.lived.outcomes));
         }
-        text += &summary::listed(&self.first.outcomes, &self.listed);
+        text += &summary::listed(&self.first.outcomes, &self.listed.outcomes);
         text.extend(self.left_page.iter().map(|page| refusal(page) + "\n"));
         text.extend(remarked.into_iter().map(|remark| remark + "\n"));
         Ok(text)
