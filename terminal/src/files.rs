@@ -53,24 +53,51 @@ pub fn write(file: &str, bytes: &[u8]) -> Result<(), String> {
     })
 }
 
+/// How a line of a file ends.
+#[derive(Clone, Copy, Debug, PartialEq, Eq)]
+pub enum End {
+    CrLf,
+    Cr,
+    Lf,
+    /// The file ends there.
+    None,
+}
+
+impl End {
+    pub fn name(self) -> &'static str {
+        match self {
+            End::CrLf => "CR LF",
+            End::Cr => "CR",
+            End::Lf => "LF",
+            End::None => "nothing",
+        }
+    }
+}
+
 /// The lines of a rule book. They end in CR LF, in LF or in CR; the last may have no end.
 pub fn lines(bytes: &[u8]) -> Vec<&[u8]> {
+    rows(bytes).into_iter().map(|(line, _)| line).collect()
+}
+
+/// The lines of a rule book with their ends.
+pub fn rows(bytes: &[u8]) -> Vec<(&[u8], End)> {
     let mut rest = bytes.strip_prefix(MARK_OF_UTF8).unwrap_or(bytes);
-    let mut lines = Vec::new();
+    let mut rows = Vec::new();
     while !rest.is_empty() {
-        let end = rest
+        let length = rest
             .iter()
             .position(|b| matches!(b, 10 | 13))
             .unwrap_or(rest.len());
-        lines.push(&rest[..end]);
-        let ended = match &rest[end..] {
-            [13, 10, ..] => 2,
-            [] => 0,
-            _ => 1,
+        let (end, taken) = match &rest[length..] {
+            [13, 10, ..] => (End::CrLf, 2),
+            [13, ..] => (End::Cr, 1),
+            [_, ..] => (End::Lf, 1),
+            [] => (End::None, 0),
         };
-        rest = &rest[end + ended..];
+        rows.push((&rest[..length], end));
+        rest = &rest[length + taken..];
     }
-    lines
+    rows
 }
 
 #[cfg(test)]
@@ -86,6 +113,8 @@ mod tests {
         assert_eq!(lines(b"10 END\r\n\nRUN"), wanted);
         assert_eq!(lines(b"\xEF\xBB\xBF10 END\r\n\nRUN"), wanted);
         assert!(lines(b"").is_empty());
+        let ends: Vec<End> = rows(b"1\r2\n3\r\n4").iter().map(|row| row.1).collect();
+        assert_eq!(ends, [End::Cr, End::Lf, End::CrLf, End::None]);
     }
 
     #[test]
