@@ -6,6 +6,7 @@ use Prim.Native.Nat.{ℕ}
 use mathlib.Core.List.{List}
 use Rattle.nibl.specs.Lent.{Lent, Left, leftAll}
 use Rattle.nibl.specs.Calls.{leaves, takeLine, continueRun}
+use Rattle.nibl.specs.Carry.{saves, loads}
 use Rattle.nibl.specs.declared.Session.{Session}
 use Rattle.nibl.specs.declared.Answer.{Answer}
 
@@ -21,7 +22,7 @@ same-parts F x s s′ a a′ p p′ m m′ o o′ t t′ e f =
       (ap (λ u. u .outcome .answer) same, (ap (λ u. u .outcome .page) same, (ap (λ u. u .outcome .memory) same, (ap (λ u. u .outcome .output) same, ap (λ u. u .table) same)))),
     )
 
--- of each of the two entries
+-- of each of the entries
 module _ (x : Lent) (s s′ : Session) (a a′ : Answer) (p p′ m m′ o o′ t t′ : List ℕ) where
   pub take-line-determined : leftAll a s p m o t ≡ leaves takeLine x → leftAll a′ s′ p′ m′ o′ t′ ≡ leaves takeLine x
       → (s ≡ s′) × ((a ≡ a′) × ((p ≡ p′) × ((m ≡ m′) × ((o ≡ o′) × (t ≡ t′)))))
@@ -30,3 +31,9 @@ module _ (x : Lent) (s s′ : Session) (a a′ : Answer) (p p′ m m′ o o′ t
   pub continue-run-determined : leftAll a s p m o t ≡ leaves continueRun x → leftAll a′ s′ p′ m′ o′ t′ ≡ leaves continueRun x
       → (s ≡ s′) × ((a ≡ a′) × ((p ≡ p′) × ((m ≡ m′) × ((o ≡ o′) × (t ≡ t′)))))
   continue-run-determined = same-parts (leaves continueRun) x s s′ a a′ p p′ m m′ o o′ t t′
+
+  pub save-determined : leftAll a s p m o t ≡ saves x → leftAll a′ s′ p′ m′ o′ t′ ≡ saves x → (s ≡ s′) × ((a ≡ a′) × ((p ≡ p′) × ((m ≡ m′) × ((o ≡ o′) × (t ≡ t′)))))
+  save-determined = same-parts saves x s s′ a a′ p p′ m m′ o o′ t t′
+
+  pub load-determined : leftAll a s p m o t ≡ loads x → leftAll a′ s′ p′ m′ o′ t′ ≡ loads x → (s ≡ s′) × ((a ≡ a′) × ((p ≡ p′) × ((m ≡ m′) × ((o ≡ o′) × (t ≡ t′)))))
+  load-determined = same-parts loads x s s′ a a′ p p′ m m′ o o′ t t′
