@@ -1,46 +1,36 @@
 -- Item 5, the two calls: what each leaves exactly, refusal by refusal; that what was saved is loaded, and what was loaded saves to the same
 -- bytes. Assumes nothing.
-use Prim.Native.Nat.{ℕ, zero, suc, _+_, _-_, _%_, _≤_, _<_}
+use Prim.Native.Nat.{ℕ, suc, _+_, _-_, _≤_, _<_}
 use mathlib.Core.Path.{_≡_, refl, sym, ap, subst, _∙_}
-use mathlib.Core.Bool.{Bool, true, false, not, _&&_, false≢true, true≢false}
+use mathlib.Core.Bool.{Bool, true, false, not, false≢true}
 use mathlib.Core.List.{List, [], _∷_, _++_, append-assoc}
 use mathlib.Core.Logic.{_↔_}
 use native.Mathlib.Omega.{arith}
-use lib.ListN.{length, getD, take, drop, length-append, length-drop}
+use lib.ListN.{length, take, drop}
 use lib.Seq.{sets, sets-eq, take-at, drop-at, length-take-le}
 use lib.Dec.{leb, eqb}
-use borrow.Author.Tests.{leb-true, leb-false, le-leb, lt-leb, eqb-true, eqb-false, eq-eqb, ne-eqb, lt-ltb}
+use borrow.Author.Tests.{leb-true, leb-false, le-leb, lt-leb, eqb-true, eqb-false, eq-eqb, ne-eqb}
 use Rattle.nibl.specs.Bytes.{if_then_else_}
 use Rattle.nibl.specs.Values.{Result, is, no}
 use Rattle.nibl.specs.Typing.{limit}
-use Rattle.nibl.specs.Record.{loadedSession}
-use Rattle.nibl.specs.Page.{Stored, isGood, fits, recordsOf, programBytes, usedBy, used, onto}
-use Rattle.nibl.specs.Table.{describes, refilled}
+use Rattle.nibl.specs.Page.{lineAt, isGood, fits, programBytes}
 use Rattle.nibl.specs.Saved.{RuleSet, formNumber, savedForm}
 use Rattle.nibl.specs.found.Form.{hasNumber, hasValues, Parted, broken, parted, isCounted, carriedBy, valuesIn, recordsIn, formIn}
-use Rattle.nibl.specs.Lent.{Lent, Left, lentAll, leftAll, unchanged, answerOf, noLine}
-use Rattle.nibl.specs.FirstRefusals.{pageInRange, memoryInRange, outputInRange, positionInRange, tableInRange}
-use Rattle.nibl.specs.Calls.{tablePast}
+use Rattle.nibl.specs.Lent.{Lent, Left, unchanged}
+use Rattle.nibl.specs.FirstRefusals.{pageInRange, memoryInRange, outputInRange}
 use Rattle.nibl.specs.Carry.{ruleSetOf, saveInRange, saved, savesIn, saves, loadInRange, loaded, loadsForm, loadsIn, loads}
-use Rattle.nibl.specs.declared.Session.{Session}
-use Rattle.nibl.proofs.Determined.{determined}
 use Rattle.page.specs.Standing.{Bytes}
-use Rattle.page.proofs.Walk.{by-cases}
-use Rattle.page.proofs.Program.{Program, both, program-length}
-use Rattle.page.proofs.Laid.{good-program}
-use Rattle.page.proofs.Changes.{onto-good, onto-records}
-use Rattle.page.proofs.Forms.{Formed}
-use Rattle.page.proofs.Tables.{table-fits, refilled-true, refilled-long}
-use Rattle.demands.specs.Lent.{HasTable, OneOfThese}
-use Rattle.demands.specs.Good.{GoodPage, Fits, LentTrue, TrueTable}
+use Rattle.page.proofs.Program.{both}
+use Rattle.page.proofs.Forms.{form-complete}
+use Rattle.demands.specs.Lent.{OneOfThese}
+use Rattle.demands.specs.Good.{GoodPage, Fits}
 use Rattle.demands.specs.Listing.{written}
 use Rattle.demands.proofs.Good.{fits-exact}
 use Rattle.demands.proofs.ByGrammar.{a-good-page}
 use Rattle.demands.proofs.Accepted.{table-range-of, table-range-is}
-use Rattle.demands.proofs.Tables.{table-exact}
-use Rattle.changes.specs.Carry.{Carryable, OfTypes, SaveRange, SavesAs, saveOutOfRange, badPage, badRecord, noRoom, writes}
-use Rattle.changes.specs.Carry.{LoadRange, Brings, LoadsAs, loadOutOfRange, otherForm, badForm, otherMemory, pageFull, takes, Loads}
-use Rattle.changes.proofs.Forms.{form-exact, carryable-formed, formed-carryable, records-good}
+use Rattle.changes.specs.Carry.{SaveRange, SavesAs, saveOutOfRange, badPage, badRecord, noRoom, writes}
+use Rattle.changes.specs.Carry.{LoadRange, Brings, LoadsAs, loadOutOfRange, otherForm, badForm, otherMemory, pageFull, takes}
+use Rattle.changes.proofs.Forms.{form-exact, carryable-formed}
 
 -- The ranges
 module _ (x : Lent) where
@@ -78,10 +68,23 @@ module _ (x : Lent) where
         table-range-is x (r .table),
       )
 
+-- a result is one or the other
+abbrev refusal : Result RuleSet → ℕ
+refusal (is c) = 0
+refusal (no n) = 1
+
 -- a test that does not hold
 not-true : {A : Type 0} (b : Bool) → (b ≡ true → A) → (A → ⊥) → b ≡ false
 not-true true f n = absurd (n (f refl))
 not-true false f n = refl
+
+-- an item that has room stands in the output from its position on
+form-written : (output : List ℕ) (p : ℕ) (bs : List ℕ) → p + length bs ≤ length output → take (p + length bs - p) (drop p (sets output p bs)) ≡ bs
+form-written output p bs h =
+    let f : p + length bs - p ≡ length bs = omega arith in
+    rw (f, sets-eq bs output p h, append-assoc (take p output) bs (drop (p + length bs) output))
+    (ap (take (length bs)) (drop-at (take p output) (bs ++ drop (p + length bs) output) p (length-take-le p output (omega arith)))
+    ∙ take-at bs (drop (p + length bs) output) (length bs) refl)
 
 -- What a save leaves
 module _ (x : Lent) where
@@ -117,7 +120,7 @@ module _ (x : Lent) where
         let g = a-good-page (x .page) .0 q in
         writes (save-range-of x p) g (fits-exact limit (omega arith) (x .page) g (x .session) .0 r) (leb-true _ _ s)
 
-  saves-back : {u : Left} → SavesAs x u → saves x ≡ u
+  pub saves-back : {u : Left} → SavesAs x u → saves x ≡ u
   unfolding saves savesIn
   saves-back (saveOutOfRange n) = rw (not-true (saveInRange x) (save-range-of x) n)
   saves-back (badPage r n) = rw (save-range-is x r, good-not n)
@@ -128,3 +131,146 @@ module _ (x : Lent) where
   -- every stop of a save exactly, with all that is left
   pub save-exact : (u : Left) → (saves x ≡ u) ↔ SavesAs x u
   save-exact u = (λ e. subst (SavesAs x) e saves-so, saves-back)
+
+  -- "for saving: 1, 18, 19, 17": no other stop but 0
+  pub save-numbered : OneOfThese (0 ∷ 1 ∷ 17 ∷ 18 ∷ 19 ∷ []) (saves x .outcome .answer .stop)
+  save-numbered = by saves-so where
+    by : {u : Left} → SavesAs x u → OneOfThese (0 ∷ 1 ∷ 17 ∷ 18 ∷ 19 ∷ []) (u .outcome .answer .stop)
+    by (saveOutOfRange n) = refl
+    by (badPage r n) = refl
+    by (badRecord r g n) = refl
+    by (noRoom r g f l) = refl
+    by (writes r g f l) = refl
+
+  -- what a save that is done was lent, and leaves
+  pub record SaveDone : Type 0 where
+    pub range : SaveRange x
+    pub good : GoodPage limit (x .page)
+    pub fits : Fits (x .page) (x .session)
+    pub room : x .call .outpos + length (savedForm (ruleSetOf x)) ≤ length (x .output)
+    pub leaves : saves x ≡ saved x (savedForm (ruleSetOf x))
+
+  pub save-done : saves x .outcome .answer .stop ≡ 0 → SaveDone
+  save-done = by saves-so refl where
+    by : {u : Left} → SavesAs x u → saves x ≡ u → saves x .outcome .answer .stop ≡ 0 → SaveDone
+    by (saveOutOfRange n) e z = absurd (omega (arith, ap (λ (v : Left). v .outcome .answer .stop) e))
+    by (badPage r n) e z = absurd (omega (arith, ap (λ (v : Left). v .outcome .answer .stop) e))
+    by (badRecord r g n) e z = absurd (omega (arith, ap (λ (v : Left). v .outcome .answer .stop) e))
+    by (noRoom r g f l) e z = absurd (omega (arith, ap (λ (v : Left). v .outcome .answer .stop) e))
+    by (writes r g f l) e z = record { range = r; good = g; fits = f; room = l; leaves = e }
+
+  -- "A save writes to the output": the form whole at its position, and nothing else is changed, the pause neither
+  pub save-writes : saves x .outcome .answer .stop ≡ 0 → (saves x ≡ saved x (savedForm (ruleSetOf x))) × (written x (saves x .outcome) ≡ savedForm (ruleSetOf x))
+  save-writes z = let d = save-done z in (d .leaves, ap (λ (u : Left). written x (u .outcome)) (d .leaves) ∙ form-written (x .output) (x .call .outpos) (savedForm (ruleSetOf x)) (d .room))
+
+-- What a slice is read as
+data FormRead (s : List ℕ) : Result RuleSet → Type 0 where
+  otherNumber : hasNumber s ≡ false → FormRead s (no 22)
+  wrong : hasNumber s ≡ true → FormRead s (no 23)
+  carries : {c : RuleSet} → FormRead s (is c)
+
+form-read : (lim : ℕ) (s : List ℕ) → FormRead s (formIn lim s)
+unfolding formIn
+form-read lim s = by (hasNumber s) refl (hasValues s) where
+  behind-read : hasNumber s ≡ true → (vars : List ℕ) (p : Parted) → FormRead s (carriedBy vars p)
+  behind-read n vars broken = wrong n
+  behind-read n vars (parted rs q) = counted (isCounted q) where
+    counted : (b : Bool) → FormRead s (if b then is (record { vars = vars; records = rs; memory = drop 2 q }) else no 23)
+    counted true = carries
+    counted false = wrong n
+
+  by : (a : Bool) → hasNumber s ≡ a → (b : Bool)
+      → FormRead s (if not a then no 22 else if not b then no 23 else carriedBy (valuesIn 26 (drop 2 s)) (recordsIn lim (lineAt (drop 54 s)) 0 (drop 56 s)))
+  by false n b = otherNumber n
+  by true n false = wrong n
+  by true n true = behind-read n (valuesIn 26 (drop 2 s)) (recordsIn lim (lineAt (drop 54 s)) 0 (drop 56 s))
+
+-- "another form number or none"
+numbered : (s : List ℕ) → hasNumber s ≡ true → s ≡ formNumber ∷ drop 1 s
+numbered [] e = absurd (false≢true e)
+numbered (b ∷ s) e = λ i. eqb-true b 1 (both (leb 1 (suc (length s))) _ e .1) i ∷ s
+
+number-of : (s t : List ℕ) → s ≡ formNumber ∷ t → hasNumber s ≡ true
+number-of s t e = ap hasNumber e ∙ rw (le-leb 1 (suc (length t)) (omega arith))
+
+-- the form of a rule set has the form's number
+brought-number : {s : List ℕ} (c : RuleSet) → s ≡ savedForm c → hasNumber s ≡ true
+unfolding savedForm
+brought-number c e = number-of _ _ e
+
+-- What a load leaves
+module _ (x : Lent) where
+  brings-form : (c : RuleSet) → Brings x c → formIn limit (x .input) ≡ is c
+  brings-form c b = rw (b .form) (form-complete limit c (carryable-formed limit (omega arith) (b .carryable)))
+
+  -- by a form that is brought
+  module _ (c : RuleSet) (b : Brings x c) where
+    brings-loads : loads x ≡ loadsForm x (is c)
+    unfolding loads loadsIn
+    brings-loads = rw (load-range-is x (b .range)) (ap (loadsForm x) (brings-form c b))
+
+    other-is-24 : (length (c .memory) ≡ length (x .memory) → ⊥) → loads x ≡ unchanged x 24
+    other-is-24 n = brings-loads ∙ rw (ne-eqb (length (c .memory)) (length (x .memory)) n)
+
+    module _ (m : length (c .memory) ≡ length (x .memory)) where
+      full-is-2 : length (x .page) < length (programBytes (c .records)) → loads x ≡ unchanged x 2
+      full-is-2 l = brings-loads ∙ rw (eq-eqb (length (c .memory)) (length (x .memory)) m, lt-leb (length (programBytes (c .records))) (length (x .page)) l)
+
+      pub taken-is-0 : length (programBytes (c .records)) ≤ length (x .page) → loads x ≡ loaded x c
+      taken-is-0 l = brings-loads ∙ rw (eq-eqb (length (c .memory)) (length (x .memory)) m, le-leb (length (programBytes (c .records))) (length (x .page)) l)
+
+  module _ (bytes : Bytes (x .input)) where
+    brings : (c : RuleSet) → LoadRange x → formIn limit (x .input) ≡ is c → Brings x c
+    brings c r e = let k = form-exact limit (omega arith) (x .input) bytes c .0 e in record { range = r; carryable = k .1; form = k .0 }
+
+    pub loads-so : LoadsAs x (loads x)
+    unfolding loads loadsIn
+    loads-so = by (loadInRange x) refl where
+      taken : (c : RuleSet) → Brings x c → (a : Bool) → eqb (length (c .memory)) (length (x .memory)) ≡ a
+          → (b : Bool) → leb (length (programBytes (c .records))) (length (x .page)) ≡ b
+          → LoadsAs x (if not a then unchanged x 24 else if not b then unchanged x 2 else loaded x c)
+      taken c k false p b q = otherMemory c k (eqb-false _ _ p)
+      taken c k true p false q = pageFull c k (eqb-true _ _ p) (leb-false _ _ q)
+      taken c k true p true q = takes c k (eqb-true _ _ p) (leb-true _ _ q)
+
+      read : LoadRange x → (r : Result RuleSet) → formIn limit (x .input) ≡ r → FormRead (x .input) r → LoadsAs x (loadsForm x r)
+      read l (no m) e (otherNumber n) = otherForm l (λ s f. false≢true (sym n ∙ number-of (x .input) s f))
+      read l (no m) e (wrong n) =
+          badForm l (drop 1 (x .input)) (numbered (x .input) n) (λ c b. let z : _≡_ {A = ℕ} 0 1 = ap refusal (sym (brings-form c b) ∙ e) in omega arith)
+      read l (is c) e carries = taken c (brings c l e) (eqb (length (c .memory)) (length (x .memory))) refl (leb (length (programBytes (c .records))) (length (x .page))) refl
+
+      by : (a : Bool) → loadInRange x ≡ a → LoadsAs x (if not a then unchanged x 1 else loadsForm x (formIn limit (x .input)))
+      by false p = loadOutOfRange (λ r. false≢true (sym p ∙ load-range-is x r))
+      by true p = read (load-range-of x p) (formIn limit (x .input)) refl (form-read limit (x .input))
+
+    loads-back : {u : Left} → LoadsAs x u → loads x ≡ u
+    unfolding loads loadsIn
+    loads-back (loadOutOfRange n) = rw (not-true (loadInRange x) (load-range-of x) n)
+    loads-back (otherForm r n) = rw (load-range-is x r) (ap (loadsForm x) (by (formIn limit (x .input)) refl (form-read limit (x .input)))) where
+      by : (f : Result RuleSet) → formIn limit (x .input) ≡ f → FormRead (x .input) f → formIn limit (x .input) ≡ no 22
+      by (no m) e (otherNumber k) = e
+      by (no m) e (wrong k) = absurd (n (drop 1 (x .input)) (numbered (x .input) k))
+      by (is c) e carries = absurd (n (drop 1 (x .input)) (numbered (x .input) (brought-number c (brings c r e .form))))
+    loads-back (badForm r s f n) = rw (load-range-is x r) (ap (loadsForm x) (by (formIn limit (x .input)) refl (form-read limit (x .input)))) where
+      by : (g : Result RuleSet) → formIn limit (x .input) ≡ g → FormRead (x .input) g → formIn limit (x .input) ≡ no 23
+      by (no m) e (otherNumber k) = absurd (false≢true (sym k ∙ number-of (x .input) s f))
+      by (no m) e (wrong k) = e
+      by (is c) e carries = absurd (n c (brings c r e))
+    loads-back (otherMemory c b n) = other-is-24 c b n
+    loads-back (pageFull c b m l) = full-is-2 c b m l
+    loads-back (takes c b m l) = taken-is-0 c b m l
+
+    -- every stop of a load exactly, with all that is left
+    pub load-exact : (u : Left) → (loads x ≡ u) ↔ LoadsAs x u
+    load-exact u = (λ e. subst (LoadsAs x) e loads-so, loads-back)
+
+    -- "for loading: 1, then 22 .., 23 .., 24 .., 2": no other stop but 0
+    pub load-numbered : OneOfThese (0 ∷ 1 ∷ 2 ∷ 22 ∷ 23 ∷ 24 ∷ []) (loads x .outcome .answer .stop)
+    load-numbered = by loads-so where
+      by : {u : Left} → LoadsAs x u → OneOfThese (0 ∷ 1 ∷ 2 ∷ 22 ∷ 23 ∷ 24 ∷ []) (u .outcome .answer .stop)
+      by (loadOutOfRange n) = refl
+      by (otherForm r n) = refl
+      by (badForm r s f n) = refl
+      by (otherMemory c b n) = refl
+      by (pageFull c b m l) = refl
+      by (takes c b m l) = refl

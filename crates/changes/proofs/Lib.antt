@@ -9,3 +9,5 @@ pub mod GaveUp
 pub mod Tables
 pub mod TableRows
 pub mod Forms
+pub mod Carry
+pub mod Carrying

@@ -11,7 +11,7 @@ use Rattle.nibl.specs.Lent.{Lent, Left, unchanged}
 use Rattle.nibl.specs.Carry.{ruleSetOf, saved, loaded}
 use Rattle.page.specs.Standing.{Bytes}
 use Rattle.demands.specs.Lent.{HasTable}
-use Rattle.demands.specs.Good.{GoodText, GoodPage, Fits, LentTrue}
+use Rattle.demands.specs.Good.{GoodText, GoodPage, Fits, TrueTable}
 
 -- records that a good page may hold, of numbers that rise from low on
 pub data GoodRecords (lim : ℕ) : ℕ → List Stored → Type 0 where
@@ -88,3 +88,6 @@ pub record Loads (x : Lent) (c : RuleSet) (u : Left) : Type 0 where
   -- and what is left is sound: the page is good, the record fits it, and a lent table is true of it
   pub good : GoodPage limit (u .outcome .page)
   pub fits : Fits (u .outcome .page) (u .outcome .session)
+  pub table : HasTable x → TrueTable (u .outcome .page) (u .table)
+  -- and has its length
+  pub entries : HasTable x → length (u .table) ≡ length (x .table)

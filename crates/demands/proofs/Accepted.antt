@@ -15,7 +15,7 @@ use Rattle.page.proofs.Walk.{by-cases}
 use Rattle.page.proofs.Program.{both}
 use Rattle.demands.specs.Lent.{HasTable, InRange, budgeted, gatheredLine}
 
-table-range-of : (x : Lent) → tableInRange (x .call) (length (x .table)) ≡ true → HasTable x → 1025 ≤ length (x .table)
+pub table-range-of : (x : Lent) → tableInRange (x .call) (length (x .table)) ≡ true → HasTable x → 1025 ≤ length (x .table)
 table-range-of x h n = leb-true _ _ (rw (ne-eqb (x .call .tabled) 0 n) at h)
 
 pub table-range-is : (x : Lent) → (HasTable x → 1025 ≤ length (x .table)) → tableInRange (x .call) (length (x .table)) ≡ true
