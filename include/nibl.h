@@ -17,16 +17,18 @@ extern "C" {
 #endif
 
 /*
- * The interface's number: another one for each change of a type, of a signature or of what a field means. The archive has
- * it to the calls' names, so that a host that was compiled with the header of another interface does not link, where it
+ * The interface's number: another one for each change of a type, of a signature or of what a field means, and for each call
+ * that is added. The archive has it to the calls' names, so that a host that was compiled with the header of another interface does not link, where it
  * would have lent what the calls read otherwise. A host writes the names without it. This line is the one place where it
  * stands; tools/library and the Rust crate read it here.
  */
-#define NIBL_VERSION 4
+#define NIBL_VERSION 5
 #define NIBL_NUMBERED_AS(name, number) name##_##number
 #define NIBL_NUMBERED(name, number) NIBL_NUMBERED_AS(name, number)
 #define nibl_take_line NIBL_NUMBERED(nibl_take_line, NIBL_VERSION)
 #define nibl_continue_run NIBL_NUMBERED(nibl_continue_run, NIBL_VERSION)
+#define nibl_save NIBL_NUMBERED(nibl_save, NIBL_VERSION)
+#define nibl_load NIBL_NUMBERED(nibl_load, NIBL_VERSION)
 
 /* The archive's own number, under a name that every archive has: for a host that looks the calls up when it runs. */
 extern const uint32_t nibl_version;
@@ -43,6 +45,7 @@ enum {
     NIBL_OUTPUT_MOST = 65535,  /* bytes of the output, which may be empty */
     NIBL_TABLE_LEAST = 1025,   /* numbers of a table, where one is lent: at least so many, and any more */
     NIBL_BUDGET_MOST = 65535,  /* steps of one call; 0 is a budget too */
+    NIBL_SAVED_MOST = 8248,    /* bytes of the longest saved form: of a full page and the longest memory */
     NIBL_LINE_MOST = 72,       /* bytes of a typed line, or of a reply, that are kept */
     NIBL_LINE_NUMBER_MOST = 32767, /* the highest line number */
     NIBL_VARIABLES = 26,       /* A to Z */
@@ -65,7 +68,7 @@ enum {
 enum {
     NIBL_DONE = 0,              /* done; past the last line; RETURN to the immediate mark */
     NIBL_OUT_OF_RANGE = 1,      /* a length, position or budget outside the limits: nothing is changed */
-    NIBL_PAGE_FULL = 2,         /* the edited program would not fit the page: the line is taken */
+    NIBL_PAGE_FULL = 2,         /* the edited program would not fit the page: the line is taken. Load: nothing is changed */
     NIBL_NOT_IMMEDIATE = 3,     /* DO, UNTIL, FOR, NEXT or INPUT in an immediate line: the line is taken */
     NIBL_NO_READING = 5,        /* over-long typed line, or no reading: the line is taken */
     NIBL_BAD_REPLY = 6,         /* reply over-long or not in its form: the reply is taken */
@@ -79,10 +82,13 @@ enum {
     NIBL_PAUSED = 14,           /* budget spent and a statement still to run: paused, nibl_continue_run goes on */
     NIBL_NO_DO = 15,            /* UNTIL with its stack empty */
     NIBL_NO_MEMORY = 16,        /* a memory byte needed is not there, or no CR found */
-    NIBL_OUTPUT_FULL = 17,      /* an output item does not fit whole: those before it stay */
+    NIBL_OUTPUT_FULL = 17,      /* an output item does not fit whole: those before it stay. Save: nothing is changed */
     NIBL_BAD_PAGE = 18,         /* bad page: nothing is changed */
     NIBL_BAD_RECORD = 19,       /* session record does not fit the page: nothing is changed */
     NIBL_END = 20,              /* END */
+    NIBL_OTHER_FORM = 22,       /* load: another form number, or none: nothing is changed */
+    NIBL_BAD_FORM = 23,         /* load: counts, records or length wrong: nothing is changed */
+    NIBL_OTHER_MEMORY = 24,     /* load: the form's memory has another length: nothing is changed */
     NIBL_BAD_TABLE = 26         /* the table does not describe the page: nothing is changed */
 };
 
@@ -153,7 +159,7 @@ typedef struct {
  * NIBL_OUT_OF_RANGE. A call answers the same with a true table and with none. To lend none: NULL, 0, and 0 for tabled.
  */
 
-/* Give either call 72 KiB of stack: it takes less than 8 KiB, and up to 880 bytes for each open bracket, "@" or NOT. */
+/* Give any call 72 KiB of stack: it takes less than 8 KiB, and up to 880 bytes for each open bracket, "@" or NOT. */
 
 /*
  * Takes one typed line from the input, from call->inpos up to its CR, and does what it says: stores or deletes a program
@@ -173,6 +179,25 @@ void nibl_take_line(nibl_record *record, uint8_t *page, nibl_size page_len, uint
 void nibl_continue_run(nibl_record *record, uint8_t *page, nibl_size page_len, uint8_t *memory, nibl_size memory_len,
                        const uint8_t *input, nibl_size input_len, uint8_t *output, nibl_size output_len,
                        const nibl_call *call, nibl_answer *answer, uint16_t *table, nibl_size table_len);
+
+/*
+ * Saves the box's rule set, its program, variables and memory, in a form that another box loads: the bytes go to the output
+ * from call->outpos on, whole or not at all (NIBL_OUTPUT_FULL), at most NIBL_SAVED_MOST. Nothing else is changed, the pause
+ * neither. The input, the table, the sense byte and the budget are not looked at: NULL, 0 will do.
+ */
+void nibl_save(nibl_record *record, uint8_t *page, nibl_size page_len, uint8_t *memory, nibl_size memory_len,
+               const uint8_t *input, nibl_size input_len, uint8_t *output, nibl_size output_len, const nibl_call *call,
+               nibl_answer *answer, uint16_t *table, nibl_size table_len);
+
+/*
+ * Loads a saved form, which is the input, whole. Whatever page and record it is loaded over, the page then has the form's
+ * program, and what stood behind that stays; the memory, of the same length, and the variables are the form's; the stacks
+ * are empty and nothing is paused; of the flags bits 0 to 2 are kept; a table that is lent is made true. Refused, it changes
+ * nothing. The output, both positions, the sense byte and the budget are not looked at.
+ */
+void nibl_load(nibl_record *record, uint8_t *page, nibl_size page_len, uint8_t *memory, nibl_size memory_len,
+               const uint8_t *input, nibl_size input_len, uint8_t *output, nibl_size output_len, const nibl_call *call,
+               nibl_answer *answer, uint16_t *table, nibl_size table_len);
 
 /* The layout that the library was compiled for, type by type and field by field. */
 #ifdef __cplusplus
