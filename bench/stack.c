@@ -26,16 +26,19 @@ static const uint8_t *frame;
 
 /* What the next call is lent: makecontext hands no pointers over. */
 static const char *input;
-static size_t budget;
-static int continues;
+static size_t budget, length;
 static uint8_t tabled;
+
+/* The call that is made: all have one signature. */
+typedef void entry(nibl_record *, uint8_t *, nibl_size, uint8_t *, nibl_size, const uint8_t *, nibl_size, uint8_t *,
+                   nibl_size, const nibl_call *, nibl_answer *, uint16_t *, nibl_size);
+static entry *made;
 
 static void call(void) {
     nibl_call numbers = {.inpos = 0, .outpos = 0, .sense = 0, .budget = budget, .tabled = tabled};
     frame = __builtin_frame_address(0);
-    (continues ? nibl_continue_run : nibl_take_line)(&record, page, sizeof page, memory, sizeof memory,
-                                                     (const uint8_t *)input, strlen(input), output, NIBL_OUTPUT_MOST,
-                                                     &numbers, &answer, table, NIBL_TABLE_LEAST);
+    made(&record, page, sizeof page, memory, sizeof memory, (const uint8_t *)input, length, output, NIBL_OUTPUT_MOST,
+         &numbers, &answer, table, NIBL_TABLE_LEAST);
 }
 
 static size_t depth(void) {
@@ -54,8 +57,9 @@ static size_t depth(void) {
 
 static size_t typed(const char *text, size_t steps) {
     input = text;
+    length = strlen(text);
     budget = steps;
-    continues = 0;
+    made = nibl_take_line;
     return depth();
 }
 
@@ -104,8 +108,25 @@ static void lend_output(void) {
 
 static size_t continued(const char *replies) {
     input = replies;
+    length = strlen(replies);
     budget = NIBL_BUDGET_MOST;
-    continues = 1;
+    made = nibl_continue_run;
+    return depth();
+}
+
+static size_t saved(void) {
+    length = 0;
+    made = nibl_save;
+    return depth();
+}
+
+/* Of what was saved last. */
+static size_t loaded(void) {
+    static uint8_t form[NIBL_SAVED_MOST];
+    length = answer.outpos;
+    memcpy(form, output, length);
+    input = (const char *)form;
+    made = nibl_load;
     return depth();
 }
 
@@ -158,6 +179,8 @@ static void measure(void) {
     fill();
     show("a line stored on a full page", typed("1000 A=A+2:PRINT A,B,\"X\",C\r", 0));
     show("LIST of a full page", typed("LIST\r", 0));
+    show("a full page saved", saved());
+    show("a full page loaded", loaded());
     show("a refused line, its spot found", typed("PRINT A,B,\"X\",C;D\r", 0));
     start();
     store("10 FOR I=1 TO 3:GOSUB 100:NEXT I:INPUT A,B:PRINT A,B,\"X\",C:END\r");

@@ -102,9 +102,9 @@ pub fn made_by_library(
     numbers: nibl::Call,
     lending: Lending,
 ) -> Result<Left, &'static str> {
-    let lend = |bytes: &Vec<u8>| Lent::new(bytes, lending);
+    let lend = |bytes: &[u8]| Lent::new(bytes, lending);
     let (mut page, mut memory) = (lend(&case.page), lend(&case.memory));
-    let (mut input, mut output) = (lend(&case.input), lend(&case.output));
+    let (mut input, mut output) = (lend(case.slice()), lend(&case.output));
     let mut table = case.table.as_ref().map(|table| Lent::new(table, lending));
     let mut record = LentRecord::new(record, lending);
     let lent = nibl::Lent {
@@ -125,7 +125,7 @@ pub fn made_by_library(
             "numbers beside the table",
             table.as_ref().is_none_or(Lent::is_whole),
         ),
-        ("the input", *input.values() == *case.input),
+        ("the input", *input.values() == *case.slice()),
     ];
     match kept.into_iter().find(|(_, kept)| !kept) {
         Some((touched, _)) => Err(touched),

@@ -15,6 +15,8 @@ fn entry(call: Call) -> fn(&mut nibl::Record, nibl::Lent, nibl::Call) -> nibl::A
     match call {
         Call::Line => nibl::take_line,
         Call::Continue => nibl::continue_run,
+        Call::Save => nibl::save,
+        Call::Load => nibl::load,
     }
 }
 
@@ -26,7 +28,10 @@ pub fn run(case: &mut Case) -> Reading<model::Answer> {
     let lent = nibl::Lent {
         page: &mut case.page,
         memory: &mut case.memory,
-        input: &case.input,
+        input: match case.call {
+            Call::Load => &case.saved,
+            _ => &case.input,
+        },
         output: &mut case.output,
         table: case.table.as_deref_mut(),
     };

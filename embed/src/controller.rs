@@ -133,4 +133,46 @@ where
         let (record, lent) = self.lend(input, output);
         gate::continue_run(record, lent, call)
     }
+
+    /// Saves program, variables and memory to the output, from `outpos` on, in a form that another box loads. It is whole or not
+    /// there ([`Stop::OutputFull`](crate::Stop::OutputFull)), of at most [`SAVED_MOST`](crate::SAVED_MOST) bytes, and the answer's
+    /// `outpos` is its end. Nothing else is changed, and a paused run stays paused.
+    ///
+    /// ```
+    /// use nibl::{Call, Controller, Stop, SAVED_MOST};
+    ///
+    /// let mut old = Controller::owned(4096, 2);
+    /// old.take_line(b"10 PRINT A\r", &mut [], Call::default());
+    /// old.take_line(b"A=258\r", &mut [], Call::default());
+    /// let mut form = [0; SAVED_MOST];
+    /// let saved = old.save(&mut form, 0);
+    /// assert_eq!((saved.stop, saved.outpos), (Stop::Done, 72));
+    ///
+    /// let mut new = Controller::owned(200, 2);
+    /// assert_eq!(new.load(&form[..saved.outpos]).stop, Stop::Done);
+    /// assert_eq!(new.record.vars, old.record.vars);
+    /// assert_eq!(new.page[..14], old.page[..14]);
+    /// ```
+    pub fn save(&mut self, output: &mut [u8], outpos: usize) -> Answer {
+        let (record, lent) = self.lend(&[], output);
+        gate::save(record, lent, Call::at(0, outpos, 0))
+    }
+
+    /// Loads a saved form: the page has its program, whatever it held before, and its bytes behind that stay; variables and
+    /// memory are the form's. The stacks are emptied, a paused run is ended, bits 0 to 2 of the flags are kept, and a table that is
+    /// lent is made true. Refused, it changes nothing: no form is [`Stop::OtherForm`](crate::Stop::OtherForm), a damaged one
+    /// [`Stop::BadForm`](crate::Stop::BadForm), one of another memory's length [`Stop::OtherMemory`](crate::Stop::OtherMemory),
+    /// and one that the page has no room for [`Stop::PageFull`](crate::Stop::PageFull).
+    ///
+    /// ```
+    /// use nibl::{Controller, Stop};
+    ///
+    /// let mut gate = Controller::owned(4096, 0);
+    /// assert_eq!(gate.load(b"").stop, Stop::OtherForm);
+    /// assert_eq!(gate.load(&[1]).stop, Stop::BadForm);
+    /// ```
+    pub fn load(&mut self, form: &[u8]) -> Answer {
+        let (record, lent) = self.lend(form, &mut []);
+        gate::load(record, lent, Call::default())
+    }
 }

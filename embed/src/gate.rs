@@ -77,7 +77,7 @@ macro_rules! entries {
     };
 }
 
-entries!(nibl_take_line nibl_continue_run: (
+entries!(nibl_take_line nibl_continue_run nibl_save nibl_load: (
     record: *mut Record,
     page: *mut u8,
     page_len: Size,
@@ -152,6 +152,21 @@ pub fn continue_run(record: &mut Record, lent: Lent, call: Call) -> Answer {
     make(nibl_continue_run, record, Given::of(call, &lent), lent)
 }
 
+/// Saves the rule set to the output, for a host that keeps what it lends apart: see [`Controller::save`](crate::Controller::save). Of
+/// the call's numbers `outpos` alone is looked at; the input and a table are not.
+pub fn save(record: &mut Record, lent: Lent, call: Call) -> Answer {
+    make(nibl_save, record, Given::of(call, &lent), lent)
+}
+
+/// Loads a saved form, which is the input, whole, for a host that keeps what it lends apart: see
+/// [`Controller::load`](crate::Controller::load). The output and the call's numbers are not looked at.
+pub fn load(record: &mut Record, lent: Lent, call: Call) -> Answer {
+    make(nibl_load, record, Given::of(call, &lent), lent)
+}
+
+/// Bytes of the longest saved form: of a full page and the longest memory.
+pub const SAVED_MOST: usize = 8248;
+
 #[cfg(test)]
 mod tests {
     use std::string::ToString;
@@ -182,8 +197,13 @@ mod tests {
             assert_eq!(table, [7; 3]);
             answer.stop
         };
-        for entry in [nibl_take_line as Entry, nibl_continue_run] {
-            assert_eq!(stop(entry, 0), Stop::Done);
+        let calls: [(Entry, Stop); 3] = [
+            (nibl_take_line, Stop::Done),
+            (nibl_continue_run, Stop::Done),
+            (nibl_load, Stop::OtherForm),
+        ];
+        for (entry, unlent) in calls {
+            assert_eq!(stop(entry, 0), unlent);
             for tabled in 1..=255 {
                 assert_eq!(stop(entry, tabled), Stop::OutOfRange);
             }

@@ -1,9 +1,9 @@
 //! The milking gate's controller: a proved NIBL interpreter, linked in.
 //!
-//! A [`Controller`] holds a page (the program), a memory and the session [`Record`]. Two calls exist:
-//! [`Controller::take_line`] takes one typed line, [`Controller::continue_run`] goes on with a paused run. Both read an
-//! input, write to an output, run at most a budget of steps, and come back with an [`Answer`], whose [`Stop`] says why.
-//! No call blocks, takes from the heap or panics, whatever is lent.
+//! A [`Controller`] holds a page (the program), a memory and the session [`Record`]. [`Controller::take_line`] takes one typed
+//! line, [`Controller::continue_run`] goes on with a paused run: both read an input, write to an output, and run at most a
+//! budget of steps. [`Controller::save`] and [`Controller::load`] carry a rule set to another box. Each call comes back with an
+//! [`Answer`], whose [`Stop`] says why. No call blocks, takes from the heap or panics, whatever is lent.
 //!
 //! ```
 //! use nibl::{Call, Controller, Stop};
@@ -68,7 +68,7 @@ struct Embedding;
 
 pub use answer::{Answer, Call, LINE_MOST, NO_LINE};
 pub use controller::{empty_page, Controller};
-pub use gate::{continue_run, take_line, version, Lent};
+pub use gate::{continue_run, load, save, take_line, version, Lent, SAVED_MOST};
 pub use record::{ForEntry, ForStack, PlaceStack, Record, MARK, NOWHERE, START};
 pub use stop::Stop;
 pub use stored::{RECORD_BYTES, RECORD_FORM};

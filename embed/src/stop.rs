@@ -46,12 +46,18 @@ pub enum Stop {
     BadRecord = 19,
     /// END.
     End = 20,
+    /// Load: another form number, or none.
+    OtherForm = 22,
+    /// Load: counts, records or length wrong.
+    BadForm = 23,
+    /// Load: the form's memory has another length.
+    OtherMemory = 24,
     /// A table that does not describe the page.
     BadTable = 26,
 }
 
 /// Every stop with what it means and what it did, in order of the numbers.
-const ROWS: [(Stop, &str, &str); 21] = [
+const ROWS: [(Stop, &str, &str); 24] = [
     (Stop::Done, "done", "all that was asked was done"),
     (
         Stop::OutOfRange,
@@ -133,6 +139,21 @@ const ROWS: [(Stop, &str, &str); 21] = [
     ),
     (Stop::End, "END", "nothing was run after it"),
     (
+        Stop::OtherForm,
+        "no saved form, or one of another number",
+        "nothing was changed",
+    ),
+    (
+        Stop::BadForm,
+        "a damaged form: counts, lines or length wrong",
+        "nothing was changed",
+    ),
+    (
+        Stop::OtherMemory,
+        "the form's memory has another length",
+        "nothing was changed",
+    ),
+    (
         Stop::BadTable,
         "the table does not describe the page",
         "nothing was changed",
@@ -206,8 +227,8 @@ mod tests {
     use super::*;
 
     #[test]
-    fn the_stops_are_the_numbers_up_to_20_without_4_and_then_26() {
-        let wanted: Vec<u8> = (0..=3).chain(5..=20).chain([26]).collect();
+    fn the_stops_are_the_numbers_up_to_20_without_4_and_then_22_to_24_and_26() {
+        let wanted: Vec<u8> = (0..=3).chain(5..=20).chain([22, 23, 24, 26]).collect();
         assert_eq!(Stop::ALL.map(Stop::number).to_vec(), wanted);
         for number in 0..=255 {
             let known = wanted.contains(&number).then_some(number);

@@ -97,6 +97,14 @@ impl Case {
         }
     }
 
+    /// What the call reads: a load its form, any other the input.
+    pub fn slice(&self) -> &[u8] {
+        match self.call {
+            Call::Load => &self.saved,
+            _ => &self.input,
+        }
+    }
+
     /// Makes the call. Afterwards the case holds what the call left.
     pub fn run(&mut self) -> Answer {
         let lent = Lent {

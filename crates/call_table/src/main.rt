@@ -1,4 +1,4 @@
-// Makes the calls of the cases of standard input by the proved `calls`, and writes what each left, to be held against what the
+// Makes the calls of the cases of standard input by the proved `calls` and `carry`, and writes what each left, to be held against what the
 // model's calls leave of the same bytes. The input has the number of cases, and then of each its name, after one byte for its
 // length; the page, the memory, the input and the output; the table of line places; where the first call reads and writes; the
 // session record; and the calls, after one byte for their number, each of which says whether it is lent the table. The calls of a
@@ -299,7 +299,7 @@ fn row(ended: Ended, from: usize, page: &[u8], memory: &[u8], output: &[u8], tab
     say(b"\n");
 }
 
-// A typed line for kind 0, else a continued run.
+// A typed line for kind 0, a continued run for 1, a save for 2, else a load, whose form is the input.
 fn make_call(
     kind: u8,
     rec: Session,
@@ -313,7 +313,13 @@ fn make_call(
     if kind == 0 {
         return calls::take_line(rec, page, memory, input, output, given, table);
     }
-    calls::continue_run(rec, page, memory, input, output, given, table)
+    if kind == 1 {
+        return calls::continue_run(rec, page, memory, input, output, given, table);
+    }
+    if kind == 2 {
+        return carry::save(rec, page, memory, input, output, given, table);
+    }
+    carry::load(rec, page, memory, input, output, given, table)
 }
 
 // The next call, with its row.

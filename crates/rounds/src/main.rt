@@ -366,6 +366,48 @@ fn prints(page: &mut [u8], line: &[u8]) -> u16
     add(sum, wide(output[2000]))
 }
 
+// A page and 1,024 bytes of memory are saved: the stop, where the form ends, and a byte of it.
+fn saves(page: &mut [u8]) -> u16
+    ensures { λ _. ⌜ length (now (page .exit)) ≡ length (now (page .entry)) ⌝ }
+{
+    let mut memory = [7u8; 1024];
+    let input = [0u8; 1];
+    let mut output = [0u8; 5176];
+    let mut unlent = [0u16; 1];
+    let ended = carry::save(
+        Session::fresh(),
+        page,
+        &mut memory,
+        &input,
+        &mut output,
+        from_the_front(0),
+        &mut unlent,
+    );
+    let answer = ended.answer;
+    let sum = add(answer.stop as u16, answer.outpos);
+    add(sum, wide(output[2000]))
+}
+
+// A form of a page and 1,024 bytes of memory is loaded: the stop, a byte of the page, and one of the memory.
+fn loads(form: &[u8]) -> u16 {
+    let mut page = [0u8; 4096];
+    let mut memory = [0u8; 1024];
+    let mut output = [0u8; 1];
+    let mut unlent = [0u16; 1];
+    let ended = carry::load(
+        Session::fresh(),
+        &mut page,
+        &mut memory,
+        form,
+        &mut output,
+        from_the_front(0),
+        &mut unlent,
+    );
+    let answer = ended.answer;
+    let sum = add(answer.stop as u16, wide(page[2000]));
+    add(sum, wide(memory[1000]))
+}
+
 fn byte_value(b: u8) -> u16 {
     b as u16
 }
@@ -424,6 +466,8 @@ fn round(work: u16, bytes: &mut [u8], ops: &mut [u32]) -> u16
         18 => numbers(bytes),
         19 => prints(bytes, b"RUN\r"),
         20 => prints(bytes, b"LIST\r"),
+        21 => saves(bytes),
+        22 => loads(bytes),
         _ => 0,
     }
 }

@@ -24,8 +24,8 @@
 use std::io::{self, BufWriter, Write};
 use std::process::ExitCode;
 
-use model::random::cases::case;
 use model::random::damage::{refused, typed};
+use model::random::forms::any_case;
 use model::random::lines::{kept, verdict};
 use model::random::sessions::session;
 use model::random::{Random, Size};
@@ -68,7 +68,7 @@ fn write(order: &Order) -> io::Result<()> {
         }
         "cases" => {
             for _ in 0..order.count {
-                writeln!(sink, "{}", case(&mut random, order.size).write())?;
+                writeln!(sink, "{}", any_case(&mut random, order.size).write())?;
             }
         }
         _ => {

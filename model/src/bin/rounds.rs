@@ -19,7 +19,8 @@ use model::table::{walk, TABLE_LEAST};
 use model::tree::Tree;
 use model::value::printed;
 use model::words::{Word, Words};
-use model::{continue_run, take_line, ForEntry, ForStack, Lent, Pause, Place, PlaceStack, Record};
+use model::{continue_run, load, save, take_line};
+use model::{ForEntry, ForStack, Lent, Pause, Place, PlaceStack, Record};
 
 /// A line in the middle of a full page of rule lines, and the texts that it has in turn, of which the second is its own.
 const MIDDLE: LineNumber = LineNumber(510);
@@ -327,6 +328,52 @@ fn prints(page: &mut [u8], line: &str) -> u16 {
     add(found.into_iter().fold(0, add), output[2000])
 }
 
+/// Bytes of the memory that is saved, and of the form of a full page with it.
+const MEMORY: usize = 1024;
+const FORM: usize = 56 + 4096 + MEMORY;
+
+/// A page and its memory lent, and this room for a form.
+fn lent<'a>(page: &'a mut [u8], memory: &'a mut [u8], output: &'a mut [u8]) -> Lent<'a> {
+    Lent {
+        page,
+        memory,
+        input: &[],
+        output,
+        input_position: 0,
+        output_position: 0,
+        sense: 0,
+        budget: 0,
+        table: None,
+    }
+}
+
+/// A page and a memory are saved: the stop, where the form ends, and a byte of it.
+fn saves(page: &mut [u8]) -> u16 {
+    let output = &mut [0; FORM];
+    let answer = save(&Record::default(), lent(page, &mut [7; MEMORY], output));
+    let found = [answer.stop as usize, answer.output_position as usize];
+    add(found.into_iter().fold(0, add), output[2000])
+}
+
+/// A form is loaded: the stop, a byte of the page, and one of the memory.
+fn loads(form: &[u8]) -> u16 {
+    let (page, memory) = (&mut [0; 4096], &mut [0; MEMORY]);
+    let answer = load(&mut Record::default(), lent(page, memory, &mut []), form);
+    let found = [page[2000], memory[1000]].map(usize::from);
+    found.into_iter().fold(answer.stop as u16, add)
+}
+
+/// The form of a full page.
+fn saved() -> Vec<u8> {
+    let mut output = vec![0; FORM];
+    let mut page = full_page(&RULES);
+    save(
+        &Record::default(),
+        lent(&mut page, &mut [7; MEMORY], &mut output),
+    );
+    output
+}
+
 /// Numbers of one to five digits, and a program that prints them till the output is full.
 const NUMBERS: [i16; 5] = [7, 42, -510, 1976, -30005];
 
@@ -383,7 +430,7 @@ fn input(work: &str) -> Option<Vec<u8>> {
     match work {
         "0" => Some(text()),
         "1t" => Some(full_page(&TOGETHER)),
-        "1" | "2" | "3" | "4" | "8" | "10" | "11" => Some(full_page(&RULES)),
+        "1" | "2" | "3" | "4" | "8" | "10" | "11" | "21" => Some(full_page(&RULES)),
         "5" | "6" | "7" => Some(lines()),
         "9" => Some(assigning()),
         "12" => Some(nested()),
@@ -392,6 +439,7 @@ fn input(work: &str) -> Option<Vec<u8>> {
         "18" => Some(values()),
         "19" => Some(printing()),
         "20" => Some(wide_lines()),
+        "22" => Some(saved()),
         _ => {
             let (_, line) = ALONE.iter().find(|(name, _)| *name == work)?;
             Some(line.as_bytes().to_vec())
@@ -459,6 +507,8 @@ fn run(input: &[u8]) -> Option<u16> {
         "18" => Some(repeat(rounds, || numbers_written(black_box(page)))),
         "19" => Some(repeat(rounds, || prints(black_box(page), "RUN\r"))),
         "20" => Some(repeat(rounds, || prints(black_box(page), "LIST\r"))),
+        "21" => Some(repeat(rounds, || saves(black_box(page)))),
+        "22" => Some(repeat(rounds, || loads(black_box(bytes)))),
         _ => None,
     }
 }

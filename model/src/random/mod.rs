@@ -7,6 +7,7 @@ pub mod cases;
 pub mod damage;
 pub mod edits;
 pub mod faults;
+pub mod forms;
 pub mod lines;
 pub mod pages;
 pub mod records;

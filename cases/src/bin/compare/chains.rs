@@ -5,6 +5,7 @@ use model::page::read_page;
 use model::random::cases::{budget, case, input, memory};
 use model::random::edits::{any_sequence, Sequence};
 use model::random::faults::{FAULTY, SOUND};
+use model::random::forms::carrying;
 use model::random::pages::{any_page, program, render, Lines};
 use model::random::records::{any_record, crowd, fitting, misplace, overdo};
 use model::random::tables::any_table;
@@ -20,7 +21,7 @@ pub type Hold<'a> = dyn FnMut(&mut Trial) -> Option<Answer> + 'a;
 
 /// A case of any kind, and perhaps some calls more.
 pub fn chain(random: &mut Random, hold: &mut Hold) {
-    match random.weighted(&[50, 14, 5, 12, 8, 3, 8]) {
+    match random.weighted(&[50, 14, 5, 12, 8, 3, 8, 12]) {
         0 => any(random, Size::Full, hold),
         1 => any(random, Size::Small, hold),
         2 => {
@@ -30,8 +31,34 @@ pub fn chain(random: &mut Random, hold: &mut Hold) {
         3 => drop(hold(&mut fitted(random))),
         4 => drop(hold(&mut bits(random))),
         5 => drop(hold(&mut far(random))),
-        _ => drop(hold(&mut gathered(random))),
+        6 => drop(hold(&mut gathered(random))),
+        _ => carried(random, hold),
     }
+}
+
+/// A save or a load of any kind; and what a save wrote loaded by another box, which then saves it again.
+fn carried(random: &mut Random, hold: &mut Hold) {
+    let size = *random.pick(&[Size::Small, Size::Full]);
+    let mut trial = Trial::new(carrying(random, size));
+    let (call, from) = (trial.case.call, trial.case.output_position as usize);
+    let Some(answer) = hold(&mut trial) else {
+        return;
+    };
+    let mut other = Trial::new(carrying(random, size)).case;
+    if call == Call::Save && answer.stop == Stop::Done {
+        let form = trial.case.output[from..answer.output_position as usize].to_vec();
+        other.call = Call::Load;
+        other.memory.resize(trial.case.memory.len(), 0);
+        other.saved = form;
+        trial = Trial::new(other);
+        if hold(&mut trial).is_none_or(|answer| answer.stop != Stop::Done) {
+            return;
+        }
+    }
+    // On what a load left any call goes on.
+    let mut case = trial.case;
+    case.call = *random.pick(&Call::ALL);
+    hold(&mut Trial::new(case));
 }
 
 fn any(random: &mut Random, size: Size, hold: &mut Hold) {

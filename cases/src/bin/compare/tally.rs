@@ -23,14 +23,22 @@ pub struct Tally {
     /// Calls with another pause than the case's, which the library's record cannot say.
     pub rewritten: usize,
     pub differ: usize,
-    /// By stop number: typed lines, continued runs.
-    stops: [[usize; 2]; NUMBERS],
+    /// By stop number, for each call.
+    stops: [[usize; Call::ALL.len()]; NUMBERS],
 }
 
-/// A continued run reads no typed line and edits nothing.
+/// A continued run reads no typed line and edits nothing; saves and loads have refusals of their own.
 fn can_give(call: Call, stop: Stop) -> bool {
-    let of_lines = [Stop::PageFull, Stop::NotImmediate, Stop::NoReading];
-    call == Call::Line || !of_lines.contains(&stop)
+    use Stop::*;
+    let of_loads = [OtherForm, BadForm, OtherMemory];
+    match call {
+        Call::Line => !of_loads.contains(&stop),
+        Call::Continue => {
+            ![PageFull, NotImmediate, NoReading].contains(&stop) && !of_loads.contains(&stop)
+        }
+        Call::Save => [Done, OutOfRange, BadPage, BadRecord, OutputFull].contains(&stop),
+        Call::Load => [Done, OutOfRange, PageFull].contains(&stop) || of_loads.contains(&stop),
+    }
 }
 
 impl Tally {
@@ -44,7 +52,7 @@ impl Tally {
             skipped: 0,
             rewritten: 0,
             differ: 0,
-            stops: [[0; 2]; NUMBERS],
+            stops: [[0; Call::ALL.len()]; NUMBERS],
         }
     }
 
@@ -68,11 +76,15 @@ impl Tally {
     /// Prints the counts, and hands back whether all is well.
     pub fn finish(&self) -> bool {
         let mut missing = 0;
-        println!("stop  typed lines  continued runs");
+        println!("stop  typed lines  continued runs    saves    loads");
         for stop in Stop::ALL {
-            let [lines, runs] = self.stops[usize::from(stop.number())];
-            println!("{:4}  {lines:11}  {runs:14}", stop.number());
-            for (call, count) in [(Call::Line, lines), (Call::Continue, runs)] {
+            let counts = self.stops[usize::from(stop.number())];
+            let [lines, runs, saves, loads] = counts;
+            println!(
+                "{:4}  {lines:11}  {runs:14}  {saves:7}  {loads:7}",
+                stop.number()
+            );
+            for (call, count) in Call::ALL.into_iter().zip(counts) {
                 missing += usize::from(count == 0 && can_give(call, stop));
             }
         }

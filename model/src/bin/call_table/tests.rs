@@ -22,15 +22,20 @@ fn stops_and_columns_are_those_of_the_documents() {
     }
 }
 
-/// A continued run takes no line, so that it cannot be one that does not fit, has no reading or is not immediate.
+/// A continued run takes no line, so that it cannot be one that does not fit, has no reading or is not immediate. Saves and loads have
+/// refusals of their own.
 #[test]
 fn every_stop_comes_up_in_each_call_that_can_give_it() {
     let cases = cases();
     let of_lines = [Stop::PageFull, Stop::NotImmediate, Stop::NoReading];
+    let of_loads = [Stop::OtherForm, Stop::BadForm, Stop::OtherMemory];
     for stop in Stop::ALL {
-        assert!(count(&cases, Call::Line, stop) > 0, "{stop:?}");
-        let by_runs = count(&cases, Call::Continue, stop) > 0;
-        assert_eq!(by_runs, !of_lines.contains(&stop), "{stop:?}");
+        let by = Call::ALL.map(|call| count(&cases, call, stop) > 0);
+        let typed = !of_loads.contains(&stop);
+        let ran = typed && !of_lines.contains(&stop);
+        let saved = [0, 1, 17, 18, 19].contains(&stop.number());
+        let loaded = [0, 1, 2, 22, 23, 24].contains(&stop.number());
+        assert_eq!(by, [typed, ran, saved, loaded], "{stop:?}");
     }
 }
 
@@ -42,6 +47,10 @@ fn a_lent_table_describes_the_page_or_is_refused() {
             let before = case.gate.clone();
             let stop = case.gate.call(numbers).stop;
             let first = [Stop::OutOfRange, Stop::BadPage, Stop::BadTable].contains(&stop);
+            if [Call::Save, Call::Load].contains(&numbers.call) && stop != Stop::Done {
+                assert_eq!(case.gate, before, "{}", case.name);
+                continue;
+            }
             lent += usize::from(numbers.tabled);
             if !numbers.tabled {
                 assert_eq!(case.gate.table, before.table, "{}", case.name);

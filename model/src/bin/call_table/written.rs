@@ -219,6 +219,16 @@ impl Written {
         self.calls(Call::Continue, budget, (stop, 0))
     }
 
+    /// Saves the rule set, and stops so.
+    pub fn saves(self, stop: u8) -> Written {
+        self.calls(Call::Save, ENOUGH, (stop, 0))
+    }
+
+    /// Loads the input, and stops so.
+    pub fn loads(self, stop: u8) -> Written {
+        self.calls(Call::Load, ENOUGH, (stop, 0))
+    }
+
     /// The same under a longer name.
     pub fn named(mut self, addition: &str) -> Written {
         self.name += addition;

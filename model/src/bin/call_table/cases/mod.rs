@@ -1,6 +1,7 @@
 //! The written cases, in the order of the stops that a call looks for: those that both calls refuse, what a typed line
-//! does, runs, calls that follow one another, and all of these with a table of line places.
+//! does, runs, calls that follow one another, all of these with a table of line places, and saves and loads.
 
+mod carried;
 mod chains;
 mod lines;
 mod refusals;
@@ -19,6 +20,7 @@ pub fn cases() -> Vec<Written> {
         runs::cases,
         chains::cases,
         tables::cases,
+        carried::cases,
     ];
     chapters.iter().flat_map(|chapter| chapter()).collect()
 }
