@@ -5,7 +5,8 @@ use crate::case::{Case, Second};
 use crate::early::{Books, By};
 use crate::gate::Gate;
 use crate::leftpage::{left_page, refusal};
-use crate::picture::{picture, Shown};
+use crate::paths::Paths;
+use crate::picture::{picture, Change, Shown};
 use crate::remarks::remarks;
 use crate::report;
 use crate::summary;
@@ -100,17 +101,39 @@ impl<'a> Run<'a> {
     }
 
     fn picture(&mut self) -> Result<String, String> {
-        let [first_name, second_name] = names(self.case);
-        let mut book = changed(self.case)?;
-        let mut shown = vec![Shown::new(first_name, &mut book, &self.first)?];
-        if let Some(second) = &mut self.second {
-            shown.push(Shown::new(
-                second_name,
-                &mut second.books.second,
-                &second.lived,
-            )?);
+        let case = self.case;
+        let [first_name, second_name] = names(case);
+        let (mut monday, mut book) = (case.monday()?, changed(case)?);
+        let change = Change {
+            name: first_name.clone(),
+            listing: monday.listing()?,
+        };
+        let mut paths = Paths::default();
+        let mut show = |name, told, gate: &mut Gate| {
+            let ways = match case.shows_lines {
+                true => paths.of(told, case.changed, [&mut monday, gate])?,
+                false => Vec::new(),
+            };
+            Ok::<_, String>((name, gate.listing()?, ways))
+        };
+        let mut weeks = vec![(
+            show(first_name, &self.first.outcomes, &mut book)?,
+            &self.first,
+        )];
+        if let Some(SecondTold { lived, books, .. }) = &mut self.second {
+            weeks.push((
+                show(second_name, &lived.outcomes, &mut books.second)?,
+                lived,
+            ));
         }
-        Ok(picture(self.case, &shown))
+        let shown = |((name, listing, ways), told)| Shown {
+            name,
+            listing,
+            told,
+            ways,
+        };
+        let weeks: Vec<Shown> = weeks.into_iter().map(shown).collect();
+        Ok(picture(case, &change, &weeks, &paths))
     }
 
     pub fn summary(&mut self) -> Result<String, String> {

@@ -17,7 +17,7 @@ const TOLD: usize = 12;
 
 /// The sums of the week, its boxes, days and rules; those of the cows are in the file.
 pub fn counts(case: &Case, sums: &[Sum]) -> String {
-    let mut text = match &case.monday {
+    let mut text = match &case.date {
         Some(date) => format!("The week from Monday, {date}:\n"),
         None => String::new(),
     };
