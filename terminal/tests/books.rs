@@ -4,7 +4,9 @@ use std::fs;
 use std::path::PathBuf;
 use std::process::{Command, Output};
 
+use nibl::{Call, Controller, Stop};
 use nibl_terminal::check::{check, total, Checked, Grade};
+use nibl_terminal::why::no_reading;
 
 fn root(path: &str) -> PathBuf {
     PathBuf::from(env!("CARGO_MANIFEST_DIR"))
@@ -48,7 +50,10 @@ fn a_book_with_nothing_wrong() {
 
 #[test]
 fn refused_lines_are_errors_at_their_bytes() {
-    assert_eq!(one("20 PRINT"), [":2:9: error: the line ends too soon"]);
+    assert_eq!(
+        one("20 PRINT"),
+        [":2:9: error: the line ends too soon: something must follow PRINT"]
+    );
     assert_eq!(one("20 print A"), [":2:4: error: words are in capitals"]);
     assert_eq!(
         one(&format!("20 REM {}", "X".repeat(68))),
@@ -249,6 +254,50 @@ fn the_guide_has_every_warning() {
         let name = row["--no-".len()..].split(' ').next().expect("a name");
         assert!(guide.contains(&format!("| `{name}` | ")), "{name}");
     }
+}
+
+/// What stands between backquotes.
+fn code(text: &str) -> impl Iterator<Item = &str> {
+    text.split('`').skip(1).step_by(2)
+}
+
+/// The first stop that a line is answered with in a fresh session, and its column.
+fn stop(line: &str) -> (Stop, u16) {
+    let input = format!("{line}\r");
+    let mut controller = Controller::owned(4096, 1024);
+    let answer = controller.take_line(input.as_bytes(), &mut [0; 256], Call::at(0, 0, 0));
+    (answer.stop, answer.column)
+}
+
+#[test]
+fn what_the_guide_says_of_other_basics_is_so() {
+    let text = fs::read_to_string(root("docs/GUIDE.md")).expect("the guide is there");
+    let (_, rest) = text
+        .split_once("## If you know another BASIC")
+        .expect("a chapter");
+    let (chapter, _) = rest.split_once("\n## ").expect("another one");
+    let mut count = 0;
+    for row in chapter.lines().filter(|row| row.starts_with("| `")) {
+        let mut cells = row.split(" | ");
+        let (theirs, ours) = (cells.next().expect("theirs"), cells.next().expect("ours"));
+        for line in code(theirs).filter(|line| line.len() > 2) {
+            let (stop, column) = stop(line);
+            if line == "IF NOT (A=B) END" {
+                assert_eq!(stop, Stop::End, "{line}"); // it is taken, and that is the trap
+            } else {
+                assert_eq!(stop, Stop::NoReading, "{line}");
+                let why = no_reading(line.as_bytes(), 0, column);
+                assert!(why.is_some(), "{line}: nothing is said of it");
+            }
+            count += 1;
+        }
+        for line in code(ours).filter(|line| line.len() > 2 && !line.starts_with('.')) {
+            let numbered = format!("10 {line}");
+            let read = stop(line).0 != Stop::NoReading || stop(&numbered).0 != Stop::NoReading;
+            assert!(read || line == "@A", "{line}");
+        }
+    }
+    assert!(count > 25, "{count}");
 }
 
 fn nibl(words: &[&str]) -> Output {
