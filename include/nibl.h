@@ -4,8 +4,7 @@
  * Everything is lent by the host and everything is kept by the host: the library has no state of its own, takes nothing
  * from the heap, and needs no other function than C's memcpy and memset. Only numbers, pointers and lengths cross. Any
  * bits may be lent: what is out of range, a bad page, a table of another page and a record that does not fit are refused
- * by a stop number, and change nothing. This header wants C11 or C++11, and a target of 64 bits. docs/EMBEDDING.md says
- * more.
+ * by a stop number, and change nothing. This header wants C11 or C++11. docs/EMBEDDING.md says more.
  */
 #ifndef NIBL_H
 #define NIBL_H
@@ -16,6 +15,24 @@
 #ifdef __cplusplus
 extern "C" {
 #endif
+
+/*
+ * The interface's number: another one for each change of a type, of a signature or of what a field means. The archive has
+ * it to the calls' names, so that a host that was compiled with the header of another interface does not link, where it
+ * would have lent what the calls read otherwise. A host writes the names without it. This line is the one place where it
+ * stands; tools/library and the Rust crate read it here.
+ */
+#define NIBL_VERSION 4
+#define NIBL_NUMBERED_AS(name, number) name##_##number
+#define NIBL_NUMBERED(name, number) NIBL_NUMBERED_AS(name, number)
+#define nibl_take_line NIBL_NUMBERED(nibl_take_line, NIBL_VERSION)
+#define nibl_continue_run NIBL_NUMBERED(nibl_continue_run, NIBL_VERSION)
+
+/* The archive's own number, under a name that every archive has: for a host that looks the calls up when it runs. */
+extern const uint32_t nibl_version;
+
+/* A length, a position, a depth or a budget: 64 bits on every target, as the module was proved for. */
+typedef uint64_t nibl_size;
 
 /* Lengths of what is lent, and other limits. */
 enum {
@@ -71,7 +88,7 @@ enum {
 
 /* The stack of GOSUB, and that of DO. A place is the position in the page of the ":" or the CR that ends a statement. */
 typedef struct {
-    size_t depth;                 /* so many slots are in use, the oldest first */
+    nibl_size depth;              /* so many slots are in use, the oldest first */
     uint16_t places[NIBL_GOSUBS]; /* where to go on after; on the GOSUB stack also NIBL_MARK */
 } nibl_places;
 
@@ -85,14 +102,14 @@ typedef struct {
 
 /* The stack of FOR. */
 typedef struct {
-    size_t depth;                /* so many slots are in use, the oldest first */
+    nibl_size depth;             /* so many slots are in use, the oldest first */
     nibl_for entries[NIBL_FORS]; /* the open FORs */
 } nibl_fors;
 
 /*
  * The session record: what the controller keeps between calls. A fresh one is all zeros. Every bit pattern is a record;
- * one that does not fit the page is refused with NIBL_BAD_RECORD. Compare records field by field: the bytes between the
- * fields are not kept.
+ * one that does not fit the page is refused with NIBL_BAD_RECORD. Two are to be compared by nibl_host_equal_records of
+ * nibl_host.h: the bytes between the fields are not kept, and what stands in a stack past its depth says nothing.
  */
 typedef struct {
     uint16_t vars[NIBL_VARIABLES]; /* A to Z: 16 bits, read as signed */
@@ -105,20 +122,20 @@ typedef struct {
 
 /* The numbers that a call is given. */
 typedef struct {
-    size_t inpos;   /* where to read in the input: 0 to its length */
-    size_t outpos;  /* where to write in the output: 0 to its length */
-    uint8_t sense;  /* the sense byte, of which STAT reads bits 4 and 5 */
-    size_t budget;  /* the steps that may run: 0 to NIBL_BUDGET_MOST */
-    uint8_t tabled; /* is a table lent? 0: none is; any other number: one is */
+    nibl_size inpos;  /* where to read in the input: 0 to its length */
+    nibl_size outpos; /* where to write in the output: 0 to its length */
+    uint8_t sense;    /* the sense byte, of which STAT reads bits 4 and 5 */
+    nibl_size budget; /* the steps that may run: 0 to NIBL_BUDGET_MOST */
+    uint8_t tabled;   /* is a table lent? 0: none is; any other number: one is */
 } nibl_call;
 
 /* What a call answers. */
 typedef struct {
-    uint8_t stop;   /* the stop number */
-    uint16_t line;  /* the line of the program statement that gave the stop, or NIBL_NO_LINE */
-    uint16_t steps; /* the steps that ran, the one that stopped included */
-    size_t inpos;   /* where to read next */
-    size_t outpos;  /* the end of what was written */
+    uint8_t stop;     /* the stop number */
+    uint16_t line;    /* the line of the program statement that gave the stop, or NIBL_NO_LINE */
+    uint16_t steps;   /* the steps that ran, the one that stopped included */
+    nibl_size inpos;  /* where to read next */
+    nibl_size outpos; /* the end of what was written */
     /* Of a typed line that was refused with NIBL_NO_READING: so many bytes of it, as it was kept, could still be the front
      * of a line with a reading; NIBL_LINE_MOST if it was over-long. 0 for every other stop. */
     uint16_t column;
@@ -131,7 +148,7 @@ typedef struct {
  * begins with 0.
  *
  * Calls keep it true: when a line is stored or deleted, and by NEW, they write the count, and the positions from that line
- * on. A host that changes the page itself, or restores one, makes the table anew: make_table in examples/embed/gate.c
+ * on. A host that changes the page itself, or restores one, makes the table anew: nibl_host_make_table of nibl_host.h
  * does. A table that does not describe the page is refused with NIBL_BAD_TABLE, one that is too short with
  * NIBL_OUT_OF_RANGE. A call answers the same with a true table and with none. To lend none: NULL, 0, and 0 for tabled.
  */
@@ -145,28 +162,29 @@ typedef struct {
  * The record, the page, the memory, the output and the table are changed where they stand; *answer is written. What is
  * lent must not overlap; a pointer may be null where its length is 0.
  */
-void nibl_take_line(nibl_record *record, uint8_t *page, size_t page_len, uint8_t *memory, size_t memory_len,
-                    const uint8_t *input, size_t input_len, uint8_t *output, size_t output_len, const nibl_call *call,
-                    nibl_answer *answer, uint16_t *table, size_t table_len);
+void nibl_take_line(nibl_record *record, uint8_t *page, nibl_size page_len, uint8_t *memory, nibl_size memory_len,
+                    const uint8_t *input, nibl_size input_len, uint8_t *output, nibl_size output_len,
+                    const nibl_call *call, nibl_answer *answer, uint16_t *table, nibl_size table_len);
 
 /*
  * Goes on with a run that was paused (NIBL_PAUSED), with a new budget. The input is read by INPUT alone. With nothing
  * paused it answers NIBL_DONE with 0 steps.
  */
-void nibl_continue_run(nibl_record *record, uint8_t *page, size_t page_len, uint8_t *memory, size_t memory_len,
-                       const uint8_t *input, size_t input_len, uint8_t *output, size_t output_len,
-                       const nibl_call *call, nibl_answer *answer, uint16_t *table, size_t table_len);
+void nibl_continue_run(nibl_record *record, uint8_t *page, nibl_size page_len, uint8_t *memory, nibl_size memory_len,
+                       const uint8_t *input, nibl_size input_len, uint8_t *output, nibl_size output_len,
+                       const nibl_call *call, nibl_answer *answer, uint16_t *table, nibl_size table_len);
 
 /* The layout that the library was compiled for, type by type and field by field. */
 #ifdef __cplusplus
 #define NIBL_HOLDS(what) static_assert(what, "the library was compiled for another layout of " #what)
 #define NIBL_TYPE(type, size, align) NIBL_HOLDS(sizeof(type) == size && alignof(type) == align);
+#define NIBL_FIELD(type, field, offset, size) NIBL_HOLDS(offsetof(type, field) == offset && sizeof(type::field) == size);
 #else
 #define NIBL_HOLDS(what) _Static_assert(what, "the library was compiled for another layout of " #what)
 #define NIBL_TYPE(type, size, align) NIBL_HOLDS(sizeof(type) == size && _Alignof(type) == align);
-#endif
 #define NIBL_FIELD(type, field, offset, size)                                                                          \
     NIBL_HOLDS(offsetof(type, field) == offset && sizeof(((type *)0)->field) == size);
+#endif
 #include "nibl.layout"
 #undef NIBL_FIELD
 #undef NIBL_TYPE

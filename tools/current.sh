@@ -1,6 +1,6 @@
 # Sourced by native and library, which stand in the repository's root then: is what they made current, the proof with its
-# progress, and the kit's compiler. They set `name`, the crate, and `made`, the file that they print the path of, and
-# have a function `build`, which writes $made.new.
+# progress, and the kit's compiler. They set `name`, the crate, and `made`, the file that is made, and have functions that
+# write it as $made.new.
 # shellcheck shell=bash
 room=$PWD/target/native machine=$(uname -m)
 kit=$(dirname "$(dirname "$(rt doc)")")
@@ -22,7 +22,7 @@ needed() {
         END { visit(crate) }' <(sed 's/#.*//' crates.txt)
 }
 
-# One number for all that the file is made from.
+# One number for all that a proved file is made from.
 state() {
     {
         rt version
@@ -32,8 +32,8 @@ state() {
     } | sha256sum
 }
 
-is_current() {
-    [ -e "$made" ] && [ "$(cat "$made.state" 2>/dev/null)" = "$now" ]
+is_current() { # STATE
+    [ -e "$made" ] && [ "$(cat "$made.state" 2>/dev/null)" = "$1" ]
 }
 
 minutes() { # SECONDS
@@ -69,13 +69,14 @@ logged() { # COMMAND..
     }
 }
 
-# A kit of links to the kit's files, but for a compiler that keeps the module it is given: as $made.bc.
+# A kit of links to the kit's files, but for a compiler that keeps the module that it is given, as $made.bc, and the words
+# that it was told with it, one to a line, as $made.words.
 link_kit() {
     local folder file
     mkdir -p "$room/kit/${tools#"$kit/"}/bin"
     cat >"$room/kit/${tools#"$kit/"}/bin/clang" <<END
 #!/bin/sh
-for word; do case \$word in *.bc) cp "\$word" "$made.bc" ;; esac; done
+for word; do case \$word in *.bc) cp "\$word" "$made.bc"; printf '%s\n' "\$@" >"$made.words" ;; esac; done
 exec "$tools/bin/clang" "\$@"
 END
     chmod +x "$room/kit/${tools#"$kit/"}/bin/clang"
@@ -87,26 +88,34 @@ END
     rm -f "$made.bc"
 }
 
-# Compiles the kept module for this machine: $made.o. What it says of x86-64 is left out.
-compile_here() { # WORDS.. for the compiler
-    "$tools/bin/clang" --target=x86_64-unknown-linux-gnu -S -emit-llvm -x ir "$made.bc" -o - |
-        sed -e '/^target /d' -e 's/"target-cpu"="x86-64"//' >"$made.ll" &&
-        "$tools/bin/clang" -Wno-override-module -O3 "$@" -c -x ir "$made.ll" -o "$made.o"
+# The kept module as text.
+module_text() {
+    "$tools/bin/clang" --target=x86_64-unknown-linux-gnu -S -emit-llvm -x ir "$made.bc" -o -
 }
 
-# Makes the file current and prints its path.
-main() {
-    now=$(state)
-    if ! is_current; then
-        exec 9>"$room/lock"
-        flock -n 9 || { say "waiting for another start that is proving"; flock 9; }
-        is_current || {
-            build
-            mv "$made.new" "$made"
-            echo "$now" >"$made.state"
-        }
-    fi
-    echo "$made"
+# A module's text for another target than the kit's: what it says of x86-64 is left out.
+for_any_target() {
+    sed -e '/^target /d' -e 's/"target-cpu"="x86-64"//'
+}
+
+# Compiles a module's text as the kit's compiler was told to, but for the target, which more words say.
+compile() { # TEXT OBJECT KIT'S-WORDS WORDS..
+    local words
+    mapfile -t words < <(sed -e '/^--target=/d' -e '/^-march=/d' -e '/^--sysroot=/d' -e "s,.*\\.bc\$,$1," -e "s,.*\\.o\$,$2," "$3")
+    "$tools/bin/clang" "${words[@]}" -Wno-override-module "${@:4}"
+}
+
+# Makes the file current by a function that writes $made.new, if it was made from something else.
+make_current() { # STATE FUNCTION
+    is_current "$1" && return
+    exec 9>"$room/lock"
+    flock -n 9 || { say "waiting for another start that is proving"; flock 9; }
+    is_current "$1" || {
+        "$2"
+        mv "$made.new" "$made"
+        echo "$1" >"$made.state"
+    }
+    exec 9>&-
 }
 
 mapfile -t crates < <(needed)

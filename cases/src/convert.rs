@@ -6,21 +6,21 @@ use nibl::{NOWHERE, START};
 
 fn places(stack: &model::PlaceStack) -> nibl::PlaceStack {
     nibl::PlaceStack {
-        depth: stack.depth,
+        depth: stack.depth as u64,
         places: stack.places.map(|place| place.0),
     }
 }
 
 fn model_places(stack: &nibl::PlaceStack) -> model::PlaceStack {
     model::PlaceStack {
-        depth: stack.depth,
+        depth: stack.depth as usize,
         places: stack.places.map(Place),
     }
 }
 
 fn fors(stack: &model::ForStack) -> nibl::ForStack {
     nibl::ForStack {
-        depth: stack.depth,
+        depth: stack.depth as u64,
         entries: stack.entries.map(|entry| nibl::ForEntry {
             var: entry.variable,
             limit: entry.limit as u16,
@@ -32,7 +32,7 @@ fn fors(stack: &model::ForStack) -> nibl::ForStack {
 
 fn model_fors(stack: &nibl::ForStack) -> model::ForStack {
     model::ForStack {
-        depth: stack.depth,
+        depth: stack.depth as usize,
         entries: stack.entries.map(|entry| model::ForEntry {
             variable: entry.var,
             limit: entry.limit as i16,

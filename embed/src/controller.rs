@@ -1,5 +1,8 @@
 //! A controller with all that it keeps between calls.
 
+use alloc::vec;
+use alloc::vec::Vec;
+
 use crate::answer::{Answer, Call};
 use crate::gate::{self, Lent};
 use crate::record::Record;

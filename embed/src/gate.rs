@@ -24,14 +24,17 @@ pub struct Lent<'a> {
     pub table: Option<&'a mut [u16]>,
 }
 
+/// `nibl_size` of `include/nibl.h`.
+type Size = u64;
+
 /// `nibl_call` of `include/nibl.h`.
 #[repr(C)]
 #[derive(Default)]
 pub(crate) struct Given {
-    pub(crate) inpos: usize,
-    pub(crate) outpos: usize,
+    pub(crate) inpos: Size,
+    pub(crate) outpos: Size,
     pub(crate) sense: u8,
-    pub(crate) budget: usize,
+    pub(crate) budget: Size,
     pub(crate) tabled: u8,
 }
 
@@ -42,8 +45,8 @@ pub(crate) struct Written {
     pub(crate) stop: u8,
     pub(crate) line: u16,
     pub(crate) steps: u16,
-    pub(crate) inpos: usize,
-    pub(crate) outpos: usize,
+    pub(crate) inpos: Size,
+    pub(crate) outpos: Size,
     pub(crate) column: u16,
 }
 
@@ -53,19 +56,23 @@ impl Written {
             stop: Stop::of(self.stop).expect("a proved call answers with a stop number"),
             line: (self.line != NO_LINE).then_some(self.line),
             steps: self.steps,
-            inpos: self.inpos,
-            outpos: self.outpos,
+            // Within the lengths, or as they came.
+            inpos: self.inpos as usize,
+            outpos: self.outpos as usize,
             column: self.column,
         }
     }
 }
 
-/// Declares the library's calls, which have one signature.
+/// Declares the library's calls, which have one signature. The archive has the interface's number to their names.
 macro_rules! entries {
     ($($name:ident)*: $parameters:tt) => {
         type Entry = unsafe extern "C" fn $parameters;
         extern "C" {
-            $(fn $name $parameters;)*
+            $(
+                #[link_name = concat!(stringify!($name), "_", env!("NIBL_VERSION"))]
+                fn $name $parameters;
+            )*
         }
     };
 }
@@ -73,26 +80,36 @@ macro_rules! entries {
 entries!(nibl_take_line nibl_continue_run: (
     record: *mut Record,
     page: *mut u8,
-    page_len: usize,
+    page_len: Size,
     memory: *mut u8,
-    memory_len: usize,
+    memory_len: Size,
     input: *const u8,
-    input_len: usize,
+    input_len: Size,
     output: *mut u8,
-    output_len: usize,
+    output_len: Size,
     call: *const Given,
     answer: *mut Written,
     table: *mut u16,
-    table_len: usize,
+    table_len: Size,
 ));
+
+extern "C" {
+    static nibl_version: u32;
+}
+
+/// The interface's number, as the archive has it that is linked: `NIBL_VERSION` of `include/nibl.h`.
+pub fn version() -> u32 {
+    // SAFETY: a constant of the archive, which nothing writes.
+    unsafe { nibl_version }
+}
 
 impl Given {
     fn of(call: Call, lent: &Lent) -> Given {
         Given {
-            inpos: call.inpos,
-            outpos: call.outpos,
+            inpos: call.inpos as Size,
+            outpos: call.outpos as Size,
             sense: call.sense,
-            budget: call.budget,
+            budget: call.budget as Size,
             tabled: lent.table.is_some().into(),
         }
     }
@@ -107,17 +124,17 @@ fn make(entry: Entry, record: &mut Record, given: Given, lent: Lent) -> Answer {
         entry(
             record,
             lent.page.as_mut_ptr(),
-            lent.page.len(),
+            lent.page.len() as Size,
             lent.memory.as_mut_ptr(),
-            lent.memory.len(),
+            lent.memory.len() as Size,
             lent.input.as_ptr(),
-            lent.input.len(),
+            lent.input.len() as Size,
             lent.output.as_mut_ptr(),
-            lent.output.len(),
+            lent.output.len() as Size,
             &given,
             &mut written,
             table.as_mut_ptr(),
-            table.len(),
+            table.len() as Size,
         );
     }
     written.answer()
@@ -137,7 +154,14 @@ pub fn continue_run(record: &mut Record, lent: Lent, call: Call) -> Answer {
 
 #[cfg(test)]
 mod tests {
+    use std::string::ToString;
+
     use super::*;
+
+    #[test]
+    fn the_archive_has_the_number_that_its_calls_are_linked_by() {
+        assert_eq!(version().to_string(), env!("NIBL_VERSION"));
+    }
 
     #[test]
     fn a_table_is_lent_by_any_number_but_0() {

@@ -3,7 +3,7 @@
 
 #![allow(non_camel_case_types)]
 
-use std::mem::{align_of, offset_of, size_of};
+use core::mem::{align_of, offset_of, size_of};
 
 use crate::gate::Given as nibl_call;
 use crate::gate::Written as nibl_answer;
@@ -34,8 +34,10 @@ include!(concat!(env!("OUT_DIR"), "/layout.rs"));
 
 #[cfg(test)]
 mod tests {
+    use std::format;
     use std::path::{Path, PathBuf};
     use std::process::Command;
+    use std::string::String;
 
     use super::*;
 

@@ -40,10 +40,17 @@
 //! A table of line places may be lent too ([`Controller::with_table`]): a GOTO then finds its line without a walk along the
 //! page. Nothing else is different.
 //!
+//! The crate needs no `std`, only `core` and `alloc`, and it builds for any target that the kit's compiler has.
+//!
 //! The calls themselves are proved; this crate hands what is lent across, and is not.
 
+#![no_std]
 #![deny(unsafe_code)]
 #![warn(missing_docs)]
+
+extern crate alloc;
+#[cfg(test)]
+extern crate std;
 
 mod answer;
 mod controller;
@@ -51,6 +58,7 @@ mod gate;
 mod layout;
 mod record;
 mod stop;
+mod stored;
 mod table;
 
 /// The examples of the page for hosts.
@@ -60,7 +68,8 @@ struct Embedding;
 
 pub use answer::{Answer, Call, LINE_MOST, NO_LINE};
 pub use controller::{empty_page, Controller};
-pub use gate::{continue_run, take_line, Lent};
+pub use gate::{continue_run, take_line, version, Lent};
 pub use record::{ForEntry, ForStack, PlaceStack, Record, MARK, NOWHERE, START};
 pub use stop::Stop;
+pub use stored::{RECORD_BYTES, RECORD_FORM};
 pub use table::{empty_table, table_of, TABLE_LEAST};

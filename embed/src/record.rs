@@ -9,15 +9,30 @@ pub const NOWHERE: u16 = 0;
 /// A pause at the program's start. One after the place p is p + 2.
 pub const START: u16 = 1;
 
-/// The stack of GOSUB, and that of DO.
+/// The stack of GOSUB, and that of DO. Two are equal where what is in use is: no call looks at the other slots.
 #[repr(C)]
-#[derive(Clone, Copy, Debug, Default, PartialEq, Eq)]
+#[derive(Clone, Copy, Debug, Default)]
 pub struct PlaceStack {
     /// So many slots are in use, the oldest first.
-    pub depth: usize,
+    pub depth: u64,
     /// Positions in the page of the ":" or the CR after which to go on; on the GOSUB stack also [`MARK`].
     pub places: [u16; 8],
 }
+
+impl PlaceStack {
+    /// The places that are in use, the oldest first: all slots, where a depth is too large, which no call leaves.
+    pub fn open(&self) -> &[u16] {
+        in_use(self.depth, &self.places)
+    }
+}
+
+impl PartialEq for PlaceStack {
+    fn eq(&self, other: &PlaceStack) -> bool {
+        self.depth == other.depth && self.open() == other.open()
+    }
+}
+
+impl Eq for PlaceStack {}
 
 /// A FOR that is open.
 #[repr(C)]
@@ -33,18 +48,39 @@ pub struct ForEntry {
     pub place: u16,
 }
 
-/// The stack of FOR.
+/// The stack of FOR. Two are equal where what is in use is: no call looks at the other slots.
 #[repr(C)]
-#[derive(Clone, Copy, Debug, Default, PartialEq, Eq)]
+#[derive(Clone, Copy, Debug, Default)]
 pub struct ForStack {
     /// So many slots are in use, the oldest first.
-    pub depth: usize,
+    pub depth: u64,
     /// The open FORs.
     pub entries: [ForEntry; 4],
 }
 
+impl ForStack {
+    /// The FORs that are open, the oldest first: all slots, where the depth is too large, which no call leaves.
+    pub fn open(&self) -> &[ForEntry] {
+        in_use(self.depth, &self.entries)
+    }
+}
+
+impl PartialEq for ForStack {
+    fn eq(&self, other: &ForStack) -> bool {
+        self.depth == other.depth && self.open() == other.open()
+    }
+}
+
+impl Eq for ForStack {}
+
+fn in_use<T>(depth: u64, slots: &[T]) -> &[T] {
+    let depth = usize::try_from(depth).unwrap_or(slots.len());
+    &slots[..depth.min(slots.len())]
+}
+
 /// What the controller keeps between calls. Every bit pattern is a record; one that does not fit the page is refused
-/// with [`Stop::BadRecord`](crate::Stop::BadRecord), and stays as it is.
+/// with [`Stop::BadRecord`](crate::Stop::BadRecord), and stays as it is. Two are equal where they say the same: what stands in
+/// a stack past its depth does not count.
 #[repr(C)]
 #[derive(Clone, Copy, Debug, Default, PartialEq, Eq)]
 pub struct Record {

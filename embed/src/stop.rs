@@ -1,6 +1,6 @@
 //! The stop numbers, in words.
 
-use std::fmt;
+use core::fmt;
 
 /// Why a call came back. The discriminant is the documents' number.
 #[derive(Clone, Copy, Debug, PartialEq, Eq, Hash, PartialOrd, Ord)]
@@ -201,6 +201,8 @@ impl fmt::Display for Stop {
 
 #[cfg(test)]
 mod tests {
+    use std::vec::Vec;
+
     use super::*;
 
     #[test]

@@ -1,5 +1,7 @@
 //! The table of line places, as a host makes it.
 
+use alloc::vec::Vec;
+
 /// The least length of a table that is lent: the number of lines, and a position for every four bytes of the longest page.
 pub const TABLE_LEAST: usize = 1025;
 
@@ -50,6 +52,8 @@ fn record_at(page: &[u8], at: usize) -> Option<usize> {
 
 #[cfg(test)]
 mod tests {
+    use alloc::vec;
+
     use super::*;
 
     /// The part of a table that is looked at.

@@ -157,10 +157,10 @@ fn stacks_are_full_and_variables_end_where_the_header_says() {
         assert_eq!(ran, Stop::TooDeep, "{line}");
         record
     };
-    assert_eq!(full("1 GOSUB 1").gosubs.depth, header("NIBL_GOSUBS"));
-    assert_eq!(full("1 DO:GOTO 1").dos.depth, header("NIBL_DOS"));
+    assert_eq!(full("1 GOSUB 1").gosubs.open().len(), header("NIBL_GOSUBS"));
+    assert_eq!(full("1 DO:GOTO 1").dos.open().len(), header("NIBL_DOS"));
     let record = full("1 FOR Z=1 TO 2:GOTO 1");
-    assert_eq!(record.fors.depth, header("NIBL_FORS"));
+    assert_eq!(record.fors.open().len(), header("NIBL_FORS"));
     let last = usize::from(record.fors.entries[0].var);
     assert_eq!(last + 1, header("NIBL_VARIABLES"));
 }

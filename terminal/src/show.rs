@@ -67,12 +67,11 @@ fn stack(name: &str, entries: &[String]) -> String {
 }
 
 fn places(stack: &PlaceStack, page: &[u8]) -> Vec<String> {
-    let open = &stack.places[..stack.depth.min(stack.places.len())];
-    open.iter().map(|place| back_to(*place, page)).collect()
+    let open = stack.open().iter();
+    open.map(|place| back_to(*place, page)).collect()
 }
 
 fn fors(stack: &ForStack, page: &[u8]) -> Vec<String> {
-    let open = &stack.entries[..stack.depth.min(stack.entries.len())];
     let entry = |entry: &ForEntry| {
         let variable = char::from(b'A' + entry.var % 26);
         let (limit, step) = (entry.limit as i16, entry.step as i16);
@@ -81,7 +80,7 @@ fn fors(stack: &ForStack, page: &[u8]) -> Vec<String> {
             back_to(entry.place, page)
         )
     };
-    open.iter().map(entry).collect()
+    stack.open().iter().map(entry).collect()
 }
 
 /// Where a return leads: behind the statement that ends at a place.

@@ -10,7 +10,6 @@
 ghost use Prim.Native.Nat.{_≤_, _<_};
 ghost use lib.ListN.{length};
 ghost use mathlib.Core.Path.{_≡_};
-use ending::Ended;
 use nibl::Answer;
 use nibl::Call;
 use nibl::ForEntry;
@@ -18,6 +17,7 @@ use nibl::ForStack;
 use nibl::Place;
 use nibl::PlaceStack;
 use nibl::Session;
+use outcome::Ended;
 
 // The most numbers that a table of these cases has.
 const ENTRIES: usize = 1100;
@@ -106,7 +106,7 @@ fn for_stack() -> ForStack {
 }
 
 fn session() -> Session {
-    let mut vars = [0u16; 26];
+    let mut vars = [0u16; nibl::VARIABLES];
     let mut i = 0;
     while i < 26 {
         vars[i] = number();

@@ -11,14 +11,19 @@ use Rattle.nibl.specs.Typing.{gather}
 use Rattle.nibl.specs.Page.{isGood, placesOf, fits, fitsPaused}
 use Rattle.nibl.specs.Record.{nowhere, pausedAt, pauseNumber, unpaused}
 use Rattle.nibl.specs.Meaning.{World}
-use Rattle.nibl.specs.Calls.{Lent, Outcome, stops, inRange, tableInRange, tableIsTrue, firstRefusal, lentWorld, lentEnv, begun, runFrom, runOutcome, obeyLine, takeLineIn, takeLine, continueFrom, continueRunIn, continueRun, limit}
+use Rattle.nibl.specs.Lent.{Lent, Outcome, stops}
+use Rattle.nibl.specs.Runs.{runFrom, runOutcome}
+use Rattle.nibl.specs.Typing.{limit}
+use Rattle.nibl.specs.Lent.{lentWorld, lentEnv, begun}
+use Rattle.nibl.specs.FirstRefusals.{pageInRange, memoryInRange, inputInRange, outputInRange, positionInRange, budgetInRange, inRange, tableInRange, tableIsTrue, firstRefusal}
+use Rattle.nibl.specs.Calls.{obeyLine, takeLineIn, takeLine, continueFrom, continueRunIn, continueRun}
 use Rattle.nibl.specs.declared.Session.{Session}
 use Rattle.nibl.specs.declared.Paused.{Paused}
 use Rattle.page.proofs.Program.{both}
 use Rattle.record.specs.Sound.{Sized}
 use Rattle.record.proofs.Fitted.{sound-fit, fit-paused}
-use Rattle.ending.specs.Ends.{worldAt}
-use Rattle.ending.specs.Lends.{Lists, Accepted}
+use Rattle.outcome.specs.Ends.{worldAt}
+use Rattle.outcome.specs.Lends.{Lists, Accepted}
 use Rattle.calls.specs.Tables.{TableLent}
 use Rattle.calls.proofs.Tables.{table-lent}
 
@@ -27,17 +32,17 @@ pub lists : Lists (replicate limit 0) (replicate limit 0) (replicate 256 0) (rep
 lists = record { short = omega arith; room = omega arith; stack = omega arith; replyOps = omega arith; replyValues = omega arith }
 
 -- past the first refusals
-in-range : (x : Lent) → inRange x ≡ true → (leb (length (x .page)) 4096 ≡ true) × (leb (x .call .budget) 65535 ≡ true) × (tableInRange x ≡ true)
+in-range : (x : Lent) → inRange x ≡ true → (leb (length (x .page)) 4096 ≡ true) × (leb (x .call .budget) 65535 ≡ true) × (tableInRange (x .call) (length (x .table)) ≡ true)
 in-range x h =
-    let a = both (leb 2 (length (x .page))) _ h in
-    let b = both (leb (length (x .page)) 4096) _ (a .1) in
-    let c = both (leb (length (x .memory)) 4096) _ (b .1) in
-    let d = both (leb (length (x .input)) 65535) _ (c .1) in
-    let e = both (leb (length (x .output)) 65535) _ (d .1) in
-    let f = both (leb (x .call .inpos) (length (x .input))) _ (e .1) in
-    let g = both (leb (x .call .outpos) (length (x .output))) _ (f .1) in
-    let k = both (leb (x .call .budget) 65535) _ (g .1) in
-    (b .0, k .0, k .1)
+    let p = both (pageInRange (length (x .page))) _ h in
+    let a = both (leb 2 (length (x .page))) _ (p .0) in
+    let c = both (memoryInRange (length (x .memory))) _ (p .1) in
+    let d = both (inputInRange (length (x .input))) _ (c .1) in
+    let e = both (outputInRange (length (x .output))) _ (d .1) in
+    let f = both (positionInRange (x .call .inpos) (length (x .input))) _ (e .1) in
+    let g = both (positionInRange (x .call .outpos) (length (x .output))) _ (f .1) in
+    let k = both (budgetInRange (x .call .budget)) _ (g .1) in
+    (a .1, k .0, k .1)
 
 pub accepted : {lim : ℕ} (x : Lent) → firstRefusal lim x ≡ 0 → Sized (x .session)
     → (Accepted lim (x .page) (x .call .budget) (unpaused (x .session)) × (fitsPaused (placesOf (x .page)) (x .session .paused) ≡ true)) × TableLent (x .page) (x .call) (x .table)

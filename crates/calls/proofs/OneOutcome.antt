@@ -3,11 +3,12 @@
 use Prim.Native.Nat.{ℕ}
 use mathlib.Core.List.{List}
 use mathlib.Core.Path.{_≡_, sym, ap, _∙_}
-use Rattle.nibl.specs.Calls.{Left, lentAll, leftAll, leaves, takeLine, continueRun}
+use Rattle.nibl.specs.Lent.{Left, lentAll, leftAll}
+use Rattle.nibl.specs.Calls.{leaves, takeLine, continueRun}
 use Rattle.nibl.specs.declared.Session.{Session}
 use Rattle.nibl.specs.declared.Call.{Call}
-use Rattle.ending.specs.declared.Ended.{Ended}
-use Rattle.ending.proofs.Determined.{end-determined}
+use Rattle.outcome.specs.declared.Ended.{Ended}
+use Rattle.outcome.proofs.Determined.{end-determined}
 
 module _ (rec : Session) (page memory input output : List ℕ) (call : Call) (table : List ℕ) (a b : Ended) (p p′ m m′ o o′ t t′ : List ℕ) where
   left-determined : (l : Left) → leftAll (a .answer) (a .session) p m o t ≡ l → leftAll (b .answer) (b .session) p′ m′ o′ t′ ≡ l

@@ -11,7 +11,10 @@ use lib.Dec.{eqb}
 use borrow.Author.Tests.{leb-true, eq-eqb, ne-eqb}
 use Rattle.nibl.specs.Page.{isGood}
 use Rattle.nibl.specs.Typing.{Gathered}
-use Rattle.nibl.specs.Calls.{Lent, Outcome, Left, lentAll, hasTable, longEnough, trueOf, firstRefusal, obeyLine, continueFrom, tableAfter, limit}
+use Rattle.nibl.specs.Lent.{Lent, Outcome, Left, lentAll}
+use Rattle.nibl.specs.Typing.{limit}
+use Rattle.nibl.specs.FirstRefusals.{hasTable, tableInRange, trueOf, firstRefusal}
+use Rattle.nibl.specs.Calls.{obeyLine, continueFrom, tableAfter}
 use Rattle.nibl.specs.declared.Session.{Session}
 use Rattle.nibl.specs.declared.Call.{Call}
 use Rattle.page.proofs.Walk.{by-cases}
@@ -20,7 +23,7 @@ use Rattle.table.proofs.Index.{good-described, indexed-none, indexed-whole, kep
 use Rattle.calls.specs.Tables.{lentEntries, TableLent, tablePast}
 
 -- a search may go by a table past the first refusals
-pub table-lent : (lim : ℕ) {page table : List ℕ} {c : Call} → length page ≤ 4096 → isGood lim page ≡ true → longEnough c (length table) ≡ true
+pub table-lent : (lim : ℕ) {page table : List ℕ} {c : Call} → length page ≤ 4096 → isGood lim page ≡ true → tableInRange c (length table) ≡ true
     → trueOf page c table ≡ true → TableLent page c table
 table-lent lim {page} {table} {c} s g l t =
     record {
@@ -31,7 +34,7 @@ table-lent lim {page} {table} {c} s g l t =
     }
 
 -- the part that was lent is kept true, and what was not is as it was
-pub table-kept : (c : Call) (page table part : List ℕ) {n : ℕ} → n ≡ lentEntries c table → longEnough c (length table) ≡ true
+pub table-kept : (c : Call) (page table part : List ℕ) {n : ℕ} → n ≡ lentEntries c table → tableInRange c (length table) ≡ true
     → part ≡ keptTrue page (take n table) → part ++ drop n table ≡ tablePast c page table
 table-kept c page table part h l e =
     by-cases (hasTable c) (λ f. rw (e, h, f) (kept-whole page table (leb-true _ _ (rw f at l)))) (λ f. rw (e, h, f) (kept-none page table))

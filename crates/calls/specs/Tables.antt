@@ -6,7 +6,7 @@ use mathlib.Core.List.{List}
 use lib.ListN.{length, take}
 use Rattle.nibl.specs.Bytes.{if_then_else_}
 use Rattle.nibl.specs.Table.{refilled}
-use Rattle.nibl.specs.Calls.{hasTable, longEnough}
+use Rattle.nibl.specs.FirstRefusals.{hasTable, tableInRange}
 use Rattle.nibl.specs.declared.Call.{Call}
 use Rattle.table.specs.Index.{Indexed}
 
@@ -19,7 +19,7 @@ lentPart c table = take (lentEntries c table) table
 
 -- past the first refusals: one that is lent is long enough, and a search may go by it
 pub record TableLent (page : List ℕ) (c : Call) (table : List ℕ) : Type 0 where
-  pub long : longEnough c (length table) ≡ true
+  pub long : tableInRange c (length table) ≡ true
   pub indexed : Indexed page (lentPart c table)
 
 -- the table that a call leaves past its first refusals, with this page

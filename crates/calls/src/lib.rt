@@ -5,32 +5,25 @@ ghost use mathlib.Core.Bool.{true};
 ghost use lib.ListN.{length};
 ghost use Rattle.nibl.specs.Page.{placesOf, fitsPaused};
 ghost use Rattle.nibl.specs.Record.{unpaused};
-ghost use Rattle.nibl.specs.Calls.{lentAll, leftAll, outcomeWith, leaves, longEnough, trueOf, firstRefusal, continueFrom, takeLine, continueRun, limit};
-ghost use Rattle.ending.specs.Ends.{endedIn};
-ghost use Rattle.ending.specs.Lends.{Lists, Accepted};
-ghost use Rattle.calls.specs.Range.{rangeOf};
+ghost use Rattle.nibl.specs.Lent.{lentAll, leftAll, outcomeWith};
+ghost use Rattle.nibl.specs.Typing.{limit};
+ghost use Rattle.nibl.specs.FirstRefusals.{lengthsInRange, trueOf, firstRefusal};
+ghost use Rattle.nibl.specs.Calls.{leaves, continueFrom, takeLine, continueRun};
+ghost use Rattle.outcome.specs.Ends.{endedIn};
+ghost use Rattle.outcome.specs.Lends.{Lists, Accepted};
 ghost use Rattle.calls.specs.Tables.{lentEntries, TableLent, tablePast};
 ghost use Rattle.calls.specs.Past.{pastRefusals};
 ghost use Rattle.table.specs.Index.{Indexed};
-use ending::Ended;
 use nibl::Call;
 use nibl::LIMIT;
 use nibl::Paused;
 use nibl::ROOM;
 use nibl::Session;
-use nibl::TABLE_LEAST;
+use nibl::range;
+use nibl::stop;
+use outcome::Ended;
 
-// Whether a table that is lent has entries enough.
-fn long_enough(call: Call, table: usize) -> bool
-    ensures { λ r. ⌜ r ≡ longEnough call table ⌝ }
-{
-    if call.tabled == 0 {
-        return true;
-    }
-    TABLE_LEAST <= table
-}
-
-// Whether the lengths, the positions and the budget are those that a call may be lent.
+// Whether all that a call looks at is in range.
 fn in_range(
     page: usize,
     memory: usize,
@@ -39,33 +32,30 @@ fn in_range(
     call: Call,
     table: usize,
 ) -> bool
-    ensures { λ r. ⌜ r ≡ rangeOf page memory input output call table ⌝ }
+    ensures { λ r. ⌜ r ≡ lengthsInRange page memory input output call table ⌝ }
 {
-    if page < 2 {
+    if !range::page_in_range(page) {
         return false;
     }
-    if 4096 < page {
+    if !range::memory_in_range(memory) {
         return false;
     }
-    if 4096 < memory {
+    if !range::input_in_range(input) {
         return false;
     }
-    if 65535 < input {
+    if !range::output_in_range(output) {
         return false;
     }
-    if 65535 < output {
+    if !range::position_in_range(call.inpos, input) {
         return false;
     }
-    if input < call.inpos {
+    if !range::position_in_range(call.outpos, output) {
         return false;
     }
-    if output < call.outpos {
+    if !range::budget_in_range(call.budget) {
         return false;
     }
-    if 65535 < call.budget {
-        return false;
-    }
-    long_enough(call, table)
+    range::table_in_range(call, table)
 }
 
 // Whether a table that is lent describes the page.
@@ -99,18 +89,18 @@ fn first_refusal(
         call,
         table.len(),
     ) {
-        return 1;
+        return stop::OUT_OF_RANGE;
     }
     if !places::is_good(page, lim) {
-        return 18;
+        return stop::BAD_PAGE;
     }
     if !is_described(page, call, table) {
-        return 26;
+        return stop::BAD_TABLE;
     }
     if !record::fits(page, rec) {
-        return 19;
+        return stop::BAD_RECORD;
     }
-    0
+    stop::DONE
 }
 
 // A paused run goes on; with nothing paused there is nothing to do.
@@ -131,8 +121,8 @@ fn paused_run(
     ensures { λ r. ⌜ endedIn r (now (page .entry)) (now (memory .exit)) (now (output .exit)) ≡ continueFrom (length (now (reply .entry))) (lentAll rec (now (page .entry)) (now (memory .entry)) (now (input .entry)) (now (output .entry)) call (now (table .entry))) (rec .paused) ⌝ }
 {
     match Paused::of(rec.paused) {
-        Paused::Nowhere => ending::stopped(0, rec.unpaused(), call.inpos, call.outpos),
-        Paused::At(from) => ending::run_from(
+        Paused::Nowhere => outcome::stopped(stop::DONE, rec.unpaused(), call.inpos, call.outpos),
+        Paused::At(from) => outcome::run_from(
             from,
             rec.unpaused(),
             page,
@@ -183,7 +173,7 @@ fn accepted_call(
     let mut values = [0u16; ROOM];
     let mut ops = [0u32; ROOM];
     if typed {
-        return typing::typed_line(
+        return obey::typed_line(
             rec,
             page,
             memory,
@@ -226,8 +216,8 @@ pub fn take_line(
     ensures { λ r. ⌜ leftAll (r .answer) (r .session) (now (page .exit)) (now (memory .exit)) (now (output .exit)) (now (table .exit)) ≡ leaves takeLine (lentAll rec (now (page .entry)) (now (memory .entry)) (now (input .entry)) (now (output .entry)) call (now (table .entry))) ⌝ }
 {
     let first = first_refusal(rec, page, memory, input, output, call, LIMIT, table);
-    if first != 0 {
-        return ending::stopped(first, rec, call.inpos, call.outpos);
+    if first != stop::DONE {
+        return outcome::stopped(first, rec, call.inpos, call.outpos);
     }
     accepted_call(true, rec, page, memory, input, output, call, table)
 }
@@ -245,8 +235,8 @@ pub fn continue_run(
     ensures { λ r. ⌜ leftAll (r .answer) (r .session) (now (page .exit)) (now (memory .exit)) (now (output .exit)) (now (table .exit)) ≡ leaves continueRun (lentAll rec (now (page .entry)) (now (memory .entry)) (now (input .entry)) (now (output .entry)) call (now (table .entry))) ⌝ }
 {
     let refusal = first_refusal(rec, page, memory, input, output, call, LIMIT, table);
-    if refusal != 0 {
-        return ending::stopped(refusal, rec, call.inpos, call.outpos);
+    if refusal != stop::DONE {
+        return outcome::stopped(refusal, rec, call.inpos, call.outpos);
     }
     accepted_call(false, rec, page, memory, input, output, call, table)
 }

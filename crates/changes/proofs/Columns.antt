@@ -12,10 +12,14 @@ use Rattle.nibl.specs.Tree.{Typed, blank, new, clear, run, delete, list, store,
 use Rattle.nibl.specs.Readings.{LineReading}
 use Rattle.nibl.specs.Typing.{Gathered}
 use Rattle.nibl.specs.Fronts.{IsColumn}
-use Rattle.nibl.specs.Column.{columnOf}
+use Rattle.nibl.specs.found.Column.{columnOf}
 use Rattle.nibl.specs.Page.{Stored, recordsOf, programBytes, hasLine, without, with}
 use Rattle.nibl.specs.Meaning.{World, Env, on, skip, go, stop, Done, done, exec}
-use Rattle.nibl.specs.Calls.{Lent, Outcome, Left, stops, firstRefusal, begun, lentEnv, edited, listFrom, afterImmediate, needsProgram, obey, takeLine, continueFrom, continueRun, limit}
+use Rattle.nibl.specs.Lent.{Lent, Outcome, Left, stops}
+use Rattle.nibl.specs.Typing.{limit}
+use Rattle.nibl.specs.Lent.{begun, lentEnv}
+use Rattle.nibl.specs.FirstRefusals.{firstRefusal}
+use Rattle.nibl.specs.Calls.{edited, listFrom, afterImmediate, needsProgram, obey, takeLine, continueFrom, continueRun}
 use Rattle.nibl.proofs.Words.{if-split}
 use Rattle.nibl.proofs.Spot.{column-exact}
 use Rattle.record.specs.Sound.{Sized}

@@ -12,7 +12,7 @@ use Rattle.nibl.specs.Bytes.{bytes, isCapital, isDigit, starts, front}
 use Rattle.nibl.specs.Words.{Token, keywords, commands, indexIn, Word, spaced, keyword, letter, decimalDigits, hexDigits, quoted, pair, symbol}
 use Rattle.nibl.specs.Tree.{Expr, var, two, greater, value, print, ifThen, goto, remark, Member, Typed, immediate}
 use Rattle.nibl.specs.Readings.{ListReading, ReplyReading, LineReading}
-use Rattle.nibl.specs.Read.{lettersStep, wordStep, stepIn, _>>=_, aVariable, aDecimal, aString, aSign, ifKey, aJoint, part, readN, read, anItem, joinedN, joined, aStatement, statementN, statement, typed}
+use Rattle.nibl.specs.found.Read.{lettersStep, wordStep, stepIn, _>>=_, aVariable, aDecimal, aString, aSign, ifKey, aJoint, part, readN, read, anItem, joinedN, joined, aStatement, statementN, statement, typed}
 use Rattle.nibl.specs.declared.Session.{Session}
 use Rattle.nibl.proofs.Keywords.{first-of, over-all}
 use Rattle.nibl.proofs.Words.{no-symbol, of-pairs, capital-other, digit-other, front-run}

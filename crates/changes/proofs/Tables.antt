@@ -15,7 +15,11 @@ use Rattle.nibl.specs.Readings.{LineReading}
 use Rattle.nibl.specs.Typing.{Gathered}
 use Rattle.nibl.specs.Page.{Stored, recordsOf, size, usedBy, hasLine, with, without}
 use Rattle.nibl.specs.Table.{positionsFrom, walkTable, describes, refilled}
-use Rattle.nibl.specs.Calls.{Lent, Outcome, Left, tableIsTrue, firstRefusal, stops, lentWorld, begun, edited, obey, obeyLine, takeLine, takeLineIn, continueFrom, continueRun, continueRunIn, tableAfter, leaves, limit}
+use Rattle.nibl.specs.Lent.{Lent, Outcome, Left, stops}
+use Rattle.nibl.specs.Typing.{limit}
+use Rattle.nibl.specs.Lent.{lentWorld, begun}
+use Rattle.nibl.specs.FirstRefusals.{tableIsTrue, firstRefusal}
+use Rattle.nibl.specs.Calls.{edited, obey, obeyLine, takeLine, takeLineIn, continueFrom, continueRun, continueRunIn, tableAfter, leaves}
 use Rattle.nibl.proofs.Whole.{typed-complete}
 use Rattle.nibl.proofs.Determined.{determined}
 use Rattle.page.proofs.Walk.{by-cases}

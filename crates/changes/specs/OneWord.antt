@@ -7,18 +7,18 @@ use mathlib.Core.Bool.{true, false}
 use mathlib.Core.List.{List, [], _∷_, _++_}
 use mathlib.Core.Option.{some}
 use Rattle.nibl.specs.Bytes.{byte, isDigit, isCapital, isHexDigit, isQuotable, All, decimalValue, hexValue, byteQuote}
-use Rattle.nibl.specs.Words.{Token, variable, decimal, hex, string, sign, keywords, commands, indexIn, pairs, pairsWith, isSymbol, Run}
+use Rattle.nibl.specs.Words.{Token, variable, decimal, hex, string, sign, keywords, commands, indexIn, pairs, pairsWith, isSymbol, ByteRun}
 use Rattle.nibl.specs.Tree.{Expr, Member, Typed}
 use Rattle.nibl.specs.Grammar.{Members, Reply, Line}
 use Rattle.nibl.specs.Readings.{LineReading}
 
 pub data OneWord (table : List (List ℕ)) : List ℕ → Token → List ℕ → Type 0 where
   spaced : {w : Token} {s s' : List ℕ} → OneWord table s w s' → OneWord table (byte " " ∷ s) w s'
-  letter : {c : ℕ} {s : List ℕ} → Run isCapital (c ∷ []) s → OneWord table (c ∷ s) (variable (c - byte "A")) s
-  letters : {c d k : ℕ} {cs s : List ℕ} → Run isCapital (c ∷ d ∷ cs) s → indexIn table (c ∷ d ∷ cs) ≡ some k
+  letter : {c : ℕ} {s : List ℕ} → ByteRun isCapital (c ∷ []) s → OneWord table (c ∷ s) (variable (c - byte "A")) s
+  letters : {c d k : ℕ} {cs s : List ℕ} → ByteRun isCapital (c ∷ d ∷ cs) s → indexIn table (c ∷ d ∷ cs) ≡ some k
       → OneWord table (c ∷ d ∷ cs ++ s) (sign k) s
-  decimalDigits : {ds s : List ℕ} → Run isDigit ds s → decimalValue 0 ds ≤ 32767 → OneWord table (ds ++ s) (decimal (decimalValue 0 ds)) s
-  hexDigits : {ds s : List ℕ} → Run isHexDigit ds s → OneWord table (byte "#" ∷ ds ++ s) (hex (hexValue 0 ds % 65536)) s
+  decimalDigits : {ds s : List ℕ} → ByteRun isDigit ds s → decimalValue 0 ds ≤ 32767 → OneWord table (ds ++ s) (decimal (decimalValue 0 ds)) s
+  hexDigits : {ds s : List ℕ} → ByteRun isHexDigit ds s → OneWord table (byte "#" ∷ ds ++ s) (hex (hexValue 0 ds % 65536)) s
   quoted : {bs s : List ℕ} → All isQuotable bs → OneWord table (byteQuote ∷ bs ++ byteQuote ∷ s) (string bs) s
   pair : {a b k : ℕ} {s : List ℕ} → pairs a b ≡ some k → OneWord table (a ∷ b ∷ s) (sign k) s
   symbol : {b : ℕ} {s : List ℕ} → isSymbol b ≡ true → pairsWith b s ≡ false → OneWord table (b ∷ s) (sign b) s

@@ -7,7 +7,8 @@ use mathlib.Core.Option.{some}
 use Rattle.nibl.specs.Words.{Token, Word}
 use Rattle.nibl.specs.Typing.{Gathered}
 use Rattle.nibl.specs.Fronts.{IsColumn}
-use Rattle.nibl.specs.Calls.{Lent, limit}
+use Rattle.nibl.specs.Lent.{Lent}
+use Rattle.nibl.specs.Typing.{limit}
 use Rattle.demands.specs.Lent.{gatheredLine}
 
 pub record Pointed (x : Lent) (column : ℕ) : Type 0 where

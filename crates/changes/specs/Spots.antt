@@ -3,7 +3,8 @@ use Prim.Native.Nat.{ℕ}
 use Prim.Native.String.{String}
 use mathlib.Core.List.{List, [], _∷_, _++_}
 use Rattle.nibl.specs.Record.{fresh}
-use Rattle.nibl.specs.Calls.{Outcome, takeLine}
+use Rattle.nibl.specs.Lent.{Outcome}
+use Rattle.nibl.specs.Calls.{takeLine}
 use Rattle.nibl.specs.Desk.{lentFor, freshPage}
 
 -- a line, its stop and its column

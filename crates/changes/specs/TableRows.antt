@@ -5,7 +5,8 @@ use mathlib.Core.List.{List, [], _∷_, _++_, map}
 use lib.ListN.{length, take, replicate}
 use Rattle.nibl.specs.Page.{Stored, recordsOf, onto}
 use Rattle.nibl.specs.Record.{fresh, withPaused}
-use Rattle.nibl.specs.Calls.{Left, takeLine, leaves}
+use Rattle.nibl.specs.Lent.{Left}
+use Rattle.nibl.specs.Calls.{takeLine, leaves}
 use Rattle.nibl.specs.Desk.{lentFor, freshPage}
 use Rattle.nibl.specs.declared.Session.{Session}
 use Rattle.changes.specs.Together.{line}
@@ -21,8 +22,8 @@ pub record Step : Type 0 where
 abbrev pub step : String → ℕ → List ℕ → List ℕ → Step
 step t n ls es = record { typed = t; stop = n; lines = ls; entries = es }
 
-abbrev pub stepIn : String → Left → Step
-stepIn t l = step t (l .outcome .answer .stop) (map (λ (r : Stored). r .line) (recordsOf (l .outcome .page))) (take 4 (l .table))
+abbrev pub rowIn : String → Left → Step
+rowIn t l = step t (l .outcome .answer .stop) (map (λ (r : Stored). r .line) (recordsOf (l .outcome .page))) (take 4 (l .table))
 
 -- what is lent at first: a record, the lines of the page, and the first entries of a table of 1,025; and the steps
 pub record TableRow : Type 0 where
@@ -38,7 +39,7 @@ row rs es ts = record { session = fresh; page = rs; table = es; steps = ts }
 abbrev pub typeTabled : Session → List ℕ → List ℕ → List String → List Step
 typeTabled s page table [] = []
 typeTabled s page table (t ∷ ts) =
-    let l = leaves takeLine (tabledBy 1 table (lentFor s page [] t)) in stepIn t l ∷ typeTabled (l .outcome .session) (l .outcome .page) (l .table) ts
+    let l = leaves takeLine (tabledBy 1 table (lentFor s page [] t)) in rowIn t l ∷ typeTabled (l .outcome .session) (l .outcome .page) (l .table) ts
 
 abbrev pub replay : TableRow → TableRow
 replay r =

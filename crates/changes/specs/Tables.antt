@@ -3,7 +3,7 @@ use Prim.Native.Nat.{ℕ, suc}
 use mathlib.Core.Path.{_≡_}
 use mathlib.Core.List.{List}
 use lib.ListN.{length, take, drop}
-use Rattle.nibl.specs.Calls.{Lent, lentAll}
+use Rattle.nibl.specs.Lent.{Lent, lentAll}
 
 -- the same lent, with another table or number that says whether it is lent
 abbrev pub tabledBy : ℕ → List ℕ → Lent → Lent

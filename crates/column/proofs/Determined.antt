@@ -2,7 +2,7 @@
 use Prim.Native.Nat.{ℕ}
 use mathlib.Core.Path.{_≡_}
 use mathlib.Core.List.{List}
-use Rattle.nibl.specs.Column.{columnOf}
+use Rattle.nibl.specs.found.Column.{columnOf}
 use Rattle.nibl.proofs.Determined.{determined}
 
 pub column-determined : (line : List ℕ) (a b : ℕ) → a ≡ columnOf line → b ≡ columnOf line → a ≡ b

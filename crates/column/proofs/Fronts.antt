@@ -11,12 +11,12 @@ use lib.ListN.{length, take, drop, getD, set, length-drop, drop-of-length-le, ta
 use lib.Seq.{paste, paste-zero, paste-suc, length-paste, take-paste, length-take-le, take-all, take-take, take-append-le, drop-drop, getD-take, getD-drop}
 use Rattle.nibl.specs.Bytes.{if_then_else_, same, all}
 use Rattle.nibl.specs.Words.{keywords, commands}
-use Rattle.nibl.specs.Column.{typedLine, typedCommand, Verdict, alive, stuck, isAlive, lineRun, allTaken, spellings, endsWith, begunBy, begunIn, isFront, columnDown, columnOf}
+use Rattle.nibl.specs.found.Column.{typedLine, typedCommand, Verdict, alive, stuck, isAlive, lineRun, allTaken, spellings, endsWith, begunBy, begunIn, isFront, columnDown, columnOf}
 use Rattle.nibl.proofs.Words.{and-left, and-right}
 use Rattle.nibl.proofs.Bound.{begun-hit, begun-miss, begun-here, begun-later, front-taken, front-begun, column-hit, column-miss, column-bound}
 use Rattle.nibl.proofs.FrontSound.{front-of-front}
 use Rattle.nibl.proofs.Spot.{front-exact}
-use Rattle.word.specs.Found.{tableOf}
+use Rattle.word.specs.Found.{spellingsOf}
 use Rattle.word.proofs.Runs.{at-byte}
 use Rattle.column.specs.Runs.{VerdictIs, lineSymbol}
 use Rattle.column.specs.Fronts.{cut, total, Spare, Kept, bytesLeft, ReachIs, lastTried}
@@ -78,12 +78,12 @@ module _ (text : List ℕ) (n : ℕ) (z : List ℕ) (i : ℕ) (l : n ≤ length 
         let b : drop (n - i + j) (take n text) ≡ [] = drop-of-length-le (take n text) {i = n - i + j} (omega (arith, sizes .0, e .some)) in
         rw (a, b) at (e .same)
 
-pub all-taken-line : (s : List ℕ) → true ≡ isAlive (lineRun (tableOf false) (lineSymbol false) s) → true ≡ allTaken s
+pub all-taken-line : (s : List ℕ) → true ≡ isAlive (lineRun (spellingsOf false) (lineSymbol false) s) → true ≡ allTaken s
 unfolding allTaken
 all-taken-line s e = rw (← e)
 
-pub all-taken-command : (s : List ℕ) {b : Bool} → false ≡ isAlive (lineRun (tableOf false) (lineSymbol false) s)
-    → b ≡ isAlive (lineRun (tableOf true) (lineSymbol true) s) → b ≡ allTaken s
+pub all-taken-command : (s : List ℕ) {b : Bool} → false ≡ isAlive (lineRun (spellingsOf false) (lineSymbol false) s)
+    → b ≡ isAlive (lineRun (spellingsOf true) (lineSymbol true) s) → b ≡ allTaken s
 unfolding allTaken
 all-taken-command s e f = rw (← e) f
 
@@ -129,7 +129,7 @@ module _ (before : List ℕ) (n : ℕ) (z : List ℕ) (i : ℕ) (l : i ≤ lengt
     laying-last h = let d : j ≡ length z = omega (arith, p .high) in rw d at (p .same)
 
 -- The longest front part that need be tried
-module _ (text : List ℕ) {a b : ℕ} (p : ReachIs text (lineRun (tableOf false) (lineSymbol false) text) a) (q : ReachIs text (lineRun (tableOf true) (lineSymbol true) text) b) where
+module _ (text : List ℕ) {a b : ℕ} (p : ReachIs text (lineRun (spellingsOf false) (lineSymbol false) text) a) (q : ReachIs text (lineRun (spellingsOf true) (lineSymbol true) text) b) where
   pub last-whole : length text < max a b + 4 → length text ≡ lastTried text
   unfolding lastTried
   last-whole h = omega (arith, p .same, q .same)

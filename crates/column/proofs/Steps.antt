@@ -11,16 +11,16 @@ use lib.ListN.{length, drop, getD, set, length-drop, length-set, drop-of-length-
 use lib.Seq.{lt-length-set, getD-set-same}
 use Rattle.nibl.specs.Bytes.{if_then_else_, isSpace, isQuotable, isText, past, all}
 use Rattle.nibl.specs.Words.{keywords, commands}
-use Rattle.nibl.specs.Read.{Step, atEnd, wrong, got, stepIn}
-use Rattle.nibl.specs.GaveUp.{gaveUp, wordGaveUp}
-use Rattle.nibl.specs.Column.{sortOf, turn, isSome, isRemark, opened, isOpenString, Verdict, alive, stuck, turned, byStep, advance, remarkAt, runN, lineRun}
+use Rattle.nibl.specs.found.Read.{FrontWord, atEnd, wrong, got, stepIn}
+use Rattle.nibl.specs.found.GaveUp.{gaveUp, wordGaveUp}
+use Rattle.nibl.specs.found.Column.{sortOf, turn, isSome, isRemark, opened, isOpenString, Verdict, alive, stuck, turned, byStep, advance, remarkAt, runN, lineRun}
 use Rattle.nibl.proofs.Words.{word-sound}
 use Rattle.nibl.proofs.Over.{word-short}
 use Rattle.nibl.proofs.GaveUp.{quote-at}
 use Rattle.nibl.proofs.Bound.{and-false}
 use Rattle.word.specs.declared.Word.{Word}
 use Rattle.word.specs.declared.Word.the-variants.{Variable, Decimal, Hex, Text, Sign, End as WordEnd, Wrong as WordWrong}
-use Rattle.word.specs.Found.{firstOf, tableOf, WordIs}
+use Rattle.word.specs.Found.{firstOf, spellingsOf, WordIs}
 use Rattle.word.proofs.Runs.{at-byte, runEnd, rest-at}
 use Rattle.column.specs.Rules.{unpacked, SeekIs, Pushed}
 use Rattle.column.specs.Runs.{VerdictIs, held, NextIs, wordless, runs, runBy, lineSymbol, Room}
@@ -40,7 +40,7 @@ advance-same table go go' stack s same = step (stepIn table s) refl
     taken u h none = refl
     taken u h (some next) = same next u h
 
-    step : (r : Step) → stepIn table s ≡ r → byStep table go stack s r ≡ byStep table go' stack s r
+    step : (r : FrontWord) → stepIn table s ≡ r → byStep table go stack s r ≡ byStep table go' stack s r
     step atEnd e = refl
     step wrong e = refl
     step (got w u) e = taken u (word-short (word-sound table s u w e)) (turn (sortOf w) stack)
@@ -71,7 +71,7 @@ runs-by stack s = go (isRemark stack)
     go true = refl
     go false = advance-runs keywords stack s
 
-pub line-by : (b : Bool) (s : List ℕ) → runBy (tableOf b) (lineSymbol b ∷ []) s ≡ lineRun (tableOf b) (lineSymbol b) s
+pub line-by : (b : Bool) (s : List ℕ) → runBy (spellingsOf b) (lineSymbol b ∷ []) s ≡ lineRun (spellingsOf b) (lineSymbol b) s
 unfolding runBy lineRun
 line-by true s = sym (advance-runs commands (lineSymbol true ∷ []) s)
 line-by false s = sym (advance-runs keywords (lineSymbol false ∷ []) s)
@@ -82,14 +82,14 @@ module _ (table : List (List ℕ)) (stack s : List ℕ) where
   unfolding runBy
   by-remark e = rw (e, runBy)
 
-  by-step : isRemark stack ≡ false → (r : Step) → stepIn table s ≡ r → runBy table stack s ≡ byStep table runs stack s r
+  by-step : isRemark stack ≡ false → (r : FrontWord) → stepIn table s ≡ r → runBy table stack s ≡ byStep table runs stack s r
   unfolding runBy advance
   by-step e r h = rw (e, runBy) (ap (byStep table runs stack s) h)
 
   pub by-end : isRemark stack ≡ false → stepIn table s ≡ atEnd → runBy table stack s ≡ alive
   by-end e h = by-step e atEnd h
 
-  by-held : {k : ℕ} {u : List ℕ} (r : Step) → held r ≡ some (k, u) → byStep table runs stack s r ≡ turned runs u (turn k stack)
+  by-held : {k : ℕ} {u : List ℕ} (r : FrontWord) → held r ≡ some (k, u) → byStep table runs stack s r ≡ turned runs u (turn k stack)
   by-held {k} {u} atEnd e = let z : _≡_ {A = ℕ} 0 1 = cc in absurd (omega arith)
   by-held {k} {u} wrong e = let z : _≡_ {A = ℕ} 0 1 = cc in absurd (omega arith)
   by-held {k} {u} (got w u') e =
@@ -204,7 +204,7 @@ module _ (text : List ℕ) (at end : ℕ) (stack : List ℕ) (top : ℕ) (l : en
 -- A run of the code: from here on, the text's words lead to the verdict v
 pub record Running (text : List ℕ) (v : Verdict) (before stack : List ℕ) (at : ℕ) (by : Bool) (top : ℕ) : Type 0 where
   pub room : Room text at stack top
-  pub same : runBy (tableOf by) (drop top stack) (drop at text) ≡ v
+  pub same : runBy (spellingsOf by) (drop top stack) (drop at text) ≡ v
   pub size : length stack ≡ length before
 
 verdict-is : {text : List ℕ} {v v' : Verdict} {x : Answer} → v' ≡ v → VerdictIs text v' x → VerdictIs text v x
@@ -212,21 +212,21 @@ verdict-is e h = record { same = h .same ∙ e; inside = h .inside }
 
 module _ {text : List ℕ} {v : Verdict} {before stack : List ℕ} {at : ℕ} {by : Bool} {top : ℕ} (r : Running text v before stack at by top) where
   pub running-remark : {x : Answer} → isRemark (drop top stack) ≡ true → VerdictIs text (remarkAt (drop at text)) x → VerdictIs text v x
-  running-remark e h = verdict-is (sym (by-remark (tableOf by) (drop top stack) (drop at text) e) ∙ r .same) h
+  running-remark e h = verdict-is (sym (by-remark (spellingsOf by) (drop top stack) (drop at text) e) ∙ r .same) h
 
   module _ (e : isRemark (drop top stack) ≡ false) where
-    pub running-end : NextIs (tableOf by) text at NextEnd → VerdictIs text v Alive
-    running-end h = record { same = sym (by-end (tableOf by) (drop top stack) (drop at text) e h) ∙ r .same; inside = tt }
+    pub running-end : NextIs (spellingsOf by) text at NextEnd → VerdictIs text v Alive
+    running-end h = record { same = sym (by-end (spellingsOf by) (drop top stack) (drop at text) e h) ∙ r .same; inside = tt }
 
-    pub running-wrong : (end : ℕ) {x : Answer} → NextIs (tableOf by) text at (NextWrong end)
+    pub running-wrong : (end : ℕ) {x : Answer} → NextIs (spellingsOf by) text at (NextWrong end)
         → VerdictIs text (wordless (length text - end) (drop top stack) (drop at text)) x → VerdictIs text v x
     running-wrong end h y =
-        let d : length text - end ≡ gaveUp (tableOf by) (drop at text) = omega (arith, h .1) in
-        verdict-is (ap (λ (n : ℕ). wordless n (drop top stack) (drop at text)) d ∙ sym (by-nothing (tableOf by) (drop top stack) (drop at text) e (h .0)) ∙ r .same) y
+        let d : length text - end ≡ gaveUp (spellingsOf by) (drop at text) = omega (arith, h .1) in
+        verdict-is (ap (λ (n : ℕ). wordless n (drop top stack) (drop at text)) d ∙ sym (by-nothing (spellingsOf by) (drop top stack) (drop at text) e (h .0)) ∙ r .same) y
 
-    module _ {k end : ℕ} (h : NextIs (tableOf by) text at (Got k end)) {t : Turn} (s : SeekIs stack top k t) where
+    module _ {k end : ℕ} (h : NextIs (spellingsOf by) text at (Got k end)) {t : Turn} (s : SeekIs stack top k t) where
       by-turn : (o : Option (List ℕ)) → turn k (drop top stack) ≡ o → turned runs (drop end text) o ≡ v
-      by-turn o i = ap (turned runs (drop end text)) (sym i) ∙ sym (by-word (tableOf by) (drop top stack) (drop at text) e (h .0)) ∙ r .same
+      by-turn o i = ap (turned runs (drop end text)) (sym i) ∙ sym (by-word (spellingsOf by) (drop top stack) (drop at text) e (h .0)) ∙ r .same
 
       pub running-stuck : t .after ≡ 0 → VerdictIs text v (Stuck end)
       running-stuck z = record { same = ap stuck (sym (length-drop end text)) ∙ by-turn none (sym (s .same) ∙ rw (eq-eqb (t .after) 0 z)); inside = h .2 }
@@ -254,9 +254,9 @@ bottom stack x h =
     ∙ rw (getD-set-same stack t x 0 k, drop-of-length-le (set stack t x) {i = t + 1} (omega (arith, length-set stack t x)))
 
 pub whole-run : (b : Bool) (text stack : List ℕ) {x : ℕ} {r : Answer} → 0 < length stack → x ≡ lineSymbol b
-    → VerdictIs text (runBy (tableOf b) (drop (length stack - 1) (set stack (length stack - 1) x)) text) r → VerdictIs text (lineRun (tableOf b) (lineSymbol b) text) r
+    → VerdictIs text (runBy (spellingsOf b) (drop (length stack - 1) (set stack (length stack - 1) x)) text) r → VerdictIs text (lineRun (spellingsOf b) (lineSymbol b) text) r
 whole-run b text stack {x} h e v =
-    verdict-is (ap (λ (l : List ℕ). runBy (tableOf b) l text) (bottom stack x h) ∙ ap (λ (y : ℕ). runBy (tableOf b) (y ∷ []) text) e ∙ line-by b text) v
+    verdict-is (ap (λ (l : List ℕ). runBy (spellingsOf b) l text) (bottom stack x h) ∙ ap (λ (y : ℕ). runBy (spellingsOf b) (y ∷ []) text) e ∙ line-by b text) v
 
 pub whole-room : (text stack : List ℕ) (x : ℕ) → 3 * length text < length stack → Room text 0 (set stack (length stack - 1) x) (length stack - 1)
 whole-room text stack x h = record { inside = omega arith; deep = omega arith; within = omega (arith, length-set stack (length stack - 1) x) }

@@ -11,8 +11,8 @@ use lib.Dec.{eqb, leb, ltb}
 use lib.ListN.{length, getD, take}
 use lib.Seq.{slice}
 use Rattle.nibl.specs.Bytes.{if_then_else_, all}
-use Rattle.nibl.specs.Read.{choose}
-use Rattle.nibl.specs.Column.{Cases, factor, firstFactor, target, statement, consequence, typedLine, rules, casesOf, caseIn}
+use Rattle.nibl.specs.found.Read.{choose}
+use Rattle.nibl.specs.found.Column.{Cases, factor, firstFactor, target, statement, consequence, typedLine, rules, casesOf, caseIn}
 use Rattle.nibl.proofs.Words.{and-left, and-right}
 use Rattle.column.specs.Rules.{unpacked, mostAfter, afters, unpackedRule, ruleIn, RuleIs}
 

@@ -9,7 +9,7 @@ use borrow.Author.Tests.{ne-eqb, le-leb, lt-leb}
 use lib.Dec.{leb}
 use lib.ListN.{length, drop, getD, drop-of-length-le}
 use Rattle.nibl.specs.Bytes.{if_then_else_}
-use Rattle.nibl.specs.Column.{casesOf, caseIn, isOptional, turn}
+use Rattle.nibl.specs.found.Column.{casesOf, caseIn, isOptional, turn}
 use Rattle.word.proofs.Runs.{at-byte}
 use Rattle.column.specs.Rules.{unpacked, through, RuleIs, SeekIs}
 

@@ -4,7 +4,7 @@ use mathlib.Core.Path.{_≡_}
 use mathlib.Core.List.{List, [], _∷_}
 use lib.ListN.{length, take, drop}
 use Rattle.nibl.specs.Words.{keywords, commands}
-use Rattle.nibl.specs.Column.{typedLine, typedCommand, Verdict, alive, stuck, lineRun}
+use Rattle.nibl.specs.found.Column.{typedLine, typedCommand, Verdict, alive, stuck, lineRun}
 
 -- spellings that stand one behind the other, by their lengths
 abbrev pub cut : List ℕ → List ℕ → List (List ℕ)

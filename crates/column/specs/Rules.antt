@@ -6,7 +6,7 @@ use mathlib.Core.Option.{Option, none, some}
 use lib.Dec.{eqb, leb}
 use lib.ListN.{length, drop}
 use Rattle.nibl.specs.Bytes.{if_then_else_}
-use Rattle.nibl.specs.Column.{casesOf, caseIn, turn}
+use Rattle.nibl.specs.found.Column.{casesOf, caseIn, turn}
 use Rattle.column.specs.declared.rules.Turn.{Turn}
 
 -- what may come after a word, from one number and before what may come already: at most n of its digits

@@ -7,9 +7,9 @@ use mathlib.Core.Option.{Option, none, some}
 use lib.Dec.{eqb}
 use lib.ListN.{length, drop}
 use Rattle.nibl.specs.Bytes.{if_then_else_, isSpace, past, byteQuote}
-use Rattle.nibl.specs.Read.{Step, atEnd, wrong, got, stepIn}
-use Rattle.nibl.specs.GaveUp.{gaveUp}
-use Rattle.nibl.specs.Column.{sortOf, aText, typedLine, typedCommand, turn, isSome, isRemark, Verdict, alive, stuck, advance, remarkAt, runN}
+use Rattle.nibl.specs.found.Read.{FrontWord, atEnd, wrong, got, stepIn}
+use Rattle.nibl.specs.found.GaveUp.{gaveUp}
+use Rattle.nibl.specs.found.Column.{sortOf, aText, typedLine, typedCommand, turn, isSome, isRemark, Verdict, alive, stuck, advance, remarkAt, runN}
 use Rattle.word.specs.Found.{firstOf}
 use Rattle.column.specs.declared.run.Verdict.{Verdict as Answer}
 use Rattle.column.specs.declared.run.Verdict.the-variants.{Alive, Stuck}
@@ -30,7 +30,7 @@ pub record VerdictIs (text : List ℕ) (v : Verdict) (r : Answer) : Type 0 where
   pub inside : Within (length text) r
 
 -- a word as the rules know it, and what follows it
-abbrev pub held : Step → Option (ℕ × List ℕ)
+abbrev pub held : FrontWord → Option (ℕ × List ℕ)
 held atEnd = none
 held wrong = none
 held (got w s) = some (sortOf w, s)

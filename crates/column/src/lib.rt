@@ -10,9 +10,9 @@ ghost use lib.ListN.{length, take, drop};
 ghost use lib.Seq.{paste};
 ghost use lib.Dec.{leb};
 ghost use Rattle.nibl.specs.Bytes.{all};
-ghost use Rattle.nibl.specs.Column.{lineRun, isAlive, allTaken, endsWith, begunBy, begunIn, isFront, columnDown, columnOf};
-ghost use Rattle.nibl.specs.Calls.{limit};
-ghost use Rattle.word.specs.Found.{tableOf, longestKeyword};
+ghost use Rattle.nibl.specs.found.Column.{lineRun, isAlive, allTaken, endsWith, begunBy, begunIn, isFront, columnDown, columnOf};
+ghost use Rattle.nibl.specs.Typing.{limit};
+ghost use Rattle.word.specs.Found.{spellingsOf, longestKeyword};
 ghost use Rattle.column.specs.Runs.{lineSymbol};
 ghost use Rattle.column.specs.Fronts.{cut, total, most, Spare, Kept, ReachIs, lastTried};
 
@@ -84,7 +84,7 @@ const DEPTH: usize = 3 * (LIMIT + COMPLETION) + 1;
 // Whether all words of a text are taken, as a line or as a command.
 fn is_taken(text: &[u8], commands: bool, stack: &mut [u8]) -> bool
     requires { ⌜ 3 * length (now text) < length (now stack) ⌝ }
-    ensures answer { λ r. ⌜ r ≡ isAlive (lineRun (tableOf commands) (lineSymbol commands) (now (text .entry))) ⌝ }
+    ensures answer { λ r. ⌜ r ≡ isAlive (lineRun (spellingsOf commands) (lineSymbol commands) (now (text .entry))) ⌝ }
     ensures size { λ r. ⌜ length (now (stack .exit)) ≡ length (now (stack .entry)) ⌝ }
 {
     let v = run(text, commands, stack);
@@ -227,7 +227,7 @@ fn longest_front(text: &[u8], room: &mut [u8], from: usize, stack: &mut [u8]) ->
 // Where the text could not go on; its end where it could.
 fn reach(text: &[u8], commands: bool, stack: &mut [u8]) -> usize
     requires { ⌜ 3 * length (now text) < length (now stack) ⌝ }
-    ensures answer { λ r. ⌜ ReachIs (now (text .entry)) (lineRun (tableOf commands) (lineSymbol commands) (now (text .entry))) r ⌝ }
+    ensures answer { λ r. ⌜ ReachIs (now (text .entry)) (lineRun (spellingsOf commands) (lineSymbol commands) (now (text .entry))) r ⌝ }
     ensures size { λ r. ⌜ length (now (stack .exit)) ≡ length (now (stack .entry)) ⌝ }
 {
     let v = run(text, commands, stack);

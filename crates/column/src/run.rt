@@ -3,8 +3,8 @@ ghost use Prim.Native.Nat.{_+_, _-_, _*_, _≤_, _<_};
 ghost use mathlib.Core.Path.{_≡_};
 ghost use lib.ListN.{length, drop};
 ghost use Rattle.nibl.specs.Bytes.{isText, front};
-ghost use Rattle.nibl.specs.Column.{isRemark, remarkAt, lineRun};
-ghost use Rattle.word.specs.Found.{WordIs, tableOf};
+ghost use Rattle.nibl.specs.found.Column.{isRemark, remarkAt, lineRun};
+ghost use Rattle.word.specs.Found.{WordIs, spellingsOf};
 ghost use Rattle.column.specs.Runs.{VerdictIs, NextIs, wordless, runBy, lineSymbol, Room};
 use crate::rules;
 use crate::rules::push;
@@ -27,7 +27,7 @@ enum Next {
 }
 
 fn word_in(text: &[u8], at: usize, commands: bool) -> Word
-    ensures { λ r. ⌜ WordIs (tableOf commands) (now (text .entry)) at r ⌝ }
+    ensures { λ r. ⌜ WordIs (spellingsOf commands) (now (text .entry)) at r ⌝ }
 {
     if commands {
         return word::command_at(text, Cursor { at });
@@ -36,7 +36,7 @@ fn word_in(text: &[u8], at: usize, commands: bool) -> Word
 }
 
 fn look(text: &[u8], at: usize, commands: bool) -> Next
-    ensures { λ r. ⌜ NextIs (tableOf commands) (now (text .entry)) at r ⌝ }
+    ensures { λ r. ⌜ NextIs (spellingsOf commands) (now (text .entry)) at r ⌝ }
 {
     let w = word_in(text, at, commands);
     match w {
@@ -106,7 +106,7 @@ fn without_word(text: &[u8], at: usize, end: usize, stack: &[u8], top: usize) ->
 // The words of a text one after the other, from a position on. Only the first may be a command.
 fn run_from(text: &[u8], from: usize, commands: bool, stack: &mut [u8], bottom: usize) -> Verdict
     requires { ⌜ Room (now text) from (now stack) bottom ⌝ }
-    ensures answer { λ r. ⌜ VerdictIs (now (text .entry)) (runBy (tableOf commands) (drop bottom (now (stack .entry))) (drop from (now (text .entry)))) r ⌝ }
+    ensures answer { λ r. ⌜ VerdictIs (now (text .entry)) (runBy (spellingsOf commands) (drop bottom (now (stack .entry))) (drop from (now (text .entry)))) r ⌝ }
     ensures size { λ r. ⌜ length (now (stack .exit)) ≡ length (now (stack .entry)) ⌝ }
 {
     let mut at = from;
@@ -149,7 +149,7 @@ fn line_symbol(commands: bool) -> u8
 // The words of a whole text, as a line or as a command.
 pub fn run(text: &[u8], commands: bool, stack: &mut [u8]) -> Verdict
     requires { ⌜ 3 * length (now text) < length (now stack) ⌝ }
-    ensures answer { λ r. ⌜ VerdictIs (now (text .entry)) (lineRun (tableOf commands) (lineSymbol commands) (now (text .entry))) r ⌝ }
+    ensures answer { λ r. ⌜ VerdictIs (now (text .entry)) (lineRun (spellingsOf commands) (lineSymbol commands) (now (text .entry))) r ⌝ }
     ensures size { λ r. ⌜ length (now (stack .exit)) ≡ length (now (stack .entry)) ⌝ }
 {
     let top = stack.len() - 1;

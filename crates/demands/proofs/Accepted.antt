@@ -8,31 +8,33 @@ use lib.Dec.{leb, eqb}
 use borrow.Author.Tests.{leb-true, le-leb, eqb-false, ne-eqb}
 use Rattle.nibl.specs.Bytes.{if_then_else_}
 use Rattle.nibl.specs.Page.{isGood, fits}
-use Rattle.nibl.specs.Calls.{Lent, tableInRange, tableIsTrue, inRange, firstRefusal, obeyLine, takeLineIn, continueFrom, continueRunIn}
+use Rattle.nibl.specs.Lent.{Lent}
+use Rattle.nibl.specs.FirstRefusals.{pageInRange, memoryInRange, inputInRange, outputInRange, positionInRange, budgetInRange, tableInRange, tableIsTrue, inRange, firstRefusal}
+use Rattle.nibl.specs.Calls.{obeyLine, takeLineIn, continueFrom, continueRunIn}
 use Rattle.page.proofs.Walk.{by-cases}
 use Rattle.page.proofs.Program.{both}
 use Rattle.demands.specs.Lent.{HasTable, InRange, budgeted, gatheredLine}
 
-table-range-of : (x : Lent) → tableInRange x ≡ true → HasTable x → 1025 ≤ length (x .table)
+table-range-of : (x : Lent) → tableInRange (x .call) (length (x .table)) ≡ true → HasTable x → 1025 ≤ length (x .table)
 table-range-of x h n = leb-true _ _ (rw (ne-eqb (x .call .tabled) 0 n) at h)
 
-pub table-range-is : (x : Lent) → (HasTable x → 1025 ≤ length (x .table)) → tableInRange x ≡ true
+pub table-range-is : (x : Lent) → (HasTable x → 1025 ≤ length (x .table)) → tableInRange (x .call) (length (x .table)) ≡ true
 table-range-is x h =
     by-cases (eqb (x .call .tabled) 0) (λ e. rw e) (λ e. rw (e, le-leb 1025 (length (x .table)) (h (eqb-false (x .call .tabled) 0 e))))
 
 pub in-range-of : (x : Lent) → inRange x ≡ true → InRange x
 in-range-of x h =
-    let a = both (leb 2 (length (x .page))) _ h in
-    let b = both (leb (length (x .page)) 4096) _ (a .1) in
-    let c = both (leb (length (x .memory)) 4096) _ (b .1) in
-    let d = both (leb (length (x .input)) 65535) _ (c .1) in
-    let e = both (leb (length (x .output)) 65535) _ (d .1) in
-    let f = both (leb (x .call .inpos) (length (x .input))) _ (e .1) in
-    let g = both (leb (x .call .outpos) (length (x .output))) _ (f .1) in
-    let i = both (leb (x .call .budget) 65535) _ (g .1) in
+    let p = both (pageInRange (length (x .page))) _ h in
+    let a = both (leb 2 (length (x .page))) _ (p .0) in
+    let c = both (memoryInRange (length (x .memory))) _ (p .1) in
+    let d = both (inputInRange (length (x .input))) _ (c .1) in
+    let e = both (outputInRange (length (x .output))) _ (d .1) in
+    let f = both (positionInRange (x .call .inpos) (length (x .input))) _ (e .1) in
+    let g = both (positionInRange (x .call .outpos) (length (x .output))) _ (f .1) in
+    let i = both (budgetInRange (x .call .budget)) _ (g .1) in
     record {
       some = leb-true _ _ (a .0);
-      page = leb-true _ _ (b .0);
+      page = leb-true _ _ (a .1);
       memory = leb-true _ _ (c .0);
       input = leb-true _ _ (d .0);
       output = leb-true _ _ (e .0);

@@ -5,7 +5,12 @@ use mathlib.Core.Path.{_≡_, refl, ap, _∙_}
 use Rattle.nibl.specs.Tree.{run, immediate}
 use Rattle.nibl.specs.Typing.{Gathered}
 use Rattle.nibl.specs.Meaning.{World, withSession}
-use Rattle.nibl.specs.Calls.{Lent, Ran, past, fetch, runFrom, runOutcome, stops, firstRefusal, lentEnv, afterImmediate, obey, takeLine, continueFrom, continueRun, leaves, limit}
+use Rattle.nibl.specs.Lent.{Lent, stops}
+use Rattle.nibl.specs.Runs.{Ran, past, fetch, runFrom, runOutcome}
+use Rattle.nibl.specs.Typing.{limit}
+use Rattle.nibl.specs.Lent.{lentEnv}
+use Rattle.nibl.specs.FirstRefusals.{firstRefusal}
+use Rattle.nibl.specs.Calls.{afterImmediate, obey, takeLine, continueFrom, continueRun, leaves}
 use Rattle.nibl.specs.Record.{nowhere, pausedAt, withPaused}
 use Rattle.nibl.proofs.Whole.{typed-complete}
 use Rattle.demands.specs.Lent.{Typing}

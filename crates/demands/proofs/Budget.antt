@@ -13,7 +13,7 @@ use Rattle.nibl.specs.Tree.{Stmt}
 use Rattle.nibl.specs.Page.{isAmong}
 use Rattle.nibl.specs.Record.{mark}
 use Rattle.nibl.specs.Meaning.{World, Env, on, skip, go, stop, Done, done, exec}
-use Rattle.nibl.specs.Calls.{Ran, stepped, Standing, Fetched, past, unread, here, fetch, envAt, afterStep, step, runFrom}
+use Rattle.nibl.specs.Runs.{Ran, stepped, Standing, Fetched, past, unread, here, fetch, envAt, afterStep, step, runFrom}
 use Rattle.demands.proofs.Does.{refusals, GivesVariables, gave, refused, gives, Does, writes, takes, refuses, passes, skips, assigns, assignsFlags, stores, goesTo, saves, returns, loops, repeats, leaves, begins, again, finishes, inputs}
 use Rattle.demands.proofs.Effects.{exec-does}
 use Rattle.demands.proofs.Runs.{here-not-past, run-past, run-zero, run-unread, run-suc, after-law, every-run}

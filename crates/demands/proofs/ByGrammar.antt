@@ -11,7 +11,11 @@ use Rattle.nibl.specs.Readings.{LineReading}
 use Rattle.nibl.specs.Typing.{Gathered}
 use Rattle.nibl.specs.Meaning.{World, Env}
 use Rattle.nibl.specs.Page.{isGood, fits}
-use Rattle.nibl.specs.Calls.{Lent, Left, runFrom, tableIsTrue, firstRefusal, takeLine, continueRun, limit}
+use Rattle.nibl.specs.Lent.{Lent, Left}
+use Rattle.nibl.specs.Runs.{runFrom}
+use Rattle.nibl.specs.Typing.{limit}
+use Rattle.nibl.specs.FirstRefusals.{tableIsTrue, firstRefusal}
+use Rattle.nibl.specs.Calls.{takeLine, continueRun}
 use Rattle.nibl.specs.Record.{pausedAt}
 use Rattle.nibl.specs.declared.Session.{Session}
 use Rattle.page.proofs.Walk.{by-cases}

@@ -8,7 +8,7 @@ use lib.ListN.{length, drop, length-drop}
 use lib.Seq.{length-sets}
 use Rattle.nibl.specs.Typing.{Gathered, gather}
 use Rattle.nibl.specs.Meaning.{World, Env, Done, done, on, skip, go, stop, withSession, exec}
-use Rattle.nibl.specs.Calls.{Ran, runFrom, envAt, afterStep}
+use Rattle.nibl.specs.Runs.{Ran, runFrom, envAt, afterStep}
 use Rattle.nibl.specs.declared.Session.{Session}
 use Rattle.demands.specs.Leaves.{worldAfter}
 use Rattle.letter.proofs.Typed.{taken}

@@ -14,7 +14,7 @@ use Rattle.nibl.specs.Tree.{Op, times, dividedBy, andBits, plus, minus, orBits,
 use Rattle.nibl.specs.Tree.{Expr, var, const, stat, top, byteAt, invert, negate, modulo, two}
 use Rattle.nibl.specs.Tree.{Item, text, stored, value}
 use Rattle.nibl.specs.Tree.{Stmt, letVar, letStat, letByte, letCopy, letText, goto, gosub, until, return, doLoop, remark, end, print, ifThen, for, next, input, inputText}
-use Rattle.nibl.specs.Read.{replied}
+use Rattle.nibl.specs.found.Read.{replied}
 use Rattle.nibl.specs.Values.{Result, is, no, Value, apply, mod16, quotient16, remainder16, printed}
 use Rattle.nibl.specs.Stack.{pushOf, popOf, pushFor, popFor}
 use Rattle.nibl.specs.Typing.{Gathered, gather}

@@ -13,12 +13,16 @@ use borrow.Author.Tests.{leb-true, leb-false}
 use Rattle.nibl.specs.Bytes.{if_then_else_}
 use Rattle.nibl.specs.Tree.{Stmt, letVar, letStat, letByte, letCopy, letText, goto, gosub, until, return, doLoop, remark, end, print, ifThen, for, next, input, inputText}
 use Rattle.nibl.specs.Tree.{Typed, blank, new, clear, run, delete, list, store, immediate}
-use Rattle.nibl.specs.Read.{typed}
+use Rattle.nibl.specs.found.Read.{typed}
 use Rattle.nibl.specs.Readings.{LineReading}
 use Rattle.nibl.specs.Typing.{Gathered}
 use Rattle.nibl.specs.Page.{Stored, isGood, fits, recordsOf, usedBy, hasLine, with, without, programBytes}
 use Rattle.nibl.specs.Meaning.{World, Env, stop, exec}
-use Rattle.nibl.specs.Calls.{Lent, Outcome, Left, noLine, stops, inRange, tableIsTrue, firstRefusal, begun, lentEnv, edited, listFrom, afterImmediate, needsProgram, obey, takeLine, continueRun, limit}
+use Rattle.nibl.specs.Lent.{Lent, Outcome, Left, noLine, stops}
+use Rattle.nibl.specs.Typing.{limit}
+use Rattle.nibl.specs.Lent.{begun, lentEnv}
+use Rattle.nibl.specs.FirstRefusals.{inRange, tableIsTrue, firstRefusal}
+use Rattle.nibl.specs.Calls.{edited, listFrom, afterImmediate, needsProgram, obey, takeLine, continueRun}
 use Rattle.nibl.specs.declared.Answer.{Answer}
 use Rattle.nibl.proofs.Words.{if-split}
 use Rattle.nibl.proofs.Lines.{typed-sound}

@@ -8,10 +8,15 @@ use native.Mathlib.Omega.{arith}
 use lib.ListN.{drop}
 use Rattle.nibl.specs.Tree.{Typed}
 use Rattle.nibl.specs.Readings.{LineReading}
-use Rattle.nibl.specs.Read.{typed}
+use Rattle.nibl.specs.found.Read.{typed}
 use Rattle.nibl.specs.Typing.{Gathered, gather}
 use Rattle.nibl.specs.Meaning.{World, Env}
-use Rattle.nibl.specs.Calls.{Lent, Outcome, runFrom, firstRefusal, obey, begun, takeLine, takeLineIn, continueRun, continueRunIn, leaves, limit, lentEnv}
+use Rattle.nibl.specs.Lent.{Lent, Outcome}
+use Rattle.nibl.specs.Runs.{runFrom}
+use Rattle.nibl.specs.Typing.{limit}
+use Rattle.nibl.specs.Lent.{begun, lentEnv}
+use Rattle.nibl.specs.FirstRefusals.{firstRefusal}
+use Rattle.nibl.specs.Calls.{obey, takeLine, takeLineIn, continueRun, continueRunIn, leaves}
 use Rattle.nibl.proofs.Exact.{typed-exact}
 use Rattle.page.specs.Standing.{Stands}
 use Rattle.record.specs.Sound.{Sized, Sound}

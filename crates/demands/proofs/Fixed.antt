@@ -11,13 +11,18 @@ use lib.Dec.{ltb, leb, eqb}
 use borrow.Author.Tests.{eqb-true}
 use Rattle.nibl.specs.Bytes.{if_then_else_}
 use Rattle.nibl.specs.Tree.{Typed, blank, new, clear, run, delete, list, store, immediate}
-use Rattle.nibl.specs.Read.{typed}
-use Rattle.nibl.specs.Column.{columnOf}
+use Rattle.nibl.specs.found.Read.{typed}
+use Rattle.nibl.specs.found.Column.{columnOf}
 use Rattle.nibl.specs.Readings.{LineReading}
 use Rattle.nibl.specs.Typing.{Gathered}
 use Rattle.nibl.specs.Page.{Stored, isAmong, isGood, recordsOf, size, lineIn, lineOf, hasLine, without, with, programBytes, onto}
 use Rattle.nibl.specs.Meaning.{World, Env, stop, Done, withSession, exec}
-use Rattle.nibl.specs.Calls.{Lent, Outcome, noLine, stopAt, envAt, runFrom, runOutcome, stops, refusedLine, firstRefusal, begun, lentEnv, edited, afterImmediate, needsProgram, obey, obeyRead, takeLine, takeLineIn, continueFrom, continueRun, leaves, limit}
+use Rattle.nibl.specs.Lent.{Lent, Outcome, noLine, stops, refusedLine}
+use Rattle.nibl.specs.Runs.{stopAt, envAt, runFrom, runOutcome}
+use Rattle.nibl.specs.Typing.{limit}
+use Rattle.nibl.specs.Lent.{begun, lentEnv}
+use Rattle.nibl.specs.FirstRefusals.{firstRefusal}
+use Rattle.nibl.specs.Calls.{edited, afterImmediate, needsProgram, obey, obeyRead, takeLine, takeLineIn, continueFrom, continueRun, leaves}
 use Rattle.nibl.specs.Record.{stackless}
 use Rattle.nibl.proofs.Words.{if-split}
 use Rattle.nibl.proofs.Lines.{typed-sound}

@@ -5,7 +5,11 @@ use mathlib.Core.Path.{_≡_, refl}
 use mathlib.Core.Bool.{true, false}
 use mathlib.Core.Option.{none}
 use Rattle.nibl.specs.Page.{isGood, fits}
-use Rattle.nibl.specs.Calls.{Lent, stops, lentWorld, tableIsTrue, inRange, firstRefusal, takeLine, takeLineIn, continueRun, continueRunIn, leaves, limit}
+use Rattle.nibl.specs.Lent.{Lent, stops}
+use Rattle.nibl.specs.Typing.{limit}
+use Rattle.nibl.specs.Lent.{lentWorld}
+use Rattle.nibl.specs.FirstRefusals.{tableIsTrue, inRange, firstRefusal}
+use Rattle.nibl.specs.Calls.{takeLine, takeLineIn, continueRun, continueRunIn, leaves}
 use Rattle.page.proofs.Walk.{by-cases}
 use Rattle.demands.specs.Lent.{gatheredLine, InRange}
 use Rattle.demands.specs.Leaves.{unchanged, BothUnchanged}

@@ -11,7 +11,12 @@ use Rattle.nibl.specs.Typing.{Gathered}
 use Rattle.nibl.specs.Readings.{LineReading}
 use Rattle.nibl.specs.Meaning.{World, Env, Next, stop}
 use Rattle.nibl.specs.Page.{isGood}
-use Rattle.nibl.specs.Calls.{Lent, Outcome, runFrom, firstRefusal, lentEnv, takeLine, continueRun, limit}
+use Rattle.nibl.specs.Lent.{Lent, Outcome}
+use Rattle.nibl.specs.Runs.{runFrom}
+use Rattle.nibl.specs.Typing.{limit}
+use Rattle.nibl.specs.Lent.{lentEnv}
+use Rattle.nibl.specs.FirstRefusals.{firstRefusal}
+use Rattle.nibl.specs.Calls.{takeLine, continueRun}
 use Rattle.page.proofs.Walk.{by-cases}
 use Rattle.page.specs.Standing.{Stands}
 use Rattle.record.specs.Sound.{Sized}

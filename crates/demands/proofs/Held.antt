@@ -14,7 +14,8 @@ use Rattle.nibl.specs.Stack.{popOf}
 use Rattle.nibl.specs.Page.{Stored, isAmong}
 use Rattle.nibl.specs.Meaning.{World, Env, on, skip, go, stop, Done, done, withSession, exec}
 use Rattle.nibl.specs.Record.{mark, withGosubs}
-use Rattle.nibl.specs.Calls.{Ran, envAt, afterStep, runFrom, listFrom}
+use Rattle.nibl.specs.Runs.{Ran, envAt, afterStep, runFrom}
+use Rattle.nibl.specs.Calls.{listFrom}
 use Rattle.nibl.specs.declared.Place.{Place}
 use Rattle.nibl.specs.declared.Session.{Session}
 use Rattle.nibl.specs.declared.Top.the-variants as top

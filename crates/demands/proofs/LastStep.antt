@@ -10,7 +10,7 @@ use borrow.Author.Tests.{eqb-true, eqb-false}
 use Rattle.page.proofs.Walk.{by-cases}
 use Rattle.nibl.specs.Page.{isAmong}
 use Rattle.nibl.specs.Meaning.{World, Env, Next, on, skip, go, stop, Done, done, exec}
-use Rattle.nibl.specs.Calls.{Ran, ran, stepped, Standing, past, here, fetch, envAt, afterStep, step, runFrom}
+use Rattle.nibl.specs.Runs.{Ran, ran, stepped, Standing, past, here, fetch, envAt, afterStep, step, runFrom}
 use Rattle.nibl.specs.Record.{nowhere, withPaused, unpaused}
 use Rattle.nibl.specs.declared.Session.{Session}
 use Rattle.demands.proofs.Runs.{here-not-past, run-zero, run-suc, every-run}

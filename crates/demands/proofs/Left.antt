@@ -11,7 +11,9 @@ use mathlib.Core.Logic.{_⊎_, _↔_}
 use Rattle.nibl.specs.Tree.{Typed}
 use Rattle.nibl.specs.Typing.{Gathered}
 use Rattle.nibl.specs.Readings.{LineReading}
-use Rattle.nibl.specs.Calls.{Lent, Outcome, Left, lentAll, leftAll, limit, takeLine, continueRun, leaves}
+use Rattle.nibl.specs.Lent.{Lent, Outcome, Left, lentAll, leftAll}
+use Rattle.nibl.specs.Typing.{limit}
+use Rattle.nibl.specs.Calls.{takeLine, continueRun, leaves}
 use Rattle.nibl.specs.declared.Session.{Session}
 use Rattle.nibl.specs.declared.Call.{Call}
 use Rattle.nibl.specs.declared.Answer.{Answer}

@@ -11,7 +11,12 @@ use lib.Dec.{eqb}
 use borrow.Author.Tests.{eqb-true, eqb-false}
 use Rattle.nibl.specs.Page.{isAmong, isGood, placesOf, lineOf}
 use Rattle.nibl.specs.Meaning.{World, Env}
-use Rattle.nibl.specs.Calls.{Lent, Outcome, Ran, noLine, runFrom, stopAt, stops, lentWorld, firstRefusal, takeLine, continueRun, lentEnv, limit}
+use Rattle.nibl.specs.Lent.{Lent, Outcome, noLine, stops}
+use Rattle.nibl.specs.Runs.{Ran, runFrom, stopAt}
+use Rattle.nibl.specs.Typing.{limit}
+use Rattle.nibl.specs.Lent.{lentWorld, lentEnv}
+use Rattle.nibl.specs.FirstRefusals.{firstRefusal}
+use Rattle.nibl.specs.Calls.{takeLine, continueRun}
 use Rattle.page.proofs.Walk.{by-cases, or-false}
 use Rattle.nibl.proofs.Words.{or-cases}
 use Rattle.page.specs.Standing.{Stands, LiesIn}

@@ -12,18 +12,22 @@ use lib.Dec.{ltb}
 use borrow.Author.Tests.{le-leb, le-ltb, ne-eqb}
 use Rattle.nibl.specs.Bytes.{bytes, isDigit, All, starts, decimalValue}
 use Rattle.nibl.specs.Bytes as plain
-use Rattle.nibl.specs.Words.{decimal, Run, Word, keywords}
+use Rattle.nibl.specs.Words.{decimal, ByteRun, Word, keywords}
 use Rattle.nibl.specs.Words as words
 use Rattle.nibl.specs.Grammar.{aStore, aList}
 use Rattle.nibl.specs.Tree.{Member, list, store}
-use Rattle.nibl.specs.Read.{typed}
+use Rattle.nibl.specs.found.Read.{typed}
 use Rattle.nibl.specs.Readings.{LineReading}
 use Rattle.nibl.specs.Typing.{kept, Gathered, gather}
 use Rattle.nibl.specs.Values.{digits}
 use Rattle.nibl.specs.Page.{Stored, programBytes, recordsOf, usedBy, used, fits, with, onto}
 use Rattle.nibl.specs.Record.{unpaused, stackless}
 use Rattle.nibl.specs.Meaning.{World, withSession, withOutput, on, done, put}
-use Rattle.nibl.specs.Calls.{Lent, Outcome, stops, firstRefusal, begun, lentEnv, listed, listFrom, afterImmediate, edited, obey, takeLine, limit}
+use Rattle.nibl.specs.Lent.{Lent, Outcome, stops}
+use Rattle.nibl.specs.Typing.{limit}
+use Rattle.nibl.specs.Lent.{begun, lentEnv}
+use Rattle.nibl.specs.FirstRefusals.{firstRefusal}
+use Rattle.nibl.specs.Calls.{listed, listFrom, afterImmediate, edited, obey, takeLine}
 use Rattle.nibl.specs.declared.Session.{Session}
 use Rattle.nibl.proofs.Ends.{line-text}
 use Rattle.nibl.proofs.Lines.{reading-sound}
@@ -116,7 +120,7 @@ module _ (r : Stored) (s : Storable limit r) where
   number : Word keywords (typedLine r) (decimal (r .line)) (r .text)
   number =
       let ds : List ℕ = digits (r .line) in
-      let run : Run isDigit ds (r .text) = record { some = some-digit ds (digits-are (r .line)) (digits-some (r .line)); each = digits-are (r .line); longest = stored-undigit s } in
+      let run : ByteRun isDigit ds (r .text) = record { some = some-digit ds (digits-are (r .line)) (digits-some (r .line)); each = digits-are (r .line); longest = stored-undigit s } in
       let v : decimalValue 0 ds ≡ r .line = value-digits (r .line) (omega (arith, s .number)) in
       subst (λ (n : ℕ). Word keywords (typedLine r) (decimal n) (r .text)) v (words.decimalDigits run (omega (arith, s .number)))
 

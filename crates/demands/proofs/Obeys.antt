@@ -8,11 +8,15 @@ use native.Mathlib.Omega.{arith}
 use lib.ListN.{length, drop}
 use lib.Dec.{leb}
 use Rattle.nibl.specs.Tree.{Stmt, Member, Typed, blank, new, clear, run, delete, list, store, immediate}
-use Rattle.nibl.specs.Read.{typed}
+use Rattle.nibl.specs.found.Read.{typed}
 use Rattle.nibl.specs.Typing.{Gathered}
 use Rattle.nibl.specs.Page.{Stored, isAmong, isGood, fitsPaused, placesOf, recordsOf, hasLine, without, with, programBytes, onto}
 use Rattle.nibl.specs.Meaning.{World, Env, Done, done, on, skip, go, stop, withSession, exec}
-use Rattle.nibl.specs.Calls.{Lent, Outcome, runFrom, runOutcome, stops, edited, listFrom, afterImmediate, needsProgram, obey, continueFrom, firstRefusal, begun, lentEnv}
+use Rattle.nibl.specs.Lent.{Lent, Outcome, stops}
+use Rattle.nibl.specs.Runs.{runFrom, runOutcome}
+use Rattle.nibl.specs.Lent.{begun, lentEnv}
+use Rattle.nibl.specs.FirstRefusals.{firstRefusal}
+use Rattle.nibl.specs.Calls.{edited, listFrom, afterImmediate, needsProgram, obey, continueFrom}
 use Rattle.nibl.specs.Record.{nowhere, stackless, cleared}
 use Rattle.nibl.proofs.Words.{if-split}
 use Rattle.nibl.proofs.Lines.{typed-sound}

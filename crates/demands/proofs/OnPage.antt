@@ -11,7 +11,7 @@ use lib.ListN.{length, drop}
 use lib.Dec.{eqb}
 use borrow.Author.Tests.{eqb-true, eqb-false}
 use Rattle.nibl.specs.Page.{Stored, isEnd, lineAt, lengthAt, recordsOf, size, usedBy, programBytes}
-use Rattle.nibl.specs.Calls.{limit}
+use Rattle.nibl.specs.Typing.{limit}
 use Rattle.page.proofs.Walk.{by-cases}
 use Rattle.page.proofs.Program.{end-bytes, program-length}
 use Rattle.page.proofs.Laid.{Whole, Laid, good-laid}

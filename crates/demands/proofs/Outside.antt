@@ -13,7 +13,11 @@ use Rattle.nibl.specs.Readings.{LineReading}
 use Rattle.nibl.specs.Typing.{Gathered}
 use Rattle.nibl.specs.Page.{Stored, recordsOf, programBytes, hasLine, with, without, onto}
 use Rattle.nibl.specs.Meaning.{World, Env, on, skip, go, stop, Done, done, withSession, exec}
-use Rattle.nibl.specs.Calls.{Lent, Outcome, Left, runFrom, outcome, runOutcome, stops, lentWorld, begun, lentEnv, edited, listFrom, afterImmediate, needsProgram, obey, takeLine, continueFrom, continueRun, leaves, limit}
+use Rattle.nibl.specs.Lent.{Lent, Outcome, Left, outcome, stops}
+use Rattle.nibl.specs.Runs.{runFrom, runOutcome}
+use Rattle.nibl.specs.Typing.{limit}
+use Rattle.nibl.specs.Lent.{lentWorld, begun, lentEnv}
+use Rattle.nibl.specs.Calls.{edited, listFrom, afterImmediate, needsProgram, obey, takeLine, continueFrom, continueRun, leaves}
 use Rattle.nibl.specs.Record.{stackless}
 use Rattle.nibl.specs.declared.Session.{Session}
 use Rattle.nibl.proofs.Determined.{determined}

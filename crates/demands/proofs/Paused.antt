@@ -11,11 +11,16 @@ use lib.ListN.{length, length-append}
 use lib.Dec.{eqb}
 use borrow.Author.Tests.{eqb-true, eq-eqb}
 use Rattle.nibl.specs.Tree.{Typed}
-use Rattle.nibl.specs.Read.{typed}
-use Rattle.nibl.specs.Column.{columnOf}
+use Rattle.nibl.specs.found.Read.{typed}
+use Rattle.nibl.specs.found.Column.{columnOf}
 use Rattle.nibl.specs.Typing.{Gathered}
 use Rattle.nibl.specs.Meaning.{World, Env}
-use Rattle.nibl.specs.Calls.{Lent, Outcome, Ran, ran, Standing, here, fetch, runFrom, refusedLine, firstRefusal, begun, lentEnv, obeyRead, obeyLine, takeLine, takeLineIn, continueRun, continueRunIn, limit}
+use Rattle.nibl.specs.Lent.{Lent, Outcome, refusedLine}
+use Rattle.nibl.specs.Runs.{Ran, ran, Standing, here, fetch, runFrom}
+use Rattle.nibl.specs.Typing.{limit}
+use Rattle.nibl.specs.Lent.{begun, lentEnv}
+use Rattle.nibl.specs.FirstRefusals.{firstRefusal}
+use Rattle.nibl.specs.Calls.{obeyRead, obeyLine, takeLine, takeLineIn, continueRun, continueRunIn}
 use Rattle.page.proofs.Walk.{by-cases}
 use Rattle.page.specs.Standing.{Stands}
 use Rattle.record.specs.Sound.{Sized, Sound}

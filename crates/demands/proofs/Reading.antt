@@ -13,9 +13,9 @@ use Rattle.nibl.specs.Bytes.{notCR, All, none as every-none, each, front}
 use Rattle.nibl.specs.Tree.{Member}
 use Rattle.nibl.specs.Grammar.{Members, lastMember, moreMembers}
 use Rattle.nibl.specs.Readings.{ListReading}
-use Rattle.nibl.specs.Read.{found, member}
+use Rattle.nibl.specs.found.Read.{found, member}
 use Rattle.nibl.specs.Page.{Stored, lineOf, recordsOf}
-use Rattle.nibl.specs.Calls.{past as nothing, here, textFrom, lineFrom, fetch}
+use Rattle.nibl.specs.Runs.{past as nothing, here, textFrom, lineFrom, fetch}
 use Rattle.nibl.specs.Record.{pausedAt}
 use Rattle.nibl.proofs.Words.{front-run}
 use Rattle.nibl.proofs.Over.{word-over}

@@ -10,7 +10,7 @@ use lib.Dec.{leb, eqb}
 use Rattle.nibl.specs.Bytes.{if_then_else_, bytes}
 use Rattle.nibl.specs.Tree.{Expr, Item, text, stored, value}
 use Rattle.nibl.specs.Tree.{Stmt, letVar, letStat, letByte, letCopy, letText, goto, gosub, until, return, doLoop, remark, end, print, ifThen, for, next, input, inputText}
-use Rattle.nibl.specs.Read.{replied}
+use Rattle.nibl.specs.found.Read.{replied}
 use Rattle.nibl.specs.Values.{Result, is, no, printed}
 use Rattle.nibl.specs.Stack.{pushOf, pushFor}
 use Rattle.nibl.specs.Typing.{Gathered, gather}

@@ -10,12 +10,17 @@ use lib.ListN.{length-append}
 use lib.Dec.{eqb}
 use borrow.Author.Tests.{eqb-true, eqb-false, eq-eqb, ne-eqb}
 use Rattle.nibl.specs.Tree.{Typed}
-use Rattle.nibl.specs.Read.{typed}
-use Rattle.nibl.specs.Column.{columnOf}
+use Rattle.nibl.specs.found.Read.{typed}
+use Rattle.nibl.specs.found.Column.{columnOf}
 use Rattle.nibl.specs.Typing.{Gathered}
 use Rattle.nibl.specs.Page.{isGood, placesOf}
 use Rattle.nibl.specs.Meaning.{World, Env, withSession}
-use Rattle.nibl.specs.Calls.{Lent, Outcome, Ran, runFrom, stopAt, runOutcome, stops, refusedLine, outcome, pausing, firstRefusal, begun, lentEnv, obeyRead, obeyLine, takeLine, takeLineIn, continueFrom, continueRun, continueRunIn, tableAfter, lentAll, withPositions, limit}
+use Rattle.nibl.specs.Lent.{Lent, Outcome, stops, refusedLine, outcome, lentAll, withPositions}
+use Rattle.nibl.specs.Runs.{Ran, runFrom, stopAt, runOutcome, pausing}
+use Rattle.nibl.specs.Typing.{limit}
+use Rattle.nibl.specs.Lent.{begun, lentEnv}
+use Rattle.nibl.specs.FirstRefusals.{firstRefusal}
+use Rattle.nibl.specs.Calls.{obeyRead, obeyLine, takeLine, takeLineIn, continueFrom, continueRun, continueRunIn, tableAfter}
 use Rattle.nibl.specs.Record.{withPaused, pausedAt}
 use Rattle.page.proofs.Walk.{by-cases}
 use Rattle.demands.specs.Lent.{budgeted, gatheredLine, Typing, InRange}

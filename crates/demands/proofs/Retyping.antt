@@ -11,11 +11,14 @@ use lib.Dec.{ltb, eqb}
 use borrow.Author.Tests.{ltb-true, eqb-true, eqb-false, le-leb, lt-leb, eq-eqb, ne-eqb}
 use Rattle.nibl.specs.Bytes.{if_then_else_}
 use Rattle.nibl.specs.Tree.{Member, Typed, new, delete, store}
-use Rattle.nibl.specs.Read.{typed}
+use Rattle.nibl.specs.found.Read.{typed}
 use Rattle.nibl.specs.Readings.{LineReading}
 use Rattle.nibl.specs.Typing.{Gathered}
 use Rattle.nibl.specs.Page.{Stored, programBytes, fits, recordsOf, size, used, usedBy, hasLine, with, without, onto}
-use Rattle.nibl.specs.Calls.{Lent, stops, begun, lentEnv, edited, obey, takeLine, takeLineIn, leaves, limit}
+use Rattle.nibl.specs.Lent.{Lent, stops}
+use Rattle.nibl.specs.Typing.{limit}
+use Rattle.nibl.specs.Lent.{begun, lentEnv}
+use Rattle.nibl.specs.Calls.{edited, obey, takeLine, takeLineIn, leaves}
 use Rattle.nibl.specs.Record.{stackless}
 use Rattle.nibl.specs.Meaning.{World, withSession}
 use Rattle.nibl.proofs.Whole.{typed-complete}
@@ -26,7 +29,7 @@ use Rattle.page.proofs.Laid.{Laid, laid-program, laid-room, good-laid}
 use Rattle.page.proofs.Changes.{with-program, without-program, onto-good, onto-records}
 use Rattle.page.proofs.Tables.{good-rising}
 use Rattle.demands.specs.Lent.{Typing}
-use Rattle.demands.specs.Leaves.{ofLine, others, lineTaken, Edits, Replaces, Deletes}
+use Rattle.demands.specs.Leaves.{recordsOfLine, others, lineTaken, Edits, Replaces, Deletes}
 use Rattle.demands.proofs.Storing.{stored-storable}
 use Rattle.demands.proofs.Good.{good-exact}
 use Rattle.demands.proofs.Accepted.{accepted-of}
@@ -40,7 +43,7 @@ line-read x g y h e = rw (h .sound, takeLineIn) (rw (h .line) (rw (h .short) (rw
 
 -- The records after an edit
 module _ (n : ℕ) where
-  none-of : {lim low : ℕ} {rs : List Stored} → n < low → Program lim low rs → ofLine n rs ≡ []
+  none-of : {lim low : ℕ} {rs : List Stored} → n < low → Program lim low rs → recordsOfLine n rs ≡ []
   none-of h none = refl
   none-of h (each {r = r} l s p) = rw (ne-eqb (r .line) n (λ e. omega arith)) (none-of (omega arith) p)
 
@@ -49,7 +52,7 @@ module _ (n : ℕ) where
   all-other h (each {r = r} l s p) = rw (ne-eqb (r .line) n (λ e. omega arith)) (ap (λ (rs : List Stored). r ∷ rs) (all-other (omega arith) p))
 
   -- a record taken out
-  pub without-none : {lim low : ℕ} {rs : List Stored} → Program lim low rs → ofLine n (without n rs) ≡ []
+  pub without-none : {lim low : ℕ} {rs : List Stored} → Program lim low rs → recordsOfLine n (without n rs) ≡ []
   without-none none = refl
   without-none (each {r = r} {rs = rs} l s p) =
       by-cases (eqb (r .line) n)
@@ -68,15 +71,15 @@ module _ (n : ℕ) where
   others-short (r ∷ rs) = by-cases (eqb (r .line) n) (λ e. rw (e, if_then_else_) (omega (arith, others-short rs))) (λ e. rw (e, if_then_else_) (omega (arith, others-short rs)))
 
   -- a record that was not there is not among those of a number
-  pub absent-none : (rs : List Stored) → hasLine n rs ≡ false → ofLine n rs ≡ []
+  pub absent-none : (rs : List Stored) → hasLine n rs ≡ false → recordsOfLine n rs ≡ []
   absent-none [] h = refl
   absent-none (r ∷ rs) h =
       by-cases (eqb (r .line) n) (λ e. absurd (true≢false (rw e at h))) (λ e. rw (e, if_then_else_) (absent-none rs (rw e at h)))
 
-  pub none-absent : (rs : List Stored) → ofLine n rs ≡ [] → hasLine n rs ≡ false
+  pub none-absent : (rs : List Stored) → recordsOfLine n rs ≡ [] → hasLine n rs ≡ false
   none-absent [] h = refl
   none-absent (r ∷ rs) h = by (eqb (r .line) n) h (none-absent rs) where
-    by : (b : Bool) → (if b then r ∷ ofLine n rs else ofLine n rs) ≡ [] → (ofLine n rs ≡ [] → hasLine n rs ≡ false) → (b || hasLine n rs) ≡ false
+    by : (b : Bool) → (if b then r ∷ recordsOfLine n rs else recordsOfLine n rs) ≡ [] → (recordsOfLine n rs ≡ [] → hasLine n rs ≡ false) → (b || hasLine n rs) ≡ false
     by true h f = let z : _≡_ {A = ℕ} 0 1 = cc in absurd (omega arith)
     by false h f = f h
 
@@ -87,7 +90,7 @@ module _ (q : Stored) where
 
   -- before those of higher numbers, in the place of the one of its number, or after those of lower ones
   pub record With (rs ps : List Stored) : Type 0 where
-    pub one : ofLine n ps ≡ q ∷ []
+    pub one : recordsOfLine n ps ≡ q ∷ []
     pub rest : others n ps ≡ others n rs
     pub room : usedBy ps ≡ usedBy (others n rs) + size q
 
@@ -201,7 +204,7 @@ module _ (x : Lent) (g : Gathered) (h : Typing limit x g) where
     unfolding obey
     deletes b e = line-read x g (delete n) h (typed-complete r) ∙ rw (e, obey)
 
-    pub deleting-removes : (ofLine n (recordsOf (x .page)) ≡ [] → ⊥) → Edits x (g .taken) (takeLine x) × Deletes x n (takeLine x)
+    pub deleting-removes : (recordsOfLine n (recordsOf (x .page)) ≡ [] → ⊥) → Edits x (g .taken) (takeLine x) × Deletes x n (takeLine x)
     deleting-removes there = by-cases (hasLine n (recordsOf (x .page))) by (λ e. absurd (there (absent-none n (recordsOf (x .page)) e))) where
       by : hasLine n (recordsOf (x .page)) ≡ true → Edits x (g .taken) (takeLine x) × Deletes x n (takeLine x)
       by e =
@@ -217,5 +220,5 @@ module _ (x : Lent) (g : Gathered) (h : Typing limit x g) where
           )
 
     -- "deleting an absent line keeps page and stacks"
-    pub absent-kept : ofLine n (recordsOf (x .page)) ≡ [] → leaves takeLine x ≡ lineTaken x 0 (g .taken)
+    pub absent-kept : recordsOfLine n (recordsOf (x .page)) ≡ [] → leaves takeLine x ≡ lineTaken x 0 (g .taken)
     absent-kept there = left-kept takeLine x _ (deletes false (none-absent n (recordsOf (x .page)) there)) (h .sound) refl

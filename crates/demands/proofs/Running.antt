@@ -11,7 +11,8 @@ use Rattle.nibl.specs.Tree.{Stmt}
 use Rattle.nibl.specs.Page.{Stored, isAmong, isGood, placesOf, lineOf}
 use Rattle.nibl.specs.Record.{mark}
 use Rattle.nibl.specs.Meaning.{World, Env, on, skip, go, stop, Done, done, put, went, exec}
-use Rattle.nibl.specs.Calls.{Ran, ran, stepped, Standing, Fetched, past, unread, here, fetch, envAt, afterStep, runFrom, needsProgram, listed, listFrom}
+use Rattle.nibl.specs.Runs.{Ran, ran, stepped, Standing, Fetched, past, unread, here, fetch, envAt, afterStep, runFrom}
+use Rattle.nibl.specs.Calls.{needsProgram, listed, listFrom}
 use Rattle.nibl.proofs.Words.{if-split}
 use Rattle.page.specs.Standing.{Stands}
 use Rattle.page.proofs.Standing.{fetches-here, fetches-read}

@@ -5,10 +5,10 @@ use mathlib.Core.List.{List}
 use mathlib.Core.Option.{Option, none, some}
 use native.Mathlib.Omega.{arith}
 use Rattle.nibl.specs.Tree.{Member}
-use Rattle.nibl.specs.Read.{Found, nothing, found, member}
+use Rattle.nibl.specs.found.Read.{Found, nothing, found, member}
 use Rattle.nibl.specs.Page.{lineOf}
 use Rattle.nibl.specs.Meaning.{World, Env, on, skip, go, stop, Done, done}
-use Rattle.nibl.specs.Calls.{Ran, ran, Standing, Fetched, past, unread, here, textFrom, lineFrom, firstFrom, fetchMember, fetchText, fetch, afterStep, step, runFrom}
+use Rattle.nibl.specs.Runs.{Ran, ran, Standing, Fetched, past, unread, here, textFrom, lineFrom, firstFrom, fetchMember, fetchText, fetch, afterStep, step, runFrom}
 
 pub here-not-past : {f : Fetched} {x : Standing} → f ≡ here x → f ≡ past → ⊥
 here-not-past h g = let z : _≡_ {A = ℕ} 0 1 = cc in omega arith

@@ -7,7 +7,10 @@ use Rattle.nibl.specs.Page.{recordsOf}
 use Rattle.nibl.specs.Readings.{LineReading}
 use Rattle.nibl.specs.Typing.{Gathered}
 use Rattle.nibl.specs.Meaning.{World, Next, on, skip, stop, done, exec}
-use Rattle.nibl.specs.Calls.{Lent, stops, begun, lentEnv, listFrom, afterImmediate, needsProgram, obey, takeLine, leaves, limit}
+use Rattle.nibl.specs.Lent.{Lent, stops}
+use Rattle.nibl.specs.Typing.{limit}
+use Rattle.nibl.specs.Lent.{begun, lentEnv}
+use Rattle.nibl.specs.Calls.{listFrom, afterImmediate, needsProgram, obey, takeLine, leaves}
 use Rattle.nibl.proofs.Whole.{typed-complete}
 use Rattle.demands.specs.Lent.{Typing}
 use Rattle.demands.specs.Leaves.{lineTaken, lineCleared}

@@ -8,7 +8,12 @@ use lib.Dec.{eqb}
 use borrow.Author.Tests.{eqb-true}
 use Rattle.nibl.specs.Page.{isAmong, isGood, placesOf, onto}
 use Rattle.nibl.specs.Meaning.{World, Env}
-use Rattle.nibl.specs.Calls.{Lent, Outcome, Ran, runFrom, runOutcome, stops, firstRefusal, takeLine, takeLineIn, continueRun, continueRunIn, begun, lentEnv, limit}
+use Rattle.nibl.specs.Lent.{Lent, Outcome, stops}
+use Rattle.nibl.specs.Runs.{Ran, runFrom, runOutcome}
+use Rattle.nibl.specs.Typing.{limit}
+use Rattle.nibl.specs.Lent.{begun, lentEnv}
+use Rattle.nibl.specs.FirstRefusals.{firstRefusal}
+use Rattle.nibl.specs.Calls.{takeLine, takeLineIn, continueRun, continueRunIn}
 use Rattle.nibl.specs.Record.{pausedAt}
 use Rattle.nibl.proofs.Words.{if-split}
 use Rattle.page.proofs.Changes.{onto-good}

@@ -7,7 +7,12 @@ use Rattle.nibl.specs.Page.{isGood, placesOf}
 use Rattle.nibl.specs.Record.{nowhere, pausedAt}
 use Rattle.nibl.specs.Typing.{Gathered}
 use Rattle.nibl.specs.Meaning.{World, Env, Next, on, skip, go, stop, Done, done, exec}
-use Rattle.nibl.specs.Calls.{Lent, Outcome, Ran, stepped, step, past as nothing, here, fetch, envAt, afterStep, runFrom, firstRefusal, begun, lentEnv, takeLine, continueRun, limit}
+use Rattle.nibl.specs.Lent.{Lent, Outcome}
+use Rattle.nibl.specs.Runs.{Ran, stepped, step, past as nothing, here, fetch, envAt, afterStep, runFrom}
+use Rattle.nibl.specs.Typing.{limit}
+use Rattle.nibl.specs.Lent.{begun, lentEnv}
+use Rattle.nibl.specs.FirstRefusals.{firstRefusal}
+use Rattle.nibl.specs.Calls.{takeLine, continueRun}
 use Rattle.page.specs.Standing.{Stands, Readable}
 use Rattle.page.proofs.Standing.{fetches-here, fetches-read}
 use Rattle.record.specs.Fit.{Fit, Goes, toNext, toRecord, toPlace, toEnd}

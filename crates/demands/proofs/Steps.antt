@@ -12,10 +12,15 @@ use borrow.Author.Tests.{eq-eqb, eqb-true, eqb-false, ne-eqb, leb-true, leb-fals
 use Rattle.page.proofs.Walk.{by-cases}
 use Rattle.nibl.specs.Bytes.{if_then_else_}
 use Rattle.nibl.specs.Tree.{Typed, blank, new, clear, run, delete, list, store, immediate}
-use Rattle.nibl.specs.Read.{typed}
+use Rattle.nibl.specs.found.Read.{typed}
 use Rattle.nibl.specs.Page.{Stored, isGood, recordsOf, usedBy, hasLine, with, without}
 use Rattle.nibl.specs.Meaning.{World, Env, Next, on, skip, go, stop, Done, done, withSession, exec}
-use Rattle.nibl.specs.Calls.{Lent, Outcome, Ran, noLine, envAt, runFrom, runOutcome, stops, firstRefusal, begun, lentEnv, edited, listFrom, afterImmediate, needsProgram, obey, takeLine, continueFrom, continueRun, limit}
+use Rattle.nibl.specs.Lent.{Lent, Outcome, noLine, stops}
+use Rattle.nibl.specs.Runs.{Ran, envAt, runFrom, runOutcome}
+use Rattle.nibl.specs.Typing.{limit}
+use Rattle.nibl.specs.Lent.{begun, lentEnv}
+use Rattle.nibl.specs.FirstRefusals.{firstRefusal}
+use Rattle.nibl.specs.Calls.{edited, listFrom, afterImmediate, needsProgram, obey, takeLine, continueFrom, continueRun}
 use Rattle.nibl.specs.Record.{nowhere, pausedAt, withPaused, unpaused}
 use Rattle.nibl.specs.Typing.{Gathered}
 use Rattle.nibl.specs.Readings.{LineReading}

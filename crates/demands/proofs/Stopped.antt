@@ -10,12 +10,16 @@ use lib.ListN.{length}
 use lib.Dec.{leb, eqb}
 use borrow.Author.Tests.{le-leb, lt-leb, eqb-true, eqb-false}
 use Rattle.nibl.specs.Tree.{Stmt, Typed, blank, new, clear, run, delete, list, store, immediate}
-use Rattle.nibl.specs.Read.{typed}
+use Rattle.nibl.specs.found.Read.{typed}
 use Rattle.nibl.specs.Readings.{LineReading}
 use Rattle.nibl.specs.Typing.{Gathered}
 use Rattle.nibl.specs.Page.{Stored, recordsOf, hasLine, with, without, programBytes}
 use Rattle.nibl.specs.Meaning.{World, Env, Next, on, skip, go, stop, Done, done, went, put, exec}
-use Rattle.nibl.specs.Calls.{Lent, Outcome, Ran, noLine, envAt, runFrom, runOutcome, stops, begun, lentEnv, edited, listed, listFrom, afterImmediate, needsProgram, obey, takeLine, continueFrom, continueRun, limit}
+use Rattle.nibl.specs.Lent.{Lent, Outcome, noLine, stops}
+use Rattle.nibl.specs.Runs.{Ran, envAt, runFrom, runOutcome}
+use Rattle.nibl.specs.Typing.{limit}
+use Rattle.nibl.specs.Lent.{begun, lentEnv}
+use Rattle.nibl.specs.Calls.{edited, listed, listFrom, afterImmediate, needsProgram, obey, takeLine, continueFrom, continueRun}
 use Rattle.nibl.proofs.Words.{if-split}
 use Rattle.nibl.proofs.Lines.{typed-sound}
 use Rattle.page.proofs.Walk.{by-cases}

@@ -8,7 +8,7 @@ use lib.ListN.{length, length-append}
 use lib.Dec.{ltb, leb}
 use borrow.Author.Tests.{le-leb, leb-true}
 use Rattle.nibl.specs.Bytes.{isDigit, All, none, each, decimalValue}
-use Rattle.nibl.specs.Words.{decimal, Run, Word, spaced, decimalDigits}
+use Rattle.nibl.specs.Words.{decimal, ByteRun, Word, spaced, decimalDigits}
 use Rattle.nibl.specs.Grammar.{aStore}
 use Rattle.nibl.specs.Tree.{Member, store}
 use Rattle.nibl.specs.Readings.{LineReading}
@@ -56,7 +56,7 @@ shorter (each {b = d} {s = ds} e a) n =
     let l = leb-true d 57 (h .1) in
     omega (arith, shorter a (n * 10 + (d - 48)), one-digit-more 5 n (d - 48) (omega arith))
 
-pub digits-shortest : {ds s : List ℕ} → Run isDigit ds s → length (digits (decimalValue 0 ds)) ≤ length ds
+pub digits-shortest : {ds s : List ℕ} → ByteRun isDigit ds s → length (digits (decimalValue 0 ds)) ≤ length ds
 digits-shortest {ds = []} r = absurd (false≢true (r .some))
 digits-shortest {ds = d ∷ ds} r = by (r .each) where
   by : All isDigit (d ∷ ds) → length (digits (decimalValue 0 (d ∷ ds))) ≤ suc (length ds)

@@ -12,7 +12,10 @@ use Rattle.nibl.specs.Bytes.{if_then_else_}
 use Rattle.nibl.specs.Words.{begins}
 use Rattle.nibl.specs.Page.{Stored, isEnd, recordsOf}
 use Rattle.nibl.specs.Table.{positionsFrom, tableOf, walkTable, describes, refilled}
-use Rattle.nibl.specs.Calls.{Lent, Outcome, hasTable, tableIsTrue, firstRefusal, tableAfter, leaves, limit}
+use Rattle.nibl.specs.Lent.{Lent, Outcome}
+use Rattle.nibl.specs.Typing.{limit}
+use Rattle.nibl.specs.FirstRefusals.{hasTable, tableIsTrue, firstRefusal}
+use Rattle.nibl.specs.Calls.{tableAfter, leaves}
 use Rattle.page.proofs.Walk.{by-cases}
 use Rattle.page.proofs.Program.{end-bytes}
 use Rattle.page.proofs.Laid.{Laid, good-laid}

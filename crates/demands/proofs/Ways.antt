@@ -4,10 +4,13 @@ use mathlib.Core.Path.{_≡_, refl}
 use mathlib.Core.Bool.{Bool, true, false}
 use mathlib.Core.Option.{Option, none, some}
 use Rattle.nibl.specs.Tree.{Typed}
-use Rattle.nibl.specs.Read.{typed}
-use Rattle.nibl.specs.Column.{columnOf}
+use Rattle.nibl.specs.found.Read.{typed}
+use Rattle.nibl.specs.found.Column.{columnOf}
 use Rattle.nibl.specs.Typing.{Gathered}
-use Rattle.nibl.specs.Calls.{Lent, Outcome, stops, refusedLine, lentWorld, begun, lentEnv, firstRefusal, obey, obeyRead, obeyLine, takeLineIn, continueFrom, continueRunIn}
+use Rattle.nibl.specs.Lent.{Lent, Outcome, stops, refusedLine}
+use Rattle.nibl.specs.Lent.{lentWorld, begun, lentEnv}
+use Rattle.nibl.specs.FirstRefusals.{firstRefusal}
+use Rattle.nibl.specs.Calls.{obey, obeyRead, obeyLine, takeLineIn, continueFrom, continueRunIn}
 use Rattle.demands.specs.Lent.{gatheredLine, Typing}
 
 pub data Takes (lim : ℕ) (x : Lent) : Outcome → Type 0 where

@@ -8,7 +8,10 @@ use lib.Dec.{leb}
 use Rattle.nibl.specs.Tree.{Typed, blank, new, clear, run, delete, list, store, immediate}
 use Rattle.nibl.specs.Page.{Stored, recordsOf, programBytes, hasLine, without, with}
 use Rattle.nibl.specs.Meaning.{World, Env, on, skip, go, stop, Done, done, exec}
-use Rattle.nibl.specs.Calls.{Lent, Outcome, stops, edited, listFrom, afterImmediate, needsProgram, obey, takeLine, continueFrom, continueRun, begun, lentEnv, limit}
+use Rattle.nibl.specs.Lent.{Lent, Outcome, stops}
+use Rattle.nibl.specs.Typing.{limit}
+use Rattle.nibl.specs.Lent.{begun, lentEnv}
+use Rattle.nibl.specs.Calls.{edited, listFrom, afterImmediate, needsProgram, obey, takeLine, continueFrom, continueRun}
 use Rattle.nibl.proofs.Words.{if-split}
 use Rattle.demands.proofs.Budget.{steps-within}
 use Rattle.demands.proofs.Ways.{Takes, refused, noCR, overlong, unread, reads, every-line, Continues, refused′, continues, every-continue}

@@ -8,12 +8,16 @@ use mathlib.Core.Option.{some}
 use native.Mathlib.Nat.{add-zero}
 use native.Mathlib.Omega.{arith}
 use Rattle.nibl.specs.Tree.{Typed, run, list, immediate}
-use Rattle.nibl.specs.Read.{typed}
+use Rattle.nibl.specs.found.Read.{typed}
 use Rattle.nibl.specs.Readings.{LineReading}
 use Rattle.nibl.specs.Typing.{Gathered}
 use Rattle.nibl.specs.Page.{recordsOf}
 use Rattle.nibl.specs.Meaning.{World, Env}
-use Rattle.nibl.specs.Calls.{Lent, Outcome, Ran, runFrom, lentWorld, begun, lentEnv, takeLine, continueFrom, continueRun, limit}
+use Rattle.nibl.specs.Lent.{Lent, Outcome}
+use Rattle.nibl.specs.Runs.{Ran, runFrom}
+use Rattle.nibl.specs.Typing.{limit}
+use Rattle.nibl.specs.Lent.{lentWorld, begun, lentEnv}
+use Rattle.nibl.specs.Calls.{takeLine, continueFrom, continueRun}
 use Rattle.nibl.proofs.Lines.{typed-sound}
 use Rattle.record.specs.Sound.{Sized}
 use Rattle.demands.specs.Lent.{Typing}

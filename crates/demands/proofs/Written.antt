@@ -11,7 +11,11 @@ use Rattle.nibl.specs.Tree.{Stmt, Typed, blank, new, clear, run, delete, list, 
 use Rattle.nibl.specs.Page.{Stored, recordsOf, programBytes, hasLine, without, with}
 use Rattle.nibl.specs.Meaning.{World, Env, on, skip, go, stop, Done, done, withSession, exec}
 use Rattle.nibl.specs.Record.{cleared}
-use Rattle.nibl.specs.Calls.{Lent, Outcome, Ran, runFrom, envAt, afterStep, runOutcome, stops, begun, lentEnv, edited, listFrom, afterImmediate, needsProgram, obey, takeLine, continueFrom, continueRun, limit}
+use Rattle.nibl.specs.Lent.{Lent, Outcome, stops}
+use Rattle.nibl.specs.Runs.{Ran, runFrom, envAt, afterStep, runOutcome}
+use Rattle.nibl.specs.Typing.{limit}
+use Rattle.nibl.specs.Lent.{begun, lentEnv}
+use Rattle.nibl.specs.Calls.{edited, listFrom, afterImmediate, needsProgram, obey, takeLine, continueFrom, continueRun}
 use Rattle.nibl.proofs.Words.{if-split}
 use Rattle.demands.specs.Lent.{InRange}
 use Rattle.demands.proofs.Does.{GivesVariables, gave, refused, gives, Does, writes, takes, refuses, passes, skips, assigns, assignsFlags, stores, goesTo, saves, returns, loops, repeats, leaves, begins, again, finishes, inputs}

@@ -8,7 +8,11 @@ use Rattle.nibl.specs.Values.{digits}
 use Rattle.nibl.specs.Page.{Stored, recordsOf, usedBy, used}
 use Rattle.nibl.specs.Meaning.{World, Env, withSession, withMemory, withOutput, withInpos}
 use Rattle.nibl.specs.Record.{place, mark, nowhere, withVar, withFlags, withGosubs, withDos, withFors, withPaused, unpaused, stackless, cleared}
-use Rattle.nibl.specs.Calls.{Lent, Outcome, Ran, ran, stepped, runOutcome, lentAll, outcomeWith, leftAll, answerOf, noLine, stops, refusedLine, envAt, begun, lentEnv, listed, tableAfter, leaves, limit}
+use Rattle.nibl.specs.Lent.{Lent, Outcome, lentAll, outcomeWith, leftAll, answerOf, noLine, stops, refusedLine}
+use Rattle.nibl.specs.Runs.{Ran, ran, stepped, runOutcome, envAt}
+use Rattle.nibl.specs.Typing.{limit}
+use Rattle.nibl.specs.Lent.{begun, lentEnv}
+use Rattle.nibl.specs.Calls.{listed, tableAfter, leaves}
 use Rattle.nibl.specs.declared.PlaceStack.{PlaceStack}
 use Rattle.nibl.specs.declared.ForStack.{ForStack}
 use Rattle.nibl.specs.declared.Session.{Session}

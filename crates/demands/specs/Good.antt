@@ -10,7 +10,7 @@ use Rattle.nibl.specs.Tree.{Member}
 use Rattle.nibl.specs.Readings.{ListReading}
 use Rattle.nibl.specs.Values.{digits}
 use Rattle.nibl.specs.Record.{mark, nowhere, pausedAt}
-use Rattle.nibl.specs.Calls.{Lent, Outcome}
+use Rattle.nibl.specs.Lent.{Lent, Outcome}
 use Rattle.nibl.specs.declared.Place.{Place}
 use Rattle.nibl.specs.declared.ForEntry.{ForEntry}
 use Rattle.nibl.specs.declared.Session.{Session}

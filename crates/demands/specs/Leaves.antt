@@ -9,13 +9,16 @@ use lib.Seq.{sets}
 use lib.Dec.{eqb}
 use Rattle.nibl.specs.Bytes.{if_then_else_}
 use Rattle.nibl.specs.Typing.{Gathered, gather}
-use Rattle.nibl.specs.Column.{columnOf}
+use Rattle.nibl.specs.found.Column.{columnOf}
 use Rattle.nibl.specs.Stack.{popOf}
 use Rattle.nibl.specs.Tree.{Typed, blank, new, clear, run, delete, list, store, immediate}
 use Rattle.nibl.specs.Page.{Stored, recordsOf, programBytes, used}
 use Rattle.nibl.specs.Meaning.{World, Env, Done, done, withSession}
 use Rattle.nibl.specs.Record.{mark, withGosubs, unpaused, stackless, cleared}
-use Rattle.nibl.specs.Calls.{Lent, Outcome, Left, leftAll, answerOf, noLine, begun, takeLine, continueRun, leaves, limit}
+use Rattle.nibl.specs.Lent.{Lent, Outcome, Left, leftAll, answerOf, noLine}
+use Rattle.nibl.specs.Typing.{limit}
+use Rattle.nibl.specs.Lent.{begun}
+use Rattle.nibl.specs.Calls.{takeLine, continueRun, leaves}
 use Rattle.nibl.specs.declared.Session.{Session}
 use Rattle.nibl.specs.declared.Place.{Place}
 use Rattle.nibl.specs.declared.Top.the-variants as top
@@ -30,9 +33,9 @@ abbrev pub worldAfter : Done → World
 worldAfter (done n w) = w
 
 -- the records of a number, and the others, in their order
-abbrev pub ofLine : ℕ → List Stored → List Stored
-ofLine n [] = []
-ofLine n (r ∷ rs) = if eqb (r .line) n then r ∷ ofLine n rs else ofLine n rs
+abbrev pub recordsOfLine : ℕ → List Stored → List Stored
+recordsOfLine n [] = []
+recordsOfLine n (r ∷ rs) = if eqb (r .line) n then r ∷ recordsOfLine n rs else recordsOfLine n rs
 
 abbrev pub others : ℕ → List Stored → List Stored
 others n [] = []
@@ -96,11 +99,11 @@ pub record Edits (x : Lent) (taken : ℕ) (o : Outcome) : Type 0 where
 
 -- "exactly one record of number n, with that text; all other records as they were"
 pub record Replaces (x : Lent) (n : ℕ) (t : List ℕ) (o : Outcome) : Type 0 where
-  pub one : ofLine n (recordsOf (o .page)) ≡ record { line = n; text = t } ∷ []
+  pub one : recordsOfLine n (recordsOf (o .page)) ≡ record { line = n; text = t } ∷ []
   pub rest : others n (recordsOf (o .page)) ≡ others n (recordsOf (x .page))
 
 pub record Deletes (x : Lent) (n : ℕ) (o : Outcome) : Type 0 where
-  pub gone : ofLine n (recordsOf (o .page)) ≡ []
+  pub gone : recordsOfLine n (recordsOf (o .page)) ≡ []
   pub rest : recordsOf (o .page) ≡ others n (recordsOf (x .page))
 
 -- Whole items from a position of the output on, one after the other: the output then, and the position. W says what an item is

@@ -7,7 +7,8 @@ use mathlib.Core.Option.{Option, some}
 use lib.ListN.{length, drop}
 use Rattle.nibl.specs.Typing.{Gathered, gather}
 use Rattle.nibl.specs.Page.{isAmong}
-use Rattle.nibl.specs.Calls.{Lent, Outcome, firstRefusal, lentAll, withBudget}
+use Rattle.nibl.specs.Lent.{Lent, Outcome, lentAll, withBudget}
+use Rattle.nibl.specs.FirstRefusals.{firstRefusal}
 
 -- a table is lent
 abbrev pub HasTable : Lent → Type 0

@@ -9,7 +9,10 @@ use Rattle.nibl.specs.Values.{digits}
 use Rattle.nibl.specs.Typing.{Gathered}
 use Rattle.nibl.specs.Page.{Stored, recordsOf, used}
 use Rattle.nibl.specs.Record.{unpaused}
-use Rattle.nibl.specs.Calls.{Lent, Outcome, lentAll, withPositions, answerOf, noLine, listed, tableIsTrue, takeLine, tableAfter, limit}
+use Rattle.nibl.specs.Lent.{Lent, Outcome, lentAll, withPositions, answerOf, noLine}
+use Rattle.nibl.specs.Typing.{limit}
+use Rattle.nibl.specs.FirstRefusals.{tableIsTrue}
+use Rattle.nibl.specs.Calls.{listed, takeLine, tableAfter}
 use Rattle.nibl.specs.declared.Answer.{Answer}
 
 -- "each line as digits without leading zeros, text, CR, LF"

@@ -4,7 +4,7 @@ use mathlib.Core.List.{List, _∷_}
 use lib.ListN.{length}
 use Rattle.nibl.specs.Tree.{Member}
 use Rattle.nibl.specs.Readings.{ListReading}
-pub use Rattle.nibl.specs.Calls.{Standing}
+pub use Rattle.nibl.specs.Runs.{Standing}
 use Rattle.demands.specs.Good.{RecordAt, EndMark, Boundary, placeOf}
 
 -- the member m of the text t, in the record of number n that stands at `at`

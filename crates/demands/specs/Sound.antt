@@ -8,7 +8,10 @@ use lib.ListN.{length}
 use lib.Dec.{eqb}
 use Rattle.nibl.specs.Page.{isAmong, lineOf, placesOf}
 use Rattle.nibl.specs.Meaning.{World}
-use Rattle.nibl.specs.Calls.{Lent, Outcome, Ran, outcomeWith, answerOf, noLine, runFrom, runOutcome, lentEnv, continueRun}
+use Rattle.nibl.specs.Lent.{Lent, Outcome, outcomeWith, answerOf, noLine}
+use Rattle.nibl.specs.Runs.{Ran, runFrom, runOutcome}
+use Rattle.nibl.specs.Lent.{lentEnv}
+use Rattle.nibl.specs.Calls.{continueRun}
 use Rattle.page.specs.Standing.{Stands, LiesIn}
 use Rattle.record.specs.Sound.{Sound}
 use Rattle.demands.specs.Lent.{budgeted}

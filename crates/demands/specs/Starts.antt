@@ -7,7 +7,12 @@ use Rattle.nibl.specs.Typing.{Gathered}
 use Rattle.nibl.specs.Readings.{LineReading}
 use Rattle.nibl.specs.Meaning.{World, Next, on, skip, go, stop, done, exec}
 use Rattle.nibl.specs.Record.{pausedAt}
-use Rattle.nibl.specs.Calls.{Lent, Outcome, runFrom, runOutcome, firstRefusal, needsProgram, begun, lentEnv, limit}
+use Rattle.nibl.specs.Lent.{Lent, Outcome}
+use Rattle.nibl.specs.Runs.{runFrom, runOutcome}
+use Rattle.nibl.specs.Typing.{limit}
+use Rattle.nibl.specs.Lent.{begun, lentEnv}
+use Rattle.nibl.specs.FirstRefusals.{firstRefusal}
+use Rattle.nibl.specs.Calls.{needsProgram}
 use Rattle.demands.specs.Lent.{Typing}
 use Rattle.demands.specs.Leaves.{worldCleared}
 

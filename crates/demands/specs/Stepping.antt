@@ -6,7 +6,10 @@ use Rattle.nibl.specs.Tree.{Typed}
 use Rattle.nibl.specs.Readings.{LineReading}
 use Rattle.nibl.specs.Typing.{Gathered}
 use Rattle.nibl.specs.Meaning.{World, Env, Next, stop, done, exec}
-use Rattle.nibl.specs.Calls.{Lent, Outcome, Ran, ran, stepped, envAt, begun, runOutcome, lentEnv, limit}
+use Rattle.nibl.specs.Lent.{Lent, Outcome}
+use Rattle.nibl.specs.Runs.{Ran, ran, stepped, envAt, runOutcome}
+use Rattle.nibl.specs.Typing.{limit}
+use Rattle.nibl.specs.Lent.{begun, lentEnv}
 use Rattle.demands.specs.ItemsIn.{ItemIn, StatementWrote, OwnItem}
 use Rattle.demands.specs.Reading.{Standing, NextAt, PastTheLast}
 use Rattle.demands.specs.Starts.{Starts, StartsPaused}

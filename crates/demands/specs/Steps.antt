@@ -5,7 +5,10 @@ use mathlib.Core.List.{List}
 use Rattle.nibl.specs.Tree.{Typed}
 use Rattle.nibl.specs.Typing.{Gathered}
 use Rattle.nibl.specs.Meaning.{World, Env, Next, on, skip, go, stop, done, withSession, exec}
-use Rattle.nibl.specs.Calls.{Lent, Outcome, envAt, begun as worldBegun, lentEnv, noLine, stops, limit}
+use Rattle.nibl.specs.Lent.{Lent, Outcome, noLine, stops}
+use Rattle.nibl.specs.Runs.{envAt}
+use Rattle.nibl.specs.Typing.{limit}
+use Rattle.nibl.specs.Lent.{begun as worldBegun, lentEnv}
 use Rattle.nibl.specs.Record.{nowhere, pausedAt, withPaused, unpaused}
 use Rattle.demands.specs.Leaves.{WholeItems}
 use Rattle.demands.specs.ItemsIn.{OwnItem}

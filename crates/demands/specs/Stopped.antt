@@ -7,7 +7,10 @@ use Rattle.nibl.specs.Readings.{LineReading}
 use Rattle.nibl.specs.Typing.{Gathered}
 use Rattle.nibl.specs.Page.{recordsOf, usedBy}
 use Rattle.nibl.specs.Meaning.{World, Env, stop, done}
-use Rattle.nibl.specs.Calls.{Lent, Outcome, envAt, lentEnv, begun, limit}
+use Rattle.nibl.specs.Lent.{Lent, Outcome}
+use Rattle.nibl.specs.Runs.{envAt}
+use Rattle.nibl.specs.Typing.{limit}
+use Rattle.nibl.specs.Lent.{lentEnv, begun}
 use Rattle.demands.specs.Lent.{Typing}
 use Rattle.demands.specs.Leaves.{others}
 use Rattle.demands.specs.Items.{ListsLines}

@@ -19,7 +19,8 @@ use Rattle.world.specs.Hearing.{hears, hearing, heardIn}
 use Rattle.world.proofs.input.Answers.{out, not-out}
 use Rattle.world.specs.declared.jump.Way.the-variants as way
 use Rattle.nibl.specs.declared.Parts.{Parts}
-use Rattle.effect.specs.Worlds.{worldWith, did, didIn, partsAt, storedWay, wroteIn, KeepsVars, putStored, keepText, keepReply}
+use Rattle.effect.specs.Worlds.{worldWith, did, didIn, storedWay, wroteIn, KeepsVars, putStored, keepText, keepReply}
+use Rattle.nibl.specs.Record.{partsAt}
 
 -- a way by a test is a world by that test
 pub done-if : (t : Bool) (a b : Next) (w : World) → done (if t then a else b) w ≡ (if t then done a w else done b w)

@@ -26,7 +26,8 @@ use Rattle.codes.specs.Codes.{codeSetVariable, codeSetStat, codeSetByte, codeCo
 use Rattle.operation.specs.Operations.{effectBy}
 use Rattle.nibl.specs.declared.Parts.{Parts}
 use Rattle.effect.specs.declared.Did.{Did}
-use Rattle.effect.specs.Worlds.{envWith, worldWith, did, didIn, withFlagsIn, withGosubsIn, withDosIn, withForsIn, storedWay, wroteIn, KeepsVars, putStored, keepText, keepReply}
+use Rattle.effect.specs.Worlds.{envWith, worldWith, did, didIn, storedWay, wroteIn, KeepsVars, putStored, keepText, keepReply}
+use Rattle.nibl.specs.Record.{withFlagsIn, withGosubsIn, withDosIn, withForsIn}
 use Rattle.effect.proofs.Answers.{done-if, put-in, store-in}
 
 -- an operation that changes the world does not see the sense byte

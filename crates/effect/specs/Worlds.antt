@@ -4,10 +4,8 @@ use mathlib.Core.List.{List, [], _∷_, _++_}
 use mathlib.Core.Path.{_≡_}
 use Rattle.nibl.specs.Bytes.{byteCR}
 use Rattle.nibl.specs.Meaning.{World, Env, Done, done, given, put, stringAt, storeAt, keepIn}
-use Rattle.nibl.specs.Record.{nowhere, sessionOf}
+use Rattle.nibl.specs.Record.{nowhere, sessionOf, partsAt}
 use Rattle.nibl.specs.declared.Place.{Place}
-use Rattle.nibl.specs.declared.PlaceStack.{PlaceStack}
-use Rattle.nibl.specs.declared.ForStack.{ForStack}
 use Rattle.nibl.specs.declared.Parts.{Parts}
 use Rattle.world.specs.Turns.{wayOf}
 use Rattle.world.specs.declared.jump.Way.{Way}
@@ -32,22 +30,6 @@ did w p = record { way = w; parts = p }
 
 abbrev pub didIn : Did → List ℕ → List ℕ → List ℕ → Done
 didIn d vars memory output = done (wayOf (d .way)) (worldWith vars (d .parts) memory output)
-
--- the parts with one of them changed
-abbrev pub withFlagsIn : Parts → ℕ → Parts
-withFlagsIn p x = record { flags = x; gosubs = p .gosubs; dos = p .dos; fors = p .fors; inpos = p .inpos; outpos = p .outpos }
-
-abbrev pub withGosubsIn : Parts → PlaceStack → Parts
-withGosubsIn p s = record { flags = p .flags; gosubs = s; dos = p .dos; fors = p .fors; inpos = p .inpos; outpos = p .outpos }
-
-abbrev pub withDosIn : Parts → PlaceStack → Parts
-withDosIn p s = record { flags = p .flags; gosubs = p .gosubs; dos = s; fors = p .fors; inpos = p .inpos; outpos = p .outpos }
-
-abbrev pub withForsIn : Parts → ForStack → Parts
-withForsIn p s = record { flags = p .flags; gosubs = p .gosubs; dos = p .dos; fors = s; inpos = p .inpos; outpos = p .outpos }
-
-abbrev pub partsAt : Parts → ℕ → ℕ → Parts
-partsAt p i o = record { flags = p .flags; gosubs = p .gosubs; dos = p .dos; fors = p .fors; inpos = i; outpos = o }
 
 -- how a store ended, and an output item: it is out whole, or 17
 abbrev pub storedWay : StoreEnd → Way

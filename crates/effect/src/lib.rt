@@ -11,13 +11,15 @@ ghost use Rattle.world.specs.Turns.{wayOf, turned, turnedFor};
 ghost use Rattle.value.specs.Writes.{Writes};
 ghost use Rattle.table.specs.Index.{Indexed};
 ghost use Rattle.operation.specs.Operations.{effectBy};
-ghost use Rattle.effect.specs.Worlds.{envWith, worldWith, did, didIn, withFlagsIn, withGosubsIn, withDosIn, withForsIn, partsAt, storedWay, wroteIn, KeepsVars, putStored, keepReply};
+ghost use Rattle.effect.specs.Worlds.{envWith, worldWith, did, didIn, storedWay, wroteIn, KeepsVars, putStored, keepReply};
+ghost use Rattle.nibl.specs.Record.{withFlagsIn, withGosubsIn, withDosIn, withForsIn, partsAt};
 ghost use Rattle.effect.specs.Acts.{acted, actBy, goesBack, wayAtOnce, callTurn, loopTurn, countTurn};
 use nibl::ForStack;
 use nibl::Onward;
 use nibl::Parts;
 use nibl::Place;
 use nibl::PlaceStack;
+use nibl::stop;
 use value::Wrote;
 use world::input;
 use world::input::Reply;
@@ -56,7 +58,7 @@ fn set_stat(x: u16, parts: Parts) -> Did
     ensures { λ r. ⌜ r ≡ did Way.On (withFlagsIn parts (x % 8)) ⌝ }
 {
     let mut next = parts;
-    next.flags = (x % 8) as u8;
+    next.flags = (x % nibl::FLAGS) as u8;
     ends(Way::On, next)
 }
 
@@ -119,7 +121,7 @@ fn item_ends(w: Wrote, parts: Parts) -> Did
             next.outpos = p;
             ends(Way::On, next)
         }
-        Wrote::Full => ends(Way::Stop(17), parts),
+        Wrote::Full => ends(Way::Stop(stop::OUTPUT_FULL), parts),
     }
 }
 
@@ -139,10 +141,10 @@ fn print_room(output: &[u8], at: usize, n: u32) -> Way
 {
     let len = output.len();
     if len < at {
-        return Way::Stop(17);
+        return Way::Stop(stop::OUTPUT_FULL);
     }
     if len - at < n as usize {
-        return Way::Stop(17);
+        return Way::Stop(stop::OUTPUT_FULL);
     }
     Way::On
 }
@@ -346,6 +348,6 @@ pub fn effect(
         ),
         codes::NEXT => in_fors(jump::next_of(parts.fors, vars, low_byte(arg)), parts),
         codes::INPUT_STRING => input_string(x, input, memory, output, reply, parts),
-        _ => ends(Way::Stop(20), parts),
+        _ => ends(Way::Stop(stop::END), parts),
     }
 }

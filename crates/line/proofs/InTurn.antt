@@ -12,7 +12,7 @@ use lib.Seq.{drop-drop}
 use Rattle.nibl.specs.Bytes.{if_then_else_}
 use Rattle.nibl.specs.Tree.{Expr}
 use Rattle.nibl.specs.Grammar.{Key, Relation, Reply, lastReply, enough, moreReply}
-use Rattle.nibl.specs.Read.{found, give, may, read, relation, consSome, replied}
+use Rattle.nibl.specs.found.Read.{found, give, may, read, relation, consSome, replied}
 use Rattle.nibl.proofs.Over.{Over, _⨾_, word-over, outside-passed, passed-rest}
 use Rattle.nibl.proofs.Rules.{W}
 use Rattle.nibl.proofs.Sound.{relation-over}

@@ -14,7 +14,7 @@ use lib.Dec.{leb, eqb}
 use Rattle.nibl.specs.Bytes.{if_then_else_, isSpace, past, all}
 use Rattle.nibl.specs.Words.{sign, keywords, commands, command, spaced, keyword, pair, symbol}
 use Rattle.nibl.specs.Tree.{Stmt, Member, Typed, blank, new, clear, run, delete, list, immediate}
-use Rattle.nibl.specs.Read.{Step, stepIn, atEnd, Found, nothing, found, Reader, andThen, ifKey, orElse, onStep, choose, decimalOf, signOf, aSign, aDecimal, _>>=_, statement, endsMember, member, unread, reading, alone, storing, numbered, aloneStatement, commandCases, unnumbered, typed}
+use Rattle.nibl.specs.found.Read.{FrontWord, stepIn, atEnd, Found, nothing, found, Reader, andThen, ifKey, orElse, onStep, choose, decimalOf, signOf, aSign, aDecimal, _>>=_, statement, endsMember, member, unread, reading, alone, storing, numbered, aloneStatement, commandCases, unnumbered, typed}
 use Rattle.nibl.specs.Calls.{needsProgram}
 use Rattle.nibl.proofs.Words.{if-split, and-left, and-right, all-true, true-all, word-sound, ended-sound, ended-complete}
 use Rattle.nibl.proofs.Rules.{W, it, Ok, nil, one}
@@ -86,7 +86,7 @@ undecimal text (Wrong c) n = refl
 module _ {text : List ℕ} {at : ℕ} where
   decimal-step : {w : Word} → WordIs keywords text at w → aDecimal (drop at text) ≡ onStep (foundStep text w) decimalOf
   unfolding aDecimal
-  decimal-step h = ap (λ (s : Step). onStep s decimalOf) (sym (h .same))
+  decimal-step h = ap (λ (s : FrontWord). onStep s decimalOf) (sym (h .same))
 
   pub decimal-found : {w : Word} {n : ℕ} {c : Cursor} → w ≡ Decimal n c → WordIs keywords text at w → aDecimal (drop at text) ≡ found n (drop (c .at) text)
   decimal-found e h = decimal-step h ∙ ap (λ (q : Word). onStep (foundStep text q) decimalOf) e
@@ -248,7 +248,7 @@ no-sign text (Wrong c) n = refl
 
 module _ (text : List ℕ) (w : Word) (h : WordIs commands text 0 w) where
   command-step : {f : Found ℕ} → onStep (foundStep text w) signOf ≡ f → unnumbered text ≡ orElse f (choose commandCases (λ t. aloneStatement text)) aloneStatement text
-  command-step e = ap (λ (f : Found ℕ). orElse f (choose commandCases (λ t. aloneStatement text)) aloneStatement text) (ap (λ (s : Step). onStep s signOf) (sym (h .same)) ∙ e)
+  command-step e = ap (λ (f : Found ℕ). orElse f (choose commandCases (λ t. aloneStatement text)) aloneStatement text) (ap (λ (s : FrontWord). onStep s signOf) (sym (h .same)) ∙ e)
 
   pub unnumbered-other : (ks : List ℕ) → (OneOf ks 4 → ⊥) → OneOf ks (tagOf the-type w) → unnumbered text ≡ aloneStatement text
   unnumbered-other ks n k = command-step (no-sign text w (λ j c e. n (subst (λ (q : Word). OneOf ks (tagOf the-type q)) e k)))

@@ -13,7 +13,7 @@ use lib.Seq.{take-all, drop-drop}
 use lib.Dec.{leb, eqb}
 use Rattle.nibl.specs.Bytes.{if_then_else_}
 use Rattle.nibl.specs.Tree.{Member}
-use Rattle.nibl.specs.Read.{Found, nothing, found, orElse, unread, consSome, member, reading}
+use Rattle.nibl.specs.found.Read.{Found, nothing, found, orElse, unread, consSome, member, reading}
 use Rattle.nibl.specs.Page.{endsFrom, endsOf, isAmong}
 use Rattle.nibl.proofs.Words.{and-left, and-right}
 use Rattle.nibl.proofs.Over.{word-over}

@@ -11,7 +11,7 @@ use lib.Dec.{leb}
 use Rattle.nibl.specs.Bytes.{if_then_else_, isSpace, all}
 use Rattle.nibl.specs.Tree.{Expr}
 use Rattle.nibl.specs.Words.{number}
-use Rattle.nibl.specs.Read.{Found, nothing, found, Reader, give, fail, key, may, ifKey, orElse, isFound, _>>=_, read, relation, unread, consSome, lastReply, replied}
+use Rattle.nibl.specs.found.Read.{Found, nothing, found, Reader, give, fail, key, may, ifKey, orElse, isFound, _>>=_, read, relation, unread, consSome, lastReply, replied}
 use Rattle.nibl.proofs.Sound.{relation-over}
 use Rattle.nibl.proofs.Lines.{replied-one, replied-more, relation-sound}
 use Rattle.word.specs.declared.Cursor.{Cursor}

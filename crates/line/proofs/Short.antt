@@ -12,7 +12,7 @@ use Rattle.nibl.specs.Grammar.{Joints, Joint, joint, Factor, aVariable, aConsta
 use Rattle.nibl.specs.Grammar.{Either, whole, parted, PrintWord, shortPrint, longPrint, AnItem, aString, aStored, aValue, Items, oneItem, moreItems, LastSemicolon, noSemicolon, aSemicolon, AStep, noStep, someStep, Variables, oneVariable, moreVariables}
 use Rattle.nibl.specs.Grammar.{Statement, aLetVar, aLetStat, aLetByte, aLetText, aLetCopy, aGoto, aGosub, aReturn, aPrint, anIf, aDo, anUntil, aFor, aNext, anInput, anInputText, aRemark, anEnd}
 use Rattle.nibl.specs.Tree.{Op, Expr, Item, Stmt, Member}
-use Rattle.nibl.specs.Read.{found, member}
+use Rattle.nibl.specs.found.Read.{found, member}
 use Rattle.nibl.proofs.Words.{of-symbols}
 use Rattle.nibl.proofs.Over.{word-short, outside-length}
 use Rattle.nibl.proofs.Rules.{W, it, ok-found}

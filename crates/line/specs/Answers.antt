@@ -8,7 +8,7 @@ use lib.Seq.{sets}
 use lib.Dec.{leb}
 use Rattle.nibl.specs.Tree.{Expr, Member, Typed, blank, new, clear, run, delete, list, store, immediate}
 use Rattle.nibl.specs.Bytes.{isSpace, all}
-use Rattle.nibl.specs.Read.{Found, nothing, found, Reader, give, may, _>>=_, read, relation, aDecimal, orElse, choose, unread, numbered, aloneStatement, commandCases}
+use Rattle.nibl.specs.found.Read.{Found, nothing, found, Reader, give, may, _>>=_, read, relation, aDecimal, orElse, choose, unread, numbered, aloneStatement, commandCases}
 use Rattle.nibl.specs.Words.{command}
 use Rattle.codes.specs.Codes.{codeIn, codeDo, codeInputString}
 use Rattle.nibl.specs.Page.{endsFrom, isAmong}
@@ -22,8 +22,8 @@ use Rattle.line.specs.declared.Ends.{Ends}
 use Rattle.line.specs.declared.Ends.the-variants as ends
 use Rattle.line.specs.declared.LineRead.{LineRead}
 use Rattle.line.specs.declared.LineRead.the-variants as line
-use Rattle.line.specs.declared.Front.{Front}
-use Rattle.line.specs.declared.Front.the-variants as front
+use Rattle.line.specs.declared.LineFront.{LineFront}
+use Rattle.line.specs.declared.LineFront.the-variants as front
 use Rattle.line.specs.declared.RelationRead.{RelationRead}
 use Rattle.line.specs.declared.RelationRead.the-variants as one
 
@@ -77,7 +77,7 @@ lineOps ops (some (immediate q)) = sets ops 0 (compile q)
 abbrev pub plain : List ℕ → Option Typed
 plain s = elim (all isSpace s) [ true ↦ some blank | false ↦ orElse (aDecimal s) numbered aloneStatement s ]
 
-abbrev pub byFront : List ℕ → Front → Option Typed
+abbrev pub byFront : List ℕ → LineFront → Option Typed
 byFront s (front.Command k c) = choose commandCases unread k (drop (c .at) s)
 byFront s front.Other = plain s
 

@@ -11,8 +11,8 @@ ghost use mathlib.Core.Path.{_≡_};
 ghost use mathlib.Core.Bool.{true, false};
 ghost use lib.ListN.{length, take, drop};
 ghost use Rattle.nibl.specs.Bytes.{if_then_else_, isSpace, all};
-ghost use Rattle.nibl.specs.Read.{aDecimal, orElse, unread, choose, reading, replied, numbered, aloneStatement, commandCases, typed};
-ghost use Rattle.nibl.specs.Read.{alone as aloneAt};
+ghost use Rattle.nibl.specs.found.Read.{aDecimal, orElse, unread, choose, reading, replied, numbered, aloneStatement, commandCases, typed};
+ghost use Rattle.nibl.specs.found.Read.{alone as aloneAt};
 ghost use Rattle.nibl.specs.Tree.{list};
 ghost use Rattle.nibl.specs.Page.{endsOf, isAmong};
 ghost use Rattle.reader.specs.Answers.{hasRoom, zeros};
@@ -54,7 +54,7 @@ pub enum RelationRead {
 }
 
 // What stands at the front of a typed line: a command, by its number, with the cursor past it, or something else.
-pub enum Front {
+pub enum LineFront {
     Command(u8, Cursor),
     Other,
 }
@@ -239,20 +239,20 @@ fn plain_line(text: &[u8], ops: &mut [u32]) -> LineRead
 
 // The command at the front of a line, if one stands there. It is asked for first: where one stands no keyword begins, and
 // to find that none does costs more than all the rest. A look at three letters keeps other lines from asking.
-fn at_front(text: &[u8]) -> Front
+fn at_front(text: &[u8]) -> LineFront
     ensures { λ r. ⌜ typed (now (text .entry)) ≡ byFront (now (text .entry)) r ⌝ }
 {
     if !word::may_command(text, Cursor { at: 0 }) {
-        return Front::Other;
+        return LineFront::Other;
     }
     let w = word::command_at(text, Cursor { at: 0 });
     let Word::Sign(k, c) = w else {
-        return Front::Other;
+        return LineFront::Other;
     };
     if is_command(k) {
-        return Front::Command(k, c);
+        return LineFront::Command(k, c);
     }
-    Front::Other
+    LineFront::Other
 }
 
 // What a typed line is. The operations of an immediate statement stand from 0 on, with zeros for any other line.
@@ -264,7 +264,7 @@ pub fn read_line(text: &[u8], ops: &mut [u32]) -> LineRead
         return LineRead::NoRoom;
     }
     let f = at_front(text);
-    let Front::Command(k, c) = f else {
+    let LineFront::Command(k, c) = f else {
         return plain_line(text, ops);
     };
     reader::clear(ops);

@@ -12,9 +12,9 @@ use lib.ListN.{length, take, drop, length-append}
 use lib.Seq.{length-take-le, take-append-le, take-append-add, take-take}
 use Rattle.nibl.specs.Bytes.{if_then_else_, isText, isCapital, starts, front, past, all}
 use Rattle.nibl.specs.Words.{Token, keywords, commands, pairsWith, begins, noneOver, Word, spaced, keyword, letter, decimalDigits, hexDigits, quoted, pair, symbol}
-use Rattle.nibl.specs.Read.{Step, atEnd, wrong, got, stepIn}
-use Rattle.nibl.specs.GaveUp.{gaveUp}
-use Rattle.nibl.specs.Column.{sortOf, aText, turn, isSome, isRemark, isOpenString, Verdict, alive, stuck, isAlive, turned, byStep, advance, remarkAt, runN, lineRun, allTaken, spellings, endsWith, begunBy, begunIn, isFront, columnDown, columnOf, typedLine, typedCommand}
+use Rattle.nibl.specs.found.Read.{FrontWord, atEnd, wrong, got, stepIn}
+use Rattle.nibl.specs.found.GaveUp.{gaveUp}
+use Rattle.nibl.specs.found.Column.{sortOf, aText, turn, isSome, isRemark, isOpenString, Verdict, alive, stuck, isAlive, turned, byStep, advance, remarkAt, runN, lineRun, allTaken, spellings, endsWith, begunBy, begunIn, isFront, columnDown, columnOf, typedLine, typedCommand}
 use Rattle.nibl.proofs.Keywords.{entries}
 use Rattle.nibl.proofs.Words.{if-split, and-left, and-right, word-sound, word-complete}
 use Rattle.nibl.proofs.Over.{word-short}
@@ -139,7 +139,7 @@ module _ (table : List (List ℕ)) (go : List ℕ → List ℕ → Verdict) (ih 
       taken u h none = omega arith
       taken u h (some next) = within-less (go next u) (omega arith) (ih next u)
 
-      step : (r : Step) → stepIn table s ≡ r → Within (length s) (byStep table go stack s r)
+      step : (r : FrontWord) → stepIn table s ≡ r → Within (length s) (byStep table go stack s r)
       step atEnd e = tt
       step wrong e = if-split (Within (length s)) (isOpenString s && isSome (turn aText stack)) (λ _. tt) (λ _. gave-up-within table s)
       step (got w u) e = taken u (word-short (word-sound table s u w e)) (turn (sortOf w) stack)
@@ -177,7 +177,7 @@ module _ (table : List (List ℕ)) (short : entries isShort table ≡ true) (f g
           let o = word-short (word-sound table s u w i) in
           rw (word-settled table short s u w i n b (omega arith) t, j) (ih next u t (n - (length s - length u)) m (omega arith) k (omega arith) (omega arith))
 
-      step : (r : Step) → stepIn table s ≡ r → byStep table (runN f) stack s r ≡ stuck m
+      step : (r : FrontWord) → stepIn table s ≡ r → byStep table (runN f) stack s r ≡ stuck m
           → isAlive (byStep table (runN g) stack (take n s ++ t) (stepIn table (take n s ++ t))) ≡ false
       step atEnd i k = absurd (no k)
       step wrong i k =

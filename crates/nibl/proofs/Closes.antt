@@ -1,4 +1,4 @@
--- Every stack that comes of a line (specs/Column.antt) can be brought to an end: its ending, and that the stack then means the text.
+-- Every stack that comes of a line (specs/found/Column.antt) can be brought to an end: its ending, and that the stack then means the text.
 -- Assumes nothing.
 use Prim.Native.Nat.{ℕ, zero, suc}
 use mathlib.Core.Path.{_≡_, refl, sym, _∙_}
@@ -11,8 +11,8 @@ use lib.Dec.{eqb}
 use Rattle.nibl.specs.Bytes.{if_then_else_, bytes, isSpace, isText, All, none as done, starts, all}
 use Rattle.nibl.specs.Words.{Token, keywords}
 use Rattle.nibl.specs.Grammar.{aBlank}
-use Rattle.nibl.specs.Read.{Step, atEnd, wrong, got, lettersStep, wordStep, stepIn, choose}
-use Rattle.nibl.specs.Column.{sortOf, factor, firstFactor, closing, modOpen, modComma, target, equals, textEquals, textValue, statement, afterGo, item, consequence, forVariable, forEquals, forTo, oneVariable, inputTarget, typedLine, typedCommand, remark, moreMembers, isOptional, Cases, rules, casesOf, caseIn, turn}
+use Rattle.nibl.specs.found.Read.{FrontWord, atEnd, wrong, got, lettersStep, wordStep, stepIn, choose}
+use Rattle.nibl.specs.found.Column.{sortOf, factor, firstFactor, closing, modOpen, modComma, target, equals, textEquals, textValue, statement, afterGo, item, consequence, forVariable, forEquals, forTo, oneVariable, inputTarget, typedLine, typedCommand, remark, moreMembers, isOptional, Cases, rules, casesOf, caseIn, turn}
 use Rattle.nibl.proofs.Words.{if-split, and-left, and-right, or-cases, word-sound}
 use Rattle.nibl.proofs.Rules.{W}
 use Rattle.nibl.proofs.Ends.{line-text}
@@ -40,7 +40,7 @@ abbrev byTurn : (List ℕ → List ℕ → Bool) → List ℕ → Option (List �
 byTurn go u none = false
 byTurn go u (some stack) = go stack u
 
-abbrev byStep : (List ℕ → List ℕ → Bool) → List ℕ → List ℕ → Step → Bool
+abbrev byStep : (List ℕ → List ℕ → Bool) → List ℕ → List ℕ → FrontWord → Bool
 byStep go stack s atEnd = isEmpty s && all isOptional stack
 byStep go stack s wrong = false
 byStep go stack s (got w u) = byTurn go u (turn (sortOf w) stack)
@@ -69,7 +69,7 @@ ends-means (suc n) stack s t e a f g h =
     by w u none j p m h = absurd (false≢true h)
     by w u (some next) j p m h = turn-means stack j (f w u p) (m next u h)
 
-    go : (r : Step) → stepIn keywords s ≡ r → ((next u : List ℕ) → ends n next u ≡ true → Means next (u ++ e) e)
+    go : (r : FrontWord) → stepIn keywords s ≡ r → ((next u : List ℕ) → ends n next u ≡ true → Means next (u ++ e) e)
         → byStep (ends n) stack s r ≡ true → Means stack t e
     go atEnd i m h = rw (g (is-empty s (and-left (isEmpty s) (all isOptional stack) h))) (all-left-out stack e (and-right (isEmpty s) (all isOptional stack) h))
     go wrong i m h = absurd (false≢true h)

@@ -6,7 +6,7 @@ use mathlib.Core.List.{List}
 use Rattle.nibl.specs.Words.{Token}
 use Rattle.nibl.specs.Grammar.{Joints, factorJoints, termJoints, sumJoints, May, noWord, aWord, Joint, Factor, Term, Sum, Relation, aVariable, aConstant, aHex, aStat, aTop, inBrackets, aByte, aNot, aMod, aFactor, factors, aTerm, lessTerm, terms, aSum, related}
 use Rattle.nibl.specs.Tree.{Op, Expr, two, negate}
-use Rattle.nibl.specs.Read.{found, Reader, give, _>>=_, Part, factor as factorPart, term as termPart, sum as sumPart, relation as relationPart, factors as factorsPart, terms as termsPart, factorOf, moreOperands, read}
+use Rattle.nibl.specs.found.Read.{found, Reader, give, _>>=_, Part, factor as factorPart, term as termPart, sum as sumPart, relation as relationPart, factors as factorsPart, terms as termsPart, factorOf, moreOperands, read}
 use Rattle.nibl.proofs.Rules.{W}
 use Rattle.nibl.proofs.Sound.{read-factor, read-term, read-sum, read-relation, read-factors, read-terms, read-related}
 use Rattle.nibl.proofs.Next.{nextIs, next-at, _or_, not-left, not-right, isKey, joins, isString, word-at, key-at, key-not, then-at, joint-at, joint-not, joint-other}

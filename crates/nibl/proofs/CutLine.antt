@@ -1,5 +1,5 @@
 -- A front part of a text whose words are taken is found to be a front: its own words are taken, or those of it and the rest of a word that
--- it has begun (`isFront`, specs/Column.antt). Assumes nothing.
+-- it has begun (`isFront`, specs/found/Column.antt). Assumes nothing.
 use Prim.Native.Nat.{ℕ, zero, suc, _-_, _≤_, _<_}
 use mathlib.Core.Path.{_≡_, refl, sym, _∙_}
 use mathlib.Core.Bool.{Bool, true, false, not, _&&_, _||_, false≢true}
@@ -12,8 +12,8 @@ use lib.ListN.{length, take, drop, length-append}
 use lib.Seq.{take-append-seam, drop-append-seam}
 use Rattle.nibl.specs.Bytes.{if_then_else_, same, isSpace, isText, isQuotable, All, none as done, each, past, all}
 use Rattle.nibl.specs.Words.{Token, Word, indexIn, there, keywords, commands}
-use Rattle.nibl.specs.Read.{wrong, wordStep, stepIn}
-use Rattle.nibl.specs.Column.{sortOf, aText, typedLine, typedCommand, turn, isSome, isRemark, opened, isOpenString, Verdict, alive, isAlive, advance, runN, lineRun, allTaken, spellings, endsWith, begunBy, begunIn, isFront}
+use Rattle.nibl.specs.found.Read.{wrong, wordStep, stepIn}
+use Rattle.nibl.specs.found.Column.{sortOf, aText, typedLine, typedCommand, turn, isSome, isRemark, opened, isOpenString, Verdict, alive, isAlive, advance, runN, lineRun, allTaken, spellings, endsWith, begunBy, begunIn, isFront}
 use Rattle.nibl.proofs.Tests.{and-left, and-right, or-cases, or-true, all-true, true-all, past-run}
 use Rattle.nibl.proofs.Keywords.{same-self, entries, of-table}
 use Rattle.nibl.proofs.Words.{step-space, step-word, word-complete, ended-complete}

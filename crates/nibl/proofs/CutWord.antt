@@ -10,8 +10,8 @@ use borrow.Author.Tests.{eqb-true, eqb-false}
 use lib.Dec.{leb, eqb}
 use lib.ListN.{length}
 use Rattle.nibl.specs.Bytes.{if_then_else_, isSpace, isDigit, isCapital, isHexDigit, isQuotable, All, none as done, each, starts, front, all, decimalValue, hexValue}
-use Rattle.nibl.specs.Words.{Token, variable, decimal, hex, string, sign, indexIn, there, pairs, pairsWith, isSymbol, Run, begins, noneOver, Keyword, Word, spaced, keyword, letter, decimalDigits, hexDigits, quoted, pair, symbol}
-use Rattle.nibl.specs.Column.{sortOf, aText, isOpenString, spellings}
+use Rattle.nibl.specs.Words.{Token, variable, decimal, hex, string, sign, indexIn, there, pairs, pairsWith, isSymbol, ByteRun, begins, noneOver, Keyword, Word, spaced, keyword, letter, decimalDigits, hexDigits, quoted, pair, symbol}
+use Rattle.nibl.specs.found.Column.{sortOf, aText, isOpenString, spellings}
 use Rattle.nibl.proofs.Tests.{and-left, and-right, or-cases, or-true, of-pairs, between, all-true}
 use Rattle.nibl.proofs.Keywords.{entries, of-table, first-of}
 
@@ -154,7 +154,7 @@ module _ (table : List (List ℕ)) (known : entries isSpelling table ≡ true) w
           begun (x ∷ y) u {w' = sign k} f (part [] s y b x (rw (← e) (of-table isSpelling 128 table (c ∷ d ∷ cs) k known (r .spelled))))
           (rw (← e) (rw append-nil at (shorter [] u refl))) refl
 
-  letter-cut : (c : ℕ) (u : List ℕ) → Run isCapital (c ∷ []) u → (b : ℕ) (s t : List ℕ) → c ∷ u ≡ b ∷ s ++ t → Cut table (b ∷ s) t (variable (c - 65)) u
+  letter-cut : (c : ℕ) (u : List ℕ) → ByteRun isCapital (c ∷ []) u → (b : ℕ) (s t : List ℕ) → c ∷ u ≡ b ∷ s ++ t → Cut table (b ∷ s) t (variable (c - 65)) u
   letter-cut c u r b s t h = before-cut (c ∷ []) s (b ∷ s) t u (variable (c - 65)) (cc) (cc) λ y z e.
       letter (record { some = r .some; each = r .each; longest = starts-shorter isCapital y z (rw e at (r .longest)) })
 
@@ -162,7 +162,7 @@ module _ (table : List (List ℕ)) (known : entries isSpelling table ≡ true) w
       → Cut table (b ∷ s) t (sign c) u
   symbol-cut c u r n b s t h = before-cut (c ∷ []) s (b ∷ s) t u (sign c) (cc) (cc) λ y z e. symbol r (pairs-shorter c y z (rw e at n))
 
-  decimal-cut : (ds u : List ℕ) → Run isDigit ds u → decimalValue 0 ds ≤ 32767 → (b : ℕ) (s t : List ℕ) → Split ds u (b ∷ s) t
+  decimal-cut : (ds u : List ℕ) → ByteRun isDigit ds u → decimalValue 0 ds ≤ 32767 → (b : ℕ) (s t : List ℕ) → Split ds u (b ∷ s) t
       → Cut table (b ∷ s) t (decimal (decimalValue 0 ds)) u
   decimal-cut ds u r l b s t (before v e f) = before-cut ds v (b ∷ s) t u (decimal (decimalValue 0 ds)) e f λ y z g.
       decimalDigits (record { some = r .some; each = r .each; longest = starts-shorter isDigit y z (rw g at (r .longest)) }) l
@@ -171,7 +171,7 @@ module _ (table : List (List ℕ)) (known : entries isSpelling table ≡ true) w
       let m : decimalValue 0 (b ∷ s) ≤ 32767 = omega (arith, value-shorter 0 (b ∷ s) (x ∷ y), ap (decimalValue 0) e) in
       begun [] t refl whole (decimalDigits {ds = b ∷ s} {s = []} (record { some = first-of a; each = a; longest = refl }) m) refl
 
-  hex-cut : (ds u : List ℕ) → Run isHexDigit ds u → (s t : List ℕ) → Split ds u s t → Cut table (35 ∷ s) t (hex (hexValue 0 ds % 65536)) u
+  hex-cut : (ds u : List ℕ) → ByteRun isHexDigit ds u → (s t : List ℕ) → Split ds u s t → Cut table (35 ∷ s) t (hex (hexValue 0 ds % 65536)) u
   hex-cut ds u r s t (before v e f) = before-cut (35 ∷ ds) v (35 ∷ s) t u (hex (hexValue 0 ds % 65536)) (cc) f λ y z g.
       hexDigits (record { some = r .some; each = r .each; longest = starts-shorter isHexDigit y z (rw g at (r .longest)) })
   hex-cut ds u r s t (across x y e f) = go s (rw e at (r .each))

@@ -12,7 +12,7 @@ use Rattle.nibl.specs.Words.{Token, variable, decimal, hex, string, sign
 use Rattle.nibl.specs.Grammar.{Joints, factorJoints, termJoints, sumJoints, Key, May, noWord, aWord, Joint, joint, Factor, Term, Sum, Relation, aVariable, aConstant, aHex, aStat, aTop, inBrackets, aByte, aNot, aMod, aFactor, factors, aTerm, lessTerm, terms, aSum, related}
 use Rattle.nibl.specs.Tree.{Op, Expr, var, const, stat, top, byteAt, invert, negate, modulo, two}
 use Rattle.nibl.specs.Derivation.{Mark, took, ofMay, ofJoint, ofFactor, ofTerm, ofSum, ofRelation}
-use Rattle.nibl.specs.Read.{Found, found, read, term as termPart, sum as sumPart}
+use Rattle.nibl.specs.found.Read.{Found, found, read, term as termPart, sum as sumPart}
 use Rattle.nibl.proofs.Words.{word-complete}
 use Rattle.nibl.proofs.Rules.{W}
 use Rattle.nibl.proofs.Next.{nextIs, next-at, _or_, not-left, not-right, isKey, joins, joint-other}

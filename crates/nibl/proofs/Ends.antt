@@ -14,7 +14,7 @@ use Rattle.nibl.specs.Bytes.{if_then_else_, isSpace, isDigit, isText, is
 use Rattle.nibl.specs.Words.{Token, string, sign, Word, spaced, keyword, letter, decimalDigits, hexDigits, quoted, pair, symbol}
 use Rattle.nibl.specs.Grammar.{Key, Statement, anIf, aRemark, Members, lastMember, moreMembers, Line, aBlank, aDelete, aStore, aNew, aClear, aRun, aList, aListFrom, anImmediate}
 use Rattle.nibl.specs.Tree.{Expr, Stmt, remark, ifThen, Member, Typed, store}
-use Rattle.nibl.specs.Read.{found, member, reading}
+use Rattle.nibl.specs.found.Read.{found, member, reading}
 use Rattle.nibl.proofs.Keywords.{first-of, place-least}
 use Rattle.nibl.proofs.Words.{and-left, and-right, of-pairs, no-symbol, capital-other, word-unique, decimal-small}
 use Rattle.nibl.proofs.Over.{Outside, here, byte, inQuotes, outside-trans, outside-passed, outside-length, Passed, passed-trans, passed-text, passed-drop, passed-rest, text-passed, word-over, word-rest}

@@ -10,7 +10,7 @@ use Rattle.nibl.specs.Words.{Token, Word}
 use Rattle.nibl.specs.Grammar.{Relation, Statement}
 use Rattle.nibl.specs.Readings.{ListReading, ReplyReading, LineReading}
 use Rattle.nibl.specs.Tree.{Expr, Stmt, Member, Typed}
-use Rattle.nibl.specs.Read.{atEnd, got, stepIn, found, relation, read, statement, reading, replied, typed}
+use Rattle.nibl.specs.found.Read.{atEnd, got, stepIn, found, relation, read, statement, reading, replied, typed}
 use Rattle.nibl.proofs.Words.{word-sound, ended-sound, word-complete, ended-complete}
 use Rattle.nibl.proofs.Rules.{W}
 use Rattle.nibl.proofs.Lines.{relation-sound, statement-sound, reading-sound, replied-sound, typed-sound}

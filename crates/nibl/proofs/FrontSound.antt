@@ -1,4 +1,4 @@
--- What is found to be a front (specs/Column.antt) is one (specs/Fronts.antt): a text whose words are taken goes on to a line with a reading.
+-- What is found to be a front (specs/found/Column.antt) is one (specs/Fronts.antt): a text whose words are taken goes on to a line with a reading.
 -- Assumes nothing.
 use Prim.Native.Nat.{ℕ, zero, suc, _-_}
 use mathlib.Core.Path.{_≡_, refl}
@@ -10,9 +10,9 @@ use lib.Dec.{eqb}
 use lib.ListN.{length, take, drop}
 use Rattle.nibl.specs.Bytes.{if_then_else_, isSpace, isText, isQuotable, none as done, past, all}
 use Rattle.nibl.specs.Words.{Token, string, spaced, quoted, keywords, commands}
-use Rattle.nibl.specs.Read.{Step, atEnd, wrong, got, stepIn}
+use Rattle.nibl.specs.found.Read.{FrontWord, atEnd, wrong, got, stepIn}
 use Rattle.nibl.specs.Fronts.{Front}
-use Rattle.nibl.specs.Column.{sortOf, aText, typedLine, typedCommand, turn, isSome, isRemark, opened, isOpenString, Verdict, isAlive, turned, byStep, advance, remarkAt, runN, lineRun, allTaken, spellings, endsWith, begunBy, begunIn, isFront}
+use Rattle.nibl.specs.found.Column.{sortOf, aText, typedLine, typedCommand, turn, isSome, isRemark, opened, isOpenString, Verdict, isAlive, turned, byStep, advance, remarkAt, runN, lineRun, allTaken, spellings, endsWith, begunBy, begunIn, isFront}
 use Rattle.nibl.proofs.Words.{if-split, and-left, and-right, or-cases, true-all, word-sound, ended-sound}
 use Rattle.nibl.proofs.Rules.{W}
 use Rattle.nibl.proofs.Taken.{Taken, ended, remarked, inString, takes, LineTaken, byKeywords, byCommand}
@@ -86,7 +86,7 @@ module _ (go : List ℕ → List ℕ → Verdict) (sound : (stack s : List ℕ) 
   unfolding advance
   advance-sound stack s n h = by (stepIn keywords s) refl h
     where
-      by : (r : Step) → stepIn keywords s ≡ r → isAlive (byStep keywords go stack s r) ≡ true → Taken stack s
+      by : (r : FrontWord) → stepIn keywords s ≡ r → isAlive (byStep keywords go stack s r) ≡ true → Taken stack s
       by atEnd e h = ended (ended-sound keywords s e)
       by wrong e h =
           if-split (λ v. isAlive v ≡ true → Taken stack s) (isOpenString s && isSome (turn aText stack))
@@ -98,7 +98,7 @@ module _ (go : List ℕ → List ℕ → Verdict) (sound : (stack s : List ℕ) 
   unfolding advance
   command-sound s h = by (stepIn commands s) refl h
     where
-      by : (r : Step) → stepIn commands s ≡ r → isAlive (byStep commands go (typedCommand ∷ []) s r) ≡ true → LineTaken s
+      by : (r : FrontWord) → stepIn commands s ≡ r → isAlive (byStep commands go (typedCommand ∷ []) s r) ≡ true → LineTaken s
       by atEnd e h = byKeywords (ended (ended-sound commands s e))
       by wrong e h =
           if-split (λ v. isAlive v ≡ true → LineTaken s) (isOpenString s && isSome (turn aText (typedCommand ∷ [])))

@@ -10,9 +10,9 @@ use lib.Dec.{leb, eqb}
 use lib.ListN.{length, take, drop}
 use Rattle.nibl.specs.Bytes.{if_then_else_, isSpace, isDigit, isCapital, isHexDigit, isQuotable, none as done, each, starts, front, past, all, decimalValue}
 use Rattle.nibl.specs.Words.{Token, string, pairs, isSymbol, begins, noneOver, indexIn, Word, letter}
-use Rattle.nibl.specs.Read.{Step, wrong, got, signOr, lettersStep, digitsStep, hexStep, quotedStep, pairOr, symbolStep, wordStep, stepIn}
-use Rattle.nibl.specs.GaveUp.{common, mostCommon, pastLargest, wordGaveUp, gaveUp}
-use Rattle.nibl.specs.Column.{opened, isOpenString}
+use Rattle.nibl.specs.found.Read.{FrontWord, wrong, got, signOr, lettersStep, digitsStep, hexStep, quotedStep, pairOr, symbolStep, wordStep, stepIn}
+use Rattle.nibl.specs.found.GaveUp.{common, mostCommon, pastLargest, wordGaveUp, gaveUp}
+use Rattle.nibl.specs.found.Column.{opened, isOpenString}
 use Rattle.nibl.proofs.Tests.{if-split, and-left, and-right, or-true, capital-other}
 use Rattle.nibl.proofs.Keywords.{take-run, over-all, over-step}
 use Rattle.nibl.proofs.Words.{step-word, word-capital, word-complete, no-word}
@@ -224,8 +224,8 @@ symbol-found b (c ∷ s) e = go (pairs b c) e
     go (some k) e = let z : _≡_ {A = ℕ} 0 1 = cc in omega arith
 
 -- one choice in three places
-module _ (P : Step → ℕ → Step → Type 0) where
-  if-three : (x : Bool) {r r' : Step} {k k' : ℕ} {q q' : Step} → (x ≡ true → P r k q) → (x ≡ false → P r' k' q')
+module _ (P : FrontWord → ℕ → FrontWord → Type 0) where
+  if-three : (x : Bool) {r r' : FrontWord} {k k' : ℕ} {q q' : FrontWord} → (x ≡ true → P r k q) → (x ≡ false → P r' k' q')
       → P (if x then r else r') (if x then k else k') (if x then q else q')
   if-three true f g = f refl
   if-three false f g = g refl
@@ -233,7 +233,7 @@ module _ (P : Step → ℕ → Step → Type 0) where
 -- By the first byte
 module _ (table : List (List ℕ)) (b : ℕ) (s : List ℕ) (n : ℕ) (l : n ≤ length s) (t : List ℕ) where
   -- the step there is r, gave up k bytes before the end, and the step at the other text is q
-  abbrev Stays : Step → ℕ → Step → Type 0
+  abbrev Stays : FrontWord → ℕ → FrontWord → Type 0
   Stays r k q = r ≡ wrong → suc (length s) < suc n + k → q ≡ wrong
 
   capital-stays : isCapital b ≡ true

@@ -7,7 +7,7 @@ use mathlib.Core.Option.{none, some}
 use borrow.Author.Tests.{eqb-true}
 use lib.Dec.{eqb}
 use Rattle.nibl.specs.Bytes.{if_then_else_, isSpace, isDigit, isCapital, isHexDigit, All, none as done, each, starts, front}
-use Rattle.nibl.specs.Words.{Token, there, pairsWith, Run, Word, spaced, keyword, letter, decimalDigits, hexDigits, quoted, pair, symbol}
+use Rattle.nibl.specs.Words.{Token, there, pairsWith, ByteRun, Word, spaced, keyword, letter, decimalDigits, hexDigits, quoted, pair, symbol}
 
 pub data Apart : List ℕ → Type 0 where
   nothing : Apart []
@@ -32,7 +32,7 @@ module _ (p : ℕ → Bool) (s : p 32 ≡ false) (q : p 34 ≡ false) where
       go true e h = rw (e, h)
       go false e h = rw e
 
-  run-joined : {ds u t : List ℕ} → Apart t → Run p ds u → Run p ds (u ++ t)
+  run-joined : {ds u t : List ℕ} → Apart t → ByteRun p ds u → ByteRun p ds (u ++ t)
   run-joined {u} a r = record { some = r .some; each = r .each; longest = starts-joined u a (r .longest) }
 
 -- nor is a space or a quote the second byte of a pair

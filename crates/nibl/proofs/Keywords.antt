@@ -11,7 +11,7 @@ use lib.ListN.{length, take}
 use lib.Seq.{length-take-le}
 use Rattle.nibl.specs.Bytes.{if_then_else_, same, isCapital, All, none as done, each, front}
 use Rattle.nibl.specs.Words.{indexFrom, indexIn, there, begins, noneOver, keyword}
-use Rattle.nibl.specs.Read.{lettersStep}
+use Rattle.nibl.specs.found.Read.{lettersStep}
 use Rattle.nibl.proofs.Tests.{if-split, and-left, and-right, or-cases, or-true}
 
 -- Tables

@@ -10,8 +10,8 @@ use Rattle.nibl.specs.Bytes.{isSpace, All, all}
 use Rattle.nibl.specs.Words.{Token, decimal, sign, commands, Word}
 use Rattle.nibl.specs.Grammar.{Key, Relation, Statement, Members, lastMember, moreMembers, Reply, lastReply, enough, moreReply, Line, aBlank, aDelete, aStore, aNew, aClear, aRun, aList, aListFrom, anImmediate}
 use Rattle.nibl.specs.Tree.{Expr, Stmt, Member, Typed, blank, new, clear, run, delete, list, immediate}
-use Rattle.nibl.specs.Read.{Found, found, give, _>>=_, onStep, stepIn, key, orElse, isFound, signOf, relation, read, statement, member, unread, consSome, membersN, reading, replied, alone, storing, numbered, aloneStatement, commandCases, unnumbered, typed, aDecimal}
-use Rattle.nibl.specs.Read.{lastReply as lastReplied}
+use Rattle.nibl.specs.found.Read.{Found, found, give, _>>=_, onStep, stepIn, key, orElse, isFound, signOf, relation, read, statement, member, unread, consSome, membersN, reading, replied, alone, storing, numbered, aloneStatement, commandCases, unnumbered, typed, aDecimal}
+use Rattle.nibl.specs.found.Read.{lastReply as lastReplied}
 use Rattle.nibl.proofs.Words.{if-split, or-cases, true-all}
 use Rattle.nibl.proofs.Over.{word-over}
 use Rattle.nibl.proofs.Rules.{Alike, alike, it, same, Ok, nil, one, OkSome, W, Same, gives, by-step, kinds, or-else, or-ok, and-then, ok-found, ok-some, Cases, noMore, _and_, chosen, decimal-same, by-key}

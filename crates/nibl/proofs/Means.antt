@@ -1,4 +1,4 @@
--- What a stack of what may still come (specs/Column.antt) means in the grammar; and a word that is taken keeps its meaning. Assumes nothing.
+-- What a stack of what may still come (specs/found/Column.antt) means in the grammar; and a word that is taken keeps its meaning. Assumes nothing.
 use Prim.Native.Nat.{ℕ}
 use mathlib.Core.Path.{_≡_, refl, sym, _∙_}
 use mathlib.Core.Bool.{Bool, true, false, _&&_, false≢true}
@@ -14,9 +14,9 @@ use Rattle.nibl.specs.Grammar.{whole, parted, PrintWord, shortPrint, lon
 use Rattle.nibl.specs.Grammar.{Statement, aLetVar, aLetStat, aLetByte, aLetText, aLetCopy, aGoto, aGosub, aReturn, aPrint, anIf, aDo, anUntil, aFor, aNext, anInput, anInputText, aRemark, anEnd, Members, lastMember, Line, aStore, aNew, aClear, aRun, aList, aListFrom, anImmediate}
 use Rattle.nibl.specs.Grammar.{moreItems as itemAnd, oneVariable as variableAlone, moreVariables as variableAnd, moreMembers as memberAnd}
 use Rattle.nibl.specs.Tree.{Op, Expr, Item, Stmt, Member, Typed}
-use Rattle.nibl.specs.Read.{choose}
-use Rattle.nibl.specs.Column.{sortOf, aName, aDecimal, aHex as aHexSort, aText, factor, firstFactor, closing, modOpen, modComma, target, equals, textEquals, textValue, statement, afterGo, item, consequence, forVariable, forEquals, forTo, oneVariable, inputTarget, typedLine, typedCommand, remark, moreOfRelation, moreOfSum, moreItems, forStep, moreVariables, moreMembers, listNumber}
-use Rattle.nibl.specs.Column.{isOptional, Cases, factorCases, firstCases, followed, operandCases, targetCases, statementCases, rules, casesOf, caseIn, turn}
+use Rattle.nibl.specs.found.Read.{choose}
+use Rattle.nibl.specs.found.Column.{sortOf, aName, aDecimal, aHex as aHexSort, aText, factor, firstFactor, closing, modOpen, modComma, target, equals, textEquals, textValue, statement, afterGo, item, consequence, forVariable, forEquals, forTo, oneVariable, inputTarget, typedLine, typedCommand, remark, moreOfRelation, moreOfSum, moreItems, forStep, moreVariables, moreMembers, listNumber}
+use Rattle.nibl.specs.found.Column.{isOptional, Cases, factorCases, firstCases, followed, operandCases, targetCases, statementCases, rules, casesOf, caseIn, turn}
 use Rattle.nibl.proofs.Keywords.{place-least}
 use Rattle.nibl.proofs.Words.{if-split, and-left, and-right, of-pairs, no-symbol}
 use Rattle.nibl.proofs.Rules.{W}

@@ -12,12 +12,12 @@ use Rattle.nibl.specs.Bytes.{if_then_else_, isSpace, All}
 use Rattle.nibl.specs.Words.{Token, variable, decimal, hex, string, sign, keywords, number}
 use Rattle.nibl.specs.Grammar.{Joints, jointOf, Key, Joint, joint}
 use Rattle.nibl.specs.Tree.{Op}
-use Rattle.nibl.specs.Read.{Step, atEnd, wrong, got, stepIn, Found, nothing, found, Reader, onStep, byWord, choose, andThen, _>>=_, orElse, variableOf, decimalOf, stringOf, signOf, aVariable, aDecimal, aString, aSign, ifKey, aJoint}
+use Rattle.nibl.specs.found.Read.{FrontWord, atEnd, wrong, got, stepIn, Found, nothing, found, Reader, onStep, byWord, choose, andThen, _>>=_, orElse, variableOf, decimalOf, stringOf, signOf, aVariable, aDecimal, aString, aSign, ifKey, aJoint}
 use Rattle.nibl.proofs.Words.{and-left, and-right, word-complete, ended-complete}
 use Rattle.nibl.proofs.Rules.{it, Ok, nil, one, none-found, W, string-same, decimal-same, sign-same, joint-same}
 
 -- whether a word of a kind stands next
-abbrev pub isNext : (Token → Bool) → Step → Bool
+abbrev pub isNext : (Token → Bool) → FrontWord → Bool
 isNext p atEnd = false
 isNext p wrong = false
 isNext p (got w s) = p w
@@ -47,7 +47,7 @@ or-right true b e = absurd (false≢true (sym e))
 or-right false b e = e
 
 module _ (p q : Token → Bool) (s : List ℕ) (h : nextIs (p or q) s ≡ false) where
-  neither-of : (r : Step) → isNext (p or q) r ≡ false → (isNext p r ≡ false) × (isNext q r ≡ false)
+  neither-of : (r : FrontWord) → isNext (p or q) r ≡ false → (isNext p r ≡ false) × (isNext q r ≡ false)
   neither-of atEnd e = (refl, refl)
   neither-of wrong e = (refl, refl)
   neither-of (got w t) e = (or-left (p w) (q w) e, or-right (p w) (q w) e)
@@ -95,7 +95,7 @@ isDecimal (sign k) = false
 -- The readers at the word that stands next
 module _ {A : Type 0} where
   pub word-at : (k : Token → Reader A) {s t : List ℕ} {w : Token} → W s w t → byWord k s ≡ k w t
-  word-at k h = ap (λ (r : Step). onStep r k) (word-complete keywords h)
+  word-at k h = ap (λ (r : FrontWord). onStep r k) (word-complete keywords h)
 
 pub sign-at : {s t : List ℕ} {k : ℕ} → W s (sign k) t → aSign s ≡ found k t
 unfolding aSign

@@ -10,7 +10,7 @@ use borrow.Author.Tests.{le-leb, eqb-true, ne-eqb}
 use lib.ListN.{length, drop, length-append}
 use lib.Dec.{leb, eqb}
 use Rattle.nibl.specs.Bytes.{isSpace, isDigit, isCapital, isHexDigit, isText, isQuotable, All, none as done, each}
-use Rattle.nibl.specs.Words.{Token, Run, Word, spaced, keyword, letter, decimalDigits, hexDigits, quoted, pair, symbol}
+use Rattle.nibl.specs.Words.{Token, ByteRun, Word, spaced, keyword, letter, decimalDigits, hexDigits, quoted, pair, symbol}
 use Rattle.nibl.proofs.Words.{and-left, or-cases, of-symbols, of-pairs, between}
 
 -- `Outside s s'`: s' is the end of s from a place on that stands outside every string, and what stands before is text
@@ -99,7 +99,7 @@ hex-bare b e = or-cases (isDigit b) (leb 65 b && leb b 70) e (digit-bare b) (ran
 space-bare : (b : ℕ) → isSpace b ≡ true → isQuotable b ≡ true
 space-bare b e = rw (eqb-true b 32 e)
 
-run-over : {p : ℕ → Bool} {ds s : List ℕ} → ((b : ℕ) → p b ≡ true → isQuotable b ≡ true) → Run p ds s → Over (ds ++ s) s
+run-over : {p : ℕ → Bool} {ds s : List ℕ} → ((b : ℕ) → p b ≡ true → isQuotable b ≡ true) → ByteRun p ds s → Over (ds ++ s) s
 run-over {ds = []} f r = absurd (false≢true (r .some))
 run-over {ds = d ∷ ds} {s} f r = record { out = outside-all f (r .each) s; short = omega (arith, length-append ds s) }
 

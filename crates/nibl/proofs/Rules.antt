@@ -13,7 +13,7 @@ use Rattle.nibl.specs.Bytes.{if_then_else_}
 use Rattle.nibl.specs.Words.{Token, variable, decimal, hex, string, sign, keywords, Word}
 use Rattle.nibl.specs.Grammar.{Joints, jointOf, Key, May, noWord, aWord, Joint, joint}
 use Rattle.nibl.specs.Tree.{Op}
-use Rattle.nibl.specs.Read.{Step, stepIn, Found, nothing, found, Reader, fail, onStep, byWord, choose, andThen, _>>=_, orElse, variableOf, decimalOf, stringOf, signOf, aVariable, aDecimal, aString, aSign, ifKey, key, may, jointFound, aJoint}
+use Rattle.nibl.specs.found.Read.{FrontWord, stepIn, Found, nothing, found, Reader, fail, onStep, byWord, choose, andThen, _>>=_, orElse, variableOf, decimalOf, stringOf, signOf, aVariable, aDecimal, aString, aSign, ifKey, key, may, jointFound, aJoint}
 use Rattle.nibl.proofs.Words.{Says, spaces, aWord as said, noWord as noneSaid, step-says}
 
 -- two things are the same, and it is so
@@ -65,7 +65,7 @@ module _ {A : Type 0} {P : A → List ℕ → Type 0} where
       → Same P (onStep (stepIn table s) k) (onStep (stepIn table s) k')
   by-step table s {k} {k'} f = go (step-says table s)
     where
-      go : {r : Step} → Says table s r → Same P (onStep r k) (onStep r k')
+      go : {r : FrontWord} → Says table s r → Same P (onStep r k) (onStep r k')
       go (spaces a) = neither
       go noneSaid = neither
       go (said {w} {s' = t} h) = f w t h

@@ -8,7 +8,7 @@ use lib.ListN.{length}
 use Rattle.nibl.specs.Words.{Token, variable, decimal, hex, string, sign}
 use Rattle.nibl.specs.Grammar.{Joints, factorJoints, termJoints, sumJoints, May, noWord, aWord, Joint, joint, Factor, Term, Sum, Relation, aVariable, aConstant, aHex, aStat, aTop, inBrackets, aByte, aNot, aMod, aFactor, factors, aTerm, lessTerm, terms, aSum, related}
 use Rattle.nibl.specs.Tree.{Op, Expr, negate, two}
-use Rattle.nibl.specs.Read.{Reader, give, byWord, ifKey, may, _>>=_, Part, factor as factorPart, term as termPart, sum as sumPart, relation as relationPart, factors as factorsPart, terms as termsPart, related as relatedPart, factorCases, factorOf, moreOperands, part, readN, rank, read}
+use Rattle.nibl.specs.found.Read.{Reader, give, byWord, ifKey, may, _>>=_, Part, factor as factorPart, term as termPart, sum as sumPart, relation as relationPart, factors as factorsPart, terms as termsPart, related as relatedPart, factorCases, factorOf, moreOperands, part, readN, rank, read}
 use Rattle.nibl.proofs.Over.{Outside, here, outside-trans, outside-length, Over, _⨾_, word-over}
 use Rattle.nibl.proofs.Rules.{same, W, Same, neither, gives, by-word, or-else, and-then, as-so, Cases, noMore, _and_, chosen, Case, if-key, by-key, by-may, joint-same}
 

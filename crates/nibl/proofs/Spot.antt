@@ -14,7 +14,7 @@ use Rattle.nibl.specs.Grammar.{aBlank}
 use Rattle.nibl.specs.Readings.{LineReading}
 use Rattle.nibl.specs.Tree.{blank}
 use Rattle.nibl.specs.Fronts.{Front, IsColumn}
-use Rattle.nibl.specs.Column.{isFront, columnDown, columnOf}
+use Rattle.nibl.specs.found.Column.{isFront, columnDown, columnOf}
 use Rattle.nibl.proofs.TakenLines.{line-taken}
 use Rattle.nibl.proofs.CutLine.{taken-cut}
 use Rattle.nibl.proofs.FrontSound.{front-sound}

@@ -11,8 +11,8 @@ use Rattle.nibl.specs.Words.{Token, variable, decimal, hex, string, sign
 use Rattle.nibl.specs.Grammar.{Key, May, noWord, aWord, Relation, Either, whole, parted, PrintWord, shortPrint, longPrint, AnItem, aString, aStored, aValue, Items, oneItem, moreItems, LastSemicolon, noSemicolon, aSemicolon, AStep, noStep, someStep, Variables, oneVariable, moreVariables}
 use Rattle.nibl.specs.Grammar.{Statement, aLetVar, aLetStat, aLetByte, aLetText, aLetCopy, aGoto, aGosub, aReturn, aPrint, anIf, aDo, anUntil, aFor, aNext, anInput, anInputText, aRemark, anEnd}
 use Rattle.nibl.specs.Tree.{Expr, Item, stored, value, Stmt, letVar, letStat, letByte, letCopy, goto, gosub, until, for, inputText}
-use Rattle.nibl.specs.Read.{Reader, give, _>>=_, ifKey, Part, relation, factor, read, assigned, letCases, letOf, anItem, joinedN, joined, printing, forTo, inputting, remarking, statementCases, statementOf, aStatement, statementN, statement}
-use Rattle.nibl.specs.Read.{aVariable as variableRead}
+use Rattle.nibl.specs.found.Read.{Reader, give, _>>=_, ifKey, Part, relation, factor, read, assigned, letCases, letOf, anItem, joinedN, joined, printing, forTo, inputting, remarking, statementCases, statementOf, aStatement, statementN, statement}
+use Rattle.nibl.specs.found.Read.{aVariable as variableRead}
 use Rattle.nibl.proofs.Words.{if-split, true-all}
 use Rattle.nibl.proofs.Over.{Outside, here, outside-trans, outside-passed, outside-length, Passed, passed-text, text-passed, Over, _⨾_, word-over}
 use Rattle.nibl.proofs.Rules.{same, one, W, Same, neither, gives, by-word, or-else, and-then, Cases, noMore, _and_, chosen, Case, variable-same, string-same, if-key, by-key, by-may}

@@ -1,4 +1,4 @@
--- What `allTaken` says (specs/Column.antt), as a relation: a text's words are taken one after the other, from a stack on, to the text's
+-- What `allTaken` says (specs/found/Column.antt), as a relation: a text's words are taken one after the other, from a stack on, to the text's
 -- end or into a string that it leaves open. Assumes nothing.
 use Prim.Native.Nat.{ℕ}
 use mathlib.Core.Path.{_≡_}
@@ -7,7 +7,7 @@ use mathlib.Core.List.{List, [], _∷_}
 use mathlib.Core.Option.{some}
 use Rattle.nibl.specs.Bytes.{isSpace, isText, All}
 use Rattle.nibl.specs.Words.{Token, Word, keywords, commands}
-use Rattle.nibl.specs.Column.{sortOf, aText, typedLine, typedCommand, turn, isSome, isRemark, isOpenString}
+use Rattle.nibl.specs.found.Column.{sortOf, aText, typedLine, typedCommand, turn, isSome, isRemark, isOpenString}
 
 pub data Taken : List ℕ → List ℕ → Type 0 where
   ended : {stack s : List ℕ} → All isSpace s → Taken stack s

@@ -1,4 +1,4 @@
--- Every line that the grammar reads is taken word by word by the stack of specs/Column.antt. Assumes nothing.
+-- Every line that the grammar reads is taken word by word by the stack of specs/found/Column.antt. Assumes nothing.
 use Prim.Native.Nat.{ℕ}
 use mathlib.Core.Path.{_≡_, refl, _∙_}
 use mathlib.Core.Bool.{Bool, true, false}
@@ -15,8 +15,8 @@ use Rattle.nibl.specs.Grammar.{Statement, aLetVar, aLetStat, aLetByte, a
 use Rattle.nibl.specs.Grammar.{Members, lastMember, moreMembers as membersOn, aBlank, aDelete, aStore, aNew, aClear, aRun, aList, aListFrom, anImmediate}
 use Rattle.nibl.specs.Tree.{Op, Expr, Item, Stmt, Member, Typed}
 use Rattle.nibl.specs.Readings.{LineReading}
-use Rattle.nibl.specs.Column.{sortOf, aName, factor, firstFactor, target, statement, item, consequence, moreOfRelation, moreOfSum, moreItems, forStep, moreVariables, moreMembers}
-use Rattle.nibl.specs.Column.{Cases, factorCases, firstCases, jointCases, targetCases, statementCases, casesOf, caseIn, turn, isRemark}
+use Rattle.nibl.specs.found.Column.{sortOf, aName, factor, firstFactor, target, statement, item, consequence, moreOfRelation, moreOfSum, moreItems, forStep, moreVariables, moreMembers}
+use Rattle.nibl.specs.found.Column.{Cases, factorCases, firstCases, jointCases, targetCases, statementCases, casesOf, caseIn, turn, isRemark}
 use Rattle.nibl.proofs.Words.{if-split}
 use Rattle.nibl.proofs.Rules.{W}
 use Rattle.nibl.proofs.Taken.{Taken, ended, remarked, takes, LineTaken, byKeywords, byCommand}

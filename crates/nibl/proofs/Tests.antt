@@ -8,7 +8,7 @@ use native.Mathlib.Omega.{arith}
 use borrow.Author.Tests.{leb-true, le-leb, lt-leb, eqb-true, ne-eqb, not-true}
 use lib.Dec.{leb, eqb}
 use Rattle.nibl.specs.Bytes.{if_then_else_, isSpace, isDigit, isCapital, All, none as done, each, starts, front, past, all}
-use Rattle.nibl.specs.Words.{pairs, isSymbol, Run, pair}
+use Rattle.nibl.specs.Words.{pairs, isSymbol, ByteRun, pair}
 
 -- a fact about a choice, from the fact at each branch with what the test gave
 module _ {A : Type 0} (P : A → Type 0) where
@@ -121,5 +121,5 @@ starts-front : (p : ℕ → Bool) (b : ℕ) (s : List ℕ) → p b ≡ true → 
 starts-front p b s e = rw e e
 
 -- the longest run at the front
-pub longest : (p : ℕ → Bool) (b : ℕ) (s : List ℕ) → p b ≡ true → Run p (front p (b ∷ s)) (past p (b ∷ s))
+pub longest : (p : ℕ → Bool) (b : ℕ) (s : List ℕ) → p b ≡ true → ByteRun p (front p (b ∷ s)) (past p (b ∷ s))
 longest p b s e = record { some = starts-front p b s e; each = front-all p (b ∷ s); longest = past-stops p (b ∷ s) }

@@ -14,8 +14,8 @@ use Rattle.nibl.specs.Words.{Token, decimal, sign, keywords, commands, n
 use Rattle.nibl.specs.Grammar.{Key, May, noWord, aWord, Relation, Either, whole, parted, PrintWord, shortPrint, longPrint, AnItem, aString, aStored, aValue, Items, oneItem, moreItems, noSemicolon, aSemicolon, noStep, someStep, Variables, oneVariable, moreVariables}
 use Rattle.nibl.specs.Grammar.{Statement, aLetVar, aLetStat, aLetByte, aLetText, aLetCopy, aGoto, aGosub, aReturn, aPrint, anIf, aDo, anUntil, aFor, aNext, anInput, anInputText, aRemark, anEnd, Members, lastMember, moreMembers, Reply, lastReply, enough, moreReply, Line, aBlank, aDelete, aStore, aNew, aClear, aRun, aList, aListFrom, anImmediate}
 use Rattle.nibl.specs.Tree.{Expr, Item, Stmt, letVar, letStat, letByte, goto, gosub, until, for, Member, Typed, immediate}
-use Rattle.nibl.specs.Read.{Found, nothing, found, give, _>>=_, relation, factor, read, aRelation, assigned, letOf, anItem, joined, printing, statementOf, aStatement, statement, endsMember, member, reading, replied, typed, key, consSome, orElse, choose, stepIn, wrong, got, aDecimal, commandCases, aloneStatement, numbered, unnumbered}
-use Rattle.nibl.specs.Read.{aVariable as variableRead}
+use Rattle.nibl.specs.found.Read.{Found, nothing, found, give, _>>=_, relation, factor, read, aRelation, assigned, letOf, anItem, joined, printing, statementOf, aStatement, statement, endsMember, member, reading, replied, typed, key, consSome, orElse, choose, stepIn, wrong, got, aDecimal, commandCases, aloneStatement, numbered, unnumbered}
+use Rattle.nibl.specs.found.Read.{aVariable as variableRead}
 use Rattle.nibl.proofs.Keywords.{first-of, rest-of, run-begins, entries, of-table}
 use Rattle.nibl.proofs.Words.{and-left, and-right, or-true, all-true, word-unspaced, word-complete, word-unique, retabled, of-pairs, no-symbol, no-word}
 use Rattle.nibl.proofs.Rules.{W, it, Ok, nil, one, none-found, decimal-same}

@@ -10,15 +10,15 @@ use lib.Dec.{leb, eqb}
 use lib.ListN.{length, take, drop, take-append-drop, length-append}
 use lib.Seq.{length-take-le, take-append-seam, drop-append-seam}
 use Rattle.nibl.specs.Bytes.{if_then_else_, isSpace, isDigit, isCapital, isHexDigit, isQuotable, All, none as done, each, starts, front, past, all, decimalValue, hexValue}
-use Rattle.nibl.specs.Words.{Token, variable, decimal, hex, string, sign, indexIn, pairs, there, pairsWith, isSymbol, Run, begins, noneOver, Keyword, Word, spaced, keyword, letter, decimalDigits, hexDigits, quoted, pair, symbol}
+use Rattle.nibl.specs.Words.{Token, variable, decimal, hex, string, sign, indexIn, pairs, there, pairsWith, isSymbol, ByteRun, begins, noneOver, Keyword, Word, spaced, keyword, letter, decimalDigits, hexDigits, quoted, pair, symbol}
 use Rattle.nibl.specs.Longest.{isWhole}
-use Rattle.nibl.specs.Read.{Step, atEnd, wrong, got, signOr, letterStep, lettersStep, digitsStep, hexStep, quotedStep, pairOr, symbolStep, wordStep, stepIn}
+use Rattle.nibl.specs.found.Read.{FrontWord, atEnd, wrong, got, signOr, letterStep, lettersStep, digitsStep, hexStep, quotedStep, pairOr, symbolStep, wordStep, stepIn}
 pub use Rattle.nibl.proofs.Tests.{if-split, and-left, and-right, or-cases, or-true, of-symbols, no-symbol, of-pairs, between, capital-other, digit-other, all-true, true-all, front-run}
 use Rattle.nibl.proofs.Tests.{front-all, past-stops, front-past, past-run, longest}
 use Rattle.nibl.proofs.Keywords.{place-least, take-run, first-of, run-least, over-all, letters-down, all-taken, run-short, over-step}
 
 -- Sound: what a step says of the text s
-pub data Says (table : List (List ℕ)) (s : List ℕ) : Step → Type 0 where
+pub data Says (table : List (List ℕ)) (s : List ℕ) : FrontWord → Type 0 where
   spaces : All isSpace s → Says table s atEnd
   noWord : Says table s wrong
   aWord : {w : Token} {s' : List ℕ} → Word table s w s' → Says table s (got w s')
@@ -58,7 +58,7 @@ module _ (table : List (List ℕ)) where
       go none e ih = ih (over-step (suc n) 128 table (front isCapital s) o (rw (← take-run isCapital (suc (suc n)) s h) e))
       go (some k) e ih = keyword-says n k s h o e
 
-  digits-says : (ds s : List ℕ) → Run isDigit ds s → Says table (ds ++ s) (digitsStep (decimalValue 0 ds) s)
+  digits-says : (ds s : List ℕ) → ByteRun isDigit ds s → Says table (ds ++ s) (digitsStep (decimalValue 0 ds) s)
   digits-says ds s r =
       if-split (Says table (ds ++ s)) (leb (decimalValue 0 ds) 32767) (λ e. aWord (decimalDigits r (leb-true (decimalValue 0 ds) 32767 e))) (λ _. noWord)
 
@@ -80,7 +80,7 @@ module _ (table : List (List ℕ)) where
       go (some k) h = aWord (pair h)
 
   -- what is said of a run and what follows is said of the text that they are
-  of-run : (p : ℕ → Bool) (f : List ℕ → List ℕ) (s : List ℕ) (r : Step) → Says table (f (front p s ++ past p s)) r → Says table (f s) r
+  of-run : (p : ℕ → Bool) (f : List ℕ → List ℕ) (s : List ℕ) (r : FrontWord) → Says table (f (front p s ++ past p s)) r → Says table (f s) r
   of-run p f s r h = rw (front-past p s) at h
 
   word-says : (b : ℕ) (s : List ℕ) → Says table (b ∷ s) (wordStep table b s)
@@ -93,7 +93,7 @@ module _ (table : List (List ℕ)) where
       if-split P (eqb b 34) (λ e. rw (eqb-true b 34 e) (of-run isQuotable (λ l. 34 ∷ l) s _ (quoted-says _ _ (front-all isQuotable s)))) (λ _.
       if-split P (isSymbol b) (λ e. symbol-says b s e) (λ _. noWord)))))
 
-  space-says : (s : List ℕ) {r : Step} → Says table s r → Says table (32 ∷ s) r
+  space-says : (s : List ℕ) {r : FrontWord} → Says table s r → Says table (32 ∷ s) r
   space-says s (spaces a) = spaces (each refl a)
   space-says s noWord = noWord
   space-says s (aWord w) = aWord (spaced w)
@@ -157,7 +157,7 @@ module _ (table : List (List ℕ)) where
   unfolding lettersStep
   no-word b s c e o = letters-at b 1 s c o (omega arith) (run-least {p = isCapital} {w = b ∷ []} (each c done) s) ∙ rw e
 
-  letter-at : (c : ℕ) (s : List ℕ) → Run isCapital (c ∷ []) s → stepIn table (c ∷ s) ≡ got (variable (c - 65)) s
+  letter-at : (c : ℕ) (s : List ℕ) → ByteRun isCapital (c ∷ []) s → stepIn table (c ∷ s) ≡ got (variable (c - 65)) s
   unfolding lettersStep
   letter-at c s r =
       let e = front-run (r .each) s (r .longest) in
@@ -169,14 +169,14 @@ module _ (table : List (List ℕ)) where
       letters-at c (suc (suc (length cs))) (d ∷ cs ++ s) (first-of (r .each)) (r .longest) (omega arith) (run-least (r .each) s)
       ∙ rw (take-append-seam cs s, drop-append-seam cs s, r .spelled)
 
-  digits-at : (ds s : List ℕ) → Run isDigit ds s → stepIn table (ds ++ s) ≡ digitsStep (decimalValue 0 ds) s
+  digits-at : (ds s : List ℕ) → ByteRun isDigit ds s → stepIn table (ds ++ s) ≡ digitsStep (decimalValue 0 ds) s
   digits-at [] s r = absurd (false≢true (r .some))
   digits-at (b ∷ ds) s r =
       let c : isDigit b ≡ true = r .some in
       step-word table b (ds ++ s) (digit-other b c .0) ∙ word-digit table b (ds ++ s) c
       ∙ rw (front-run (r .each) s (r .longest), past-run (r .each) s (r .longest))
 
-  hex-at : (ds s : List ℕ) → Run isHexDigit ds s → stepIn table (35 ∷ ds ++ s) ≡ got (hex (hexValue 0 ds % 65536)) s
+  hex-at : (ds s : List ℕ) → ByteRun isHexDigit ds s → stepIn table (35 ∷ ds ++ s) ≡ got (hex (hexValue 0 ds % 65536)) s
   hex-at [] s r = absurd (false≢true (r .some))
   hex-at (d ∷ ds) s r =
       unfold stepIn wordStep in (rw (front-run (r .each) s (r .longest), past-run (r .each) s (r .longest)))

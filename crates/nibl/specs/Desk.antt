@@ -6,7 +6,8 @@ use lib.ListN.{take, getD, replicate}
 use Rattle.nibl.specs.Bytes.{bytes, byteCR}
 use Rattle.nibl.specs.Page.{used}
 use Rattle.nibl.specs.Record.{fresh}
-use Rattle.nibl.specs.Calls.{Lent, Outcome, lentAll, takeLine}
+use Rattle.nibl.specs.Lent.{Lent, Outcome, lentAll}
+use Rattle.nibl.specs.Calls.{takeLine}
 use Rattle.nibl.specs.declared.Session.{Session}
 
 -- what the desk sees after its lines: the stops, what was written, A's value, the memory, and the page up to TOP

@@ -16,7 +16,7 @@ use Rattle.nibl.specs.Tree.{Item, text, stored, value}
 use Rattle.nibl.specs.Tree.{Stmt, letVar, letStat, letByte, letCopy, letText, goto, gosub, until, return, doLoop, remark, end, print, ifThen, for, next, input, inputText}
 use Rattle.nibl.specs.Tree.{Member, Typed, blank, new, clear, run, delete, list, store, immediate}
 
--- which operators join factors, terms and sums
+-- which operators join factors ("* / AND"), terms ("+ - OR") and sums ("one of = < > <= >= <>")
 abbrev pub Joints : Type 0
 Joints = List (ℕ × Op)
 
@@ -48,6 +48,7 @@ module _ (W : List ℕ → Token → List ℕ → Type 0) where
     joint : {k : ℕ} {o : Op} {s s' : List ℕ} → W s (sign k) s' → jointOf js k ≡ some o → Joint js s o s'
 
   mutual
+    -- "Factor: variable, constant, STAT, TOP; '(' relation ')'; '@' or NOT before a factor; MOD '(' relation ',' relation ')'"
     pub data Factor : List ℕ → Expr → List ℕ → Type 0 where
       aVariable : {v : ℕ} {s s' : List ℕ} → W s (variable v) s' → Factor s (var v) s'
       aConstant : {n : ℕ} {s s' : List ℕ} → W s (decimal n) s' → Factor s (const n) s'
@@ -60,15 +61,18 @@ module _ (W : List ℕ → Token → List ℕ → Type 0) where
       aMod : {s t u v x y s' : List ℕ} {a b : Expr} → Key "MOD" s t → Key "(" t u → Relation u a v → Key "," v x → Relation x b y
           → Key ")" y s' → Factor s (modulo a b) s'
 
+    -- "Term: factors joined by * / AND"
     pub data Term : List ℕ → Expr → List ℕ → Type 0 where
       aFactor : {s s' : List ℕ} {a : Expr} → Factor s a s' → Term s a s'
       factors : {s t u s' : List ℕ} {o : Op} {a b : Expr} → Term s a t → Joint factorJoints t o u → Factor u b s' → Term s (two o a b) s'
 
+    -- "Sum: optional + or -, a term, then terms joined by + - OR"
     pub data Sum : List ℕ → Expr → List ℕ → Type 0 where
       aTerm : {s t s' : List ℕ} {a : Expr} → May "+" s t → Term t a s' → Sum s a s'
       lessTerm : {s t s' : List ℕ} {a : Expr} → Key "-" s t → Term t a s' → Sum s (negate a) s'
       terms : {s t u s' : List ℕ} {o : Op} {a b : Expr} → Sum s a t → Joint termJoints t o u → Term u b s' → Sum s (two o a b) s'
 
+    -- "Relation: a sum, or two sums around one of = < > <= >= <>"
     pub data Relation : List ℕ → Expr → List ℕ → Type 0 where
       aSum : {s s' : List ℕ} {a : Expr} → Sum s a s' → Relation s a s'
       related : {s t u s' : List ℕ} {o : Op} {a b : Expr} → Sum s a t → Joint sumJoints t o u → Sum u b s' → Relation s (two o a b) s'
@@ -78,10 +82,12 @@ module _ (W : List ℕ → Token → List ℕ → Type 0) where
     whole : {s s' : List ℕ} → Key one s s' → Either one first second s s'
     parted : {s t s' : List ℕ} → Key first s t → Key second t s' → Either one first second s s'
 
+  -- "PR or PRINT with one or more items joined by commas and an optional last ';'"
   pub data PrintWord : List ℕ → List ℕ → Type 0 where
     shortPrint : {s s' : List ℕ} → Key "PR" s s' → PrintWord s s'
     longPrint : {s s' : List ℕ} → Key "PRINT" s s' → PrintWord s s'
 
+  -- "an item being a string, '$' factor or relation"
   pub data AnItem : List ℕ → Item → List ℕ → Type 0 where
     aString : {s s' bs : List ℕ} → W s (string bs) s' → AnItem s (text bs) s'
     aStored : {s t s' : List ℕ} {a : Expr} → Key "$" s t → Factor t a s' → AnItem s (stored a) s'
@@ -95,14 +101,20 @@ module _ (W : List ℕ → Token → List ℕ → Type 0) where
     noSemicolon : {s : List ℕ} → LastSemicolon s false s
     aSemicolon : {s s' : List ℕ} → Key ";" s s' → LastSemicolon s true s'
 
+  -- "optional STEP relation": without one the step is 1
   pub data AStep : List ℕ → Expr → List ℕ → Type 0 where
     noStep : {s : List ℕ} → AStep s (const 1) s
     someStep : {s t s' : List ℕ} {a : Expr} → Key "STEP" s t → Relation t a s' → AStep s a s'
 
+  -- "variables joined by commas"
   pub data Variables : List ℕ → List ℕ → List ℕ → Type 0 where
     oneVariable : {s s' : List ℕ} {v : ℕ} → W s (variable v) s' → Variables s (v ∷ []) s'
     moreVariables : {s t u s' : List ℕ} {v : ℕ} {vs : List ℕ} → W s (variable v) t → Key "," t u → Variables u vs s' → Variables s (v ∷ vs) s'
 
+  -- "LET (optional) then variable, STAT or '@' factor, '=', relation; LET (optional) '$' factor '=' and a quoted string or '$' factor;
+  -- GOTO, GO TO, GOSUB or GO SUB with a relation; RETURN; PR or PRINT with .. items ..; IF relation, optional THEN, a statement; DO;
+  -- UNTIL relation; FOR variable = relation TO relation, optional STEP relation; NEXT variable; INPUT with variables joined by
+  -- commas, or '$' factor; REM; END"
   pub data Statement : List ℕ → Stmt → List ℕ → Type 0 where
     aLetVar : {s t u x s' : List ℕ} {v : ℕ} {a : Expr} → May "LET" s t → W t (variable v) u → Key "=" u x → Relation x a s'
         → Statement s (letVar v a) s'
@@ -143,6 +155,8 @@ module _ (W : List ℕ → Token → List ℕ → Type 0) where
 
   -- C is the rule of words at the front of an immediate line
   module _ (C : List ℕ → Token → List ℕ → Type 0) where
+    -- "A typed line is blank, a number alone, a number and a statement list, a command, or one statement". On several statements in
+    -- an immediate line "the table decides, one only"
     pub data Line : List ℕ → Typed → Type 0 where
       aBlank : {s : List ℕ} → All isSpace s → Line s blank
       aDelete : {s t : List ℕ} {n : ℕ} → W s (decimal n) t → All isSpace t → Line s (delete n)

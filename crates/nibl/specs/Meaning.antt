@@ -10,7 +10,7 @@ use Rattle.nibl.specs.Bytes.{if_then_else_, bytes, notCR, front, all, by
 use Rattle.nibl.specs.Tree.{Expr, var, const, stat, top, byteAt, invert, negate, modulo, two}
 use Rattle.nibl.specs.Tree.{Item, text, stored, value}
 use Rattle.nibl.specs.Tree.{Stmt, letVar, letStat, letByte, letCopy, letText, goto, gosub, until, return, doLoop, remark, end, print, ifThen, for, next, input, inputText}
-use Rattle.nibl.specs.Read.{replied}
+use Rattle.nibl.specs.found.Read.{replied}
 use Rattle.nibl.specs.Values.{Result, is, no, Value, add16, sub16, not16, mod16, apply, isNegative, less16, printed}
 use Rattle.nibl.specs.Stack.{pushOf, popOf, pushFor, popFor}
 use Rattle.nibl.specs.Typing.{Gathered, gather}
@@ -202,19 +202,19 @@ unfoldable pub exec : Env → Stmt → World → Done
 exec e (letVar v a) w = given (eval e w a) w (λ x. done on (withSession w (withVar (w .session) v x)))
 exec e (letStat a) w = given (eval e w a) w (λ x. done on (withSession w (withFlags (w .session) (x % 8))))
 exec e (letByte a b) w = given (eval e w a) w (λ p. given (eval e w b) w (λ x. keepIn w (storeAt (w .memory) p (x % 256 ∷ []))))
+exec e (letText a bs) w = given (eval e w a) w (λ p. keepIn w (storeAt (w .memory) p (bs ++ (byteCR ∷ []))))
 exec e (letCopy a b) w =
     given (eval e w a) w (λ p. given (eval e w b) w (λ q. keepIn w (bind (stringAt (w .memory) q) (λ bs. storeAt (w .memory) p (bs ++ (byteCR ∷ []))))))
-exec e (letText a bs) w = given (eval e w a) w (λ p. keepIn w (storeAt (w .memory) p (bs ++ (byteCR ∷ []))))
 exec e (goto a) w = given (bind (eval e w a) (λ n. lineThere (find (e .page) n))) w (λ q. done (go q) w)
 exec e (gosub a) w = given (bind (eval e w a) (λ n. lineThere (find (e .page) n))) w (gosubTo e w)
-exec e (until a) w = given (eval e w a) w (λ x. untilBy w x (popOf (w .session .dos) .top))
 exec e return w = returnBy w (popOf (w .session .gosubs) .top)
-exec e doLoop w = doHere e w
-exec e remark w = done on w
-exec e end w = done (stop 20) w
 exec e (print is′ b) w = went (putItems e is′ w) (putEnd b)
 exec e (ifThen a q) w = given (eval e w a) w (λ x. elim (eqb x 0) [ true ↦ done skip w | false ↦ exec e q w ])
+exec e doLoop w = doHere e w
+exec e (until a) w = given (eval e w a) w (λ x. untilBy w x (popOf (w .session .dos) .top))
 exec e (for v a b c) w = given (eval e w a) w (λ x. given (eval e w b) w (λ y. given (eval e w c) w (λ z. forHere e w v x y z)))
 exec e (next v) w = nextBy w v (popFor (w .session .fors) .top)
 exec e (input vs) w = asked e w (λ u bs. assignReply e vs u (replied (length vs) bs))
 exec e (inputText a) w = given (eval e w a) w (λ p. asked e w (λ u bs. keepIn u (storeAt (u .memory) p (bs ++ (byteCR ∷ [])))))
+exec e remark w = done on w
+exec e end w = done (stop 20) w

@@ -7,7 +7,7 @@ use lib.ListN.{length, getD, take, drop}
 use lib.Dec.{ltb, leb, eqb}
 use Rattle.nibl.specs.Bytes.{if_then_else_, isDigit, starts, all, byteCR}
 use Rattle.nibl.specs.Tree.{Member}
-use Rattle.nibl.specs.Read.{reading}
+use Rattle.nibl.specs.found.Read.{reading}
 use Rattle.nibl.specs.Values.{digits}
 use Rattle.nibl.specs.Record.{mark}
 use Rattle.nibl.specs.declared.Place.{Place}

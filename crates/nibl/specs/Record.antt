@@ -93,3 +93,19 @@ partsOf s inpos outpos = record { flags = s .flags; gosubs = s .gosubs; dos = s 
 
 abbrev pub sessionOf : Parts → List ℕ → ℕ → Session
 sessionOf p vars paused = record { vars = vars; flags = p .flags; gosubs = p .gosubs; dos = p .dos; fors = p .fors; paused = paused }
+
+-- the parts with one of them changed
+abbrev pub withFlagsIn : Parts → ℕ → Parts
+withFlagsIn p x = record { flags = x; gosubs = p .gosubs; dos = p .dos; fors = p .fors; inpos = p .inpos; outpos = p .outpos }
+
+abbrev pub withGosubsIn : Parts → PlaceStack → Parts
+withGosubsIn p s = record { flags = p .flags; gosubs = s; dos = p .dos; fors = p .fors; inpos = p .inpos; outpos = p .outpos }
+
+abbrev pub withDosIn : Parts → PlaceStack → Parts
+withDosIn p s = record { flags = p .flags; gosubs = p .gosubs; dos = s; fors = p .fors; inpos = p .inpos; outpos = p .outpos }
+
+abbrev pub withForsIn : Parts → ForStack → Parts
+withForsIn p s = record { flags = p .flags; gosubs = p .gosubs; dos = p .dos; fors = s; inpos = p .inpos; outpos = p .outpos }
+
+abbrev pub partsAt : Parts → ℕ → ℕ → Parts
+partsAt p i o = record { flags = p .flags; gosubs = p .gosubs; dos = p .dos; fors = p .fors; inpos = i; outpos = o }

@@ -18,19 +18,24 @@ pub data Item : Type 0 where
   text : List ℕ → Item
   stored value : Expr → Item  -- "$" factor, a relation
 
+-- in the grammar's order
 pub data Stmt : Type 0 where
   letVar : ℕ → Expr → Stmt
   letStat : Expr → Stmt
-  letByte letCopy : Expr → Expr → Stmt  -- "@" factor = relation, "$" factor = "$" factor
+  letByte : Expr → Expr → Stmt  -- "@" factor = relation
   letText : Expr → List ℕ → Stmt
-  goto gosub until : Expr → Stmt
-  return doLoop remark end : Stmt  -- RETURN, DO, REM, END
+  letCopy : Expr → Expr → Stmt  -- "$" factor = "$" factor
+  goto gosub : Expr → Stmt
+  return : Stmt
   print : List Item → Bool → Stmt  -- whether a last ";" is there
   ifThen : Expr → Stmt → Stmt
+  doLoop : Stmt
+  until : Expr → Stmt
   for : ℕ → Expr → Expr → Expr → Stmt  -- first value, limit, step
   next : ℕ → Stmt
   input : List ℕ → Stmt
   inputText : Expr → Stmt
+  remark end : Stmt
 
 -- a member of a statement list, and how many bytes of the text stand from the place that ends it on: 0 at the text's end
 pub record Member : Type 0 where

@@ -7,6 +7,10 @@ use lib.ListN.{length, take}
 use lib.Dec.{ltb, eqb}
 use Rattle.nibl.specs.Bytes.{if_then_else_, classDropped, classCR, classErase, classDiscard, classOf}
 
+-- "If a 73rd byte would be kept, the line is over-long"; a stored line's text and digits are "at most 72"
+abbrev pub limit : ℕ
+limit = 72
+
 -- the bytes kept so far, and whether one more than the limit would have been kept
 pub record Kept : Type 0 where
   pub bytes : List ℕ

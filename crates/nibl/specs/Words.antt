@@ -19,13 +19,14 @@ pub data Token : Type 0 where
 abbrev pub firstKeyword : ℕ
 firstKeyword = 128
 
+-- "LET GO TO SUB GOTO GOSUB RETURN PR PRINT IF THEN DO UNTIL FOR STEP NEXT INPUT REM END STAT TOP MOD AND OR NOT"
 abbrev pub keywords : List (List ℕ)
 keywords =
     bytes "LET" ∷ bytes "GO" ∷ bytes "TO" ∷ bytes "SUB" ∷ bytes "GOTO" ∷ bytes "GOSUB" ∷ bytes "RETURN" ∷ bytes "PR" ∷ bytes "PRINT"
     ∷ bytes "IF" ∷ bytes "THEN" ∷ bytes "DO" ∷ bytes "UNTIL" ∷ bytes "FOR" ∷ bytes "STEP" ∷ bytes "NEXT" ∷ bytes "INPUT" ∷ bytes "REM"
     ∷ bytes "END" ∷ bytes "STAT" ∷ bytes "TOP" ∷ bytes "MOD" ∷ bytes "AND" ∷ bytes "OR" ∷ bytes "NOT" ∷ []
 
--- "at the front of an immediate line"
+-- "at the front of an immediate line NEW CLEAR LIST RUN"
 abbrev pub commands : List (List ℕ)
 commands = bytes "NEW" ∷ bytes "CLEAR" ∷ bytes "LIST" ∷ bytes "RUN" ∷ []
 
@@ -60,7 +61,7 @@ isSymbol b =
     || eqb b (byte "/") || eqb b (byte ":") || eqb b (byte ";") || eqb b (byte "<") || eqb b (byte "=") || eqb b (byte ">") || eqb b (byte "@")
 
 -- the run ds of bytes that pass stands before s, and is the longest
-pub record Run (p : ℕ → Bool) (ds s : List ℕ) : Type 0 where
+pub record ByteRun (p : ℕ → Bool) (ds s : List ℕ) : Type 0 where
   pub some : starts p ds ≡ true
   pub each : All p ds
   pub longest : starts p s ≡ false
@@ -87,9 +88,9 @@ pub data Word (table : List (List ℕ)) : List ℕ → Token → List ℕ → Ty
   spaced : {w : Token} {s s' : List ℕ} → Word table s w s' → Word table (byte " " ∷ s) w s'
   keyword : {c d k : ℕ} {cs s : List ℕ} → Keyword table (c ∷ d ∷ cs) k s → Word table (c ∷ d ∷ cs ++ s) (sign k) s
   -- "if none does, a letter not followed by a letter is a variable": a keyword has two letters or more, so none does there
-  letter : {c : ℕ} {s : List ℕ} → Run isCapital (c ∷ []) s → Word table (c ∷ s) (variable (c - byte "A")) s
-  decimalDigits : {ds s : List ℕ} → Run isDigit ds s → decimalValue 0 ds ≤ 32767 → Word table (ds ++ s) (decimal (decimalValue 0 ds)) s
-  hexDigits : {ds s : List ℕ} → Run isHexDigit ds s → Word table (byte "#" ∷ ds ++ s) (hex (hexValue 0 ds % 65536)) s
+  letter : {c : ℕ} {s : List ℕ} → ByteRun isCapital (c ∷ []) s → Word table (c ∷ s) (variable (c - byte "A")) s
+  decimalDigits : {ds s : List ℕ} → ByteRun isDigit ds s → decimalValue 0 ds ≤ 32767 → Word table (ds ++ s) (decimal (decimalValue 0 ds)) s
+  hexDigits : {ds s : List ℕ} → ByteRun isHexDigit ds s → Word table (byte "#" ∷ ds ++ s) (hex (hexValue 0 ds % 65536)) s
   quoted : {bs s : List ℕ} → All isQuotable bs → Word table (byteQuote ∷ bs ++ byteQuote ∷ s) (string bs) s
   pair : {a b k : ℕ} {s : List ℕ} → pairs a b ≡ some k → Word table (a ∷ b ∷ s) (sign k) s
   symbol : {b : ℕ} {s : List ℕ} → isSymbol b ≡ true → pairsWith b s ≡ false → Word table (b ∷ s) (sign b) s

@@ -5,7 +5,10 @@ ghost use mathlib.Core.Path.{_≡_};
 ghost use lib.Dec.{eqb};
 ghost use Rattle.nibl.specs.Stack.{onTop, pushOf, topOf, popOf, pushFor, topFor, popFor};
 ghost use Rattle.nibl.specs.Record.{place, mark, positionOf, nowhere, pausedAt, pauseNumber, freshPlaces, freshFors, fresh, unpaused, stackless, cleared, partsOf, sessionOf, withFlags};
-ghost use Rattle.nibl.specs.Calls.{answerOf, withPositions};
+ghost use Rattle.nibl.specs.Lent.{answerOf, withPositions};
+
+pub mod range;
+pub mod stop;
 
 // Bytes that the rules name: what ends a typed line, a record's text and a string; what follows it in the output; what stands
 // between two statements; what a number is written with; what stands around a string; and the end mark, which is two of these.
@@ -31,12 +34,20 @@ pub const LAST_LINE: u16 = 32767;
 // How many bytes of a typed line, or of a reply, are kept.
 pub const LIMIT: usize = 72;
 
-// The least entries of a table that is lent: a count, and a position for every four bytes of the longest page.
-pub const TABLE_LEAST: usize = 1025;
-
 // How many operations and values there is room for: a record's length is one byte, and no statement has more operations
 // than bytes.
 pub const ROOM: usize = 256;
+
+// Variables, A to Z.
+pub const VARIABLES: usize = 26;
+
+// GOSUBs and DOs that are open at once, and FORs.
+pub const GOSUBS: usize = 8;
+
+pub const FORS: usize = 4;
+
+// The flags use bits 0 to 2: so many patterns of them there are.
+pub const FLAGS: u16 = 8;
 
 // The immediate mark: a GOSUB that was typed saves it for a place. No page is so long.
 pub const MARK: u16 = 65535;
@@ -108,7 +119,7 @@ impl Onward {
 #[repr(C)]
 pub struct PlaceStack {
     pub depth: usize,
-    pub places: [Place; 8],
+    pub places: [Place; GOSUBS],
 }
 
 // What is on top of a stack of places.
@@ -148,7 +159,7 @@ impl PlaceStack {
         ensures { λ r. ⌜ r ≡ pushOf self p ⌝ }
     {
         let d = self.depth;
-        if d < 8 {
+        if d < GOSUBS {
             let mut next = self;
             next.places[d] = p;
             next.depth = d + 1;
@@ -172,7 +183,7 @@ impl PlaceStack {
         if d < 1 {
             return Top::Empty;
         }
-        if 8 < d {
+        if GOSUBS < d {
             return Top::Empty;
         }
         let at = d - 1;
@@ -185,7 +196,7 @@ impl PlaceStack {
         ensures { λ r. ⌜ r ≡ popOf self ⌝ }
     {
         let top = self.top();
-        let d = lowered(8, self.depth);
+        let d = lowered(GOSUBS, self.depth);
         let mut next = self;
         next.depth = d;
         Popped {
@@ -207,7 +218,7 @@ pub struct ForEntry {
 #[repr(C)]
 pub struct ForStack {
     pub depth: usize,
-    pub entries: [ForEntry; 4],
+    pub entries: [ForEntry; FORS],
 }
 
 // What is on top of the FOR stack.
@@ -232,7 +243,7 @@ impl ForStack {
         ensures { λ r. ⌜ r ≡ pushFor self e ⌝ }
     {
         let d = self.depth;
-        if d < 4 {
+        if d < FORS {
             let mut next = self;
             next.entries[d] = e;
             next.depth = d + 1;
@@ -256,7 +267,7 @@ impl ForStack {
         if d < 1 {
             return TopFor::Empty;
         }
-        if 4 < d {
+        if FORS < d {
             return TopFor::Empty;
         }
         let at = d - 1;
@@ -269,7 +280,7 @@ impl ForStack {
         ensures { λ r. ⌜ r ≡ popFor self ⌝ }
     {
         let top = self.top();
-        let d = lowered(4, self.depth);
+        let d = lowered(FORS, self.depth);
         let mut next = self;
         next.depth = d;
         PoppedFor {
@@ -320,7 +331,7 @@ impl Onward {
 // The flags are bits 0 to 2; the pause is read by `Paused::of`.
 #[repr(C)]
 pub struct Session {
-    pub vars: [u16; 26],
+    pub vars: [u16; VARIABLES],
     pub flags: u8,
     pub gosubs: PlaceStack,
     pub dos: PlaceStack,
@@ -346,7 +357,7 @@ impl PlaceStack {
         let none = Place::at(0);
         PlaceStack {
             depth: 0,
-            places: [none; 8],
+            places: [none; GOSUBS],
         }
     }
 }
@@ -363,7 +374,7 @@ impl ForStack {
         };
         ForStack {
             depth: 0,
-            entries: [none; 4],
+            entries: [none; FORS],
         }
     }
 }
@@ -377,7 +388,7 @@ impl Session {
         let dos = PlaceStack::fresh();
         let fors = ForStack::fresh();
         Session {
-            vars: [0u16; 26],
+            vars: [0u16; VARIABLES],
             flags: 0,
             gosubs: gosubs,
             dos: dos,
@@ -410,7 +421,7 @@ impl Session {
     pub fn cleared(self) -> Session
         ensures { λ r. ⌜ r ≡ cleared self ⌝ }
     {
-        let zeros = [0u16; 26];
+        let zeros = [0u16; VARIABLES];
         let mut next = self.stackless();
         next.vars = zeros;
         next
@@ -436,7 +447,7 @@ impl Session {
 
 impl Parts {
     // The record again, with the variables that the run left.
-    pub fn session(self, vars: [u16; 26], paused: u16) -> Session
+    pub fn session(self, vars: [u16; VARIABLES], paused: u16) -> Session
         ensures { λ r. ⌜ r ≡ sessionOf self vars paused ⌝ }
     {
         let gosubs = self.gosubs;

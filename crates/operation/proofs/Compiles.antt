@@ -12,7 +12,7 @@ use lib.Seq.{sets}
 use Rattle.nibl.specs.Bytes.{if_then_else_, isText, isQuotable, All, none as noByte, each as eachByte}
 use Rattle.nibl.specs.Tree.{Expr, Item, Stmt}
 use Rattle.nibl.specs.Values.{Result, is, no}
-use Rattle.nibl.specs.Read.{replied}
+use Rattle.nibl.specs.found.Read.{replied}
 use Rattle.nibl.specs.Page.{find}
 use Rattle.nibl.specs.Meaning.{World, Env, on, skip, go, stop, Done, done, withOutput, bind, given, went, stringAt, lineThere, eval, put, storeAt, keepIn, putItem, putItems, putEnd, assignReply, asked, gosubTo, exec}
 use Rattle.nibl.proofs.Words.{and-left, and-right}

@@ -6,7 +6,7 @@ use mathlib.Core.Option.{Option, none, some}
 use lib.ListN.{getD}
 use Rattle.nibl.specs.Tree.{Expr}
 use Rattle.nibl.specs.Values.{Result, is, no, Value}
-use Rattle.nibl.specs.Read.{replied}
+use Rattle.nibl.specs.found.Read.{replied}
 use Rattle.nibl.specs.Meaning.{World, Env, withSession, bind, given, eval, assign, assignReply}
 use Rattle.nibl.specs.Record.{withVar}
 use Rattle.relation.specs.Code.{values}

@@ -13,7 +13,7 @@ use Rattle.nibl.specs.Grammar.{AnItem, aString, aStored, aValue, Items, oneItem
 use Rattle.nibl.specs.Grammar.{Statement, aLetVar, aLetStat, aLetByte, aLetText, aLetCopy, aGoto, aGosub, aReturn, aPrint, anIf, aDo, anUntil, aFor, aNext, anInput, anInputText, aRemark, anEnd}
 use Rattle.nibl.specs.Grammar.{Reply, lastReply, enough, moreReply, Line, anImmediate}
 use Rattle.nibl.specs.Tree.{Expr, Item, Stmt, Member, immediate}
-use Rattle.nibl.specs.Read.{found, member, replied, typed}
+use Rattle.nibl.specs.found.Read.{found, member, replied, typed}
 use Rattle.nibl.proofs.Words.{and-right, decimal-small}
 use Rattle.nibl.proofs.Rules.{W, it, ok-found}
 use Rattle.nibl.proofs.Lines.{C, AMember, atEnd, atColon, member-same, replied-sound, typed-sound}

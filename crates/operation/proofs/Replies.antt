@@ -13,7 +13,7 @@ use lib.Seq.{drop-cons}
 use Rattle.nibl.specs.Bytes.{if_then_else_}
 use Rattle.nibl.specs.Tree.{Expr}
 use Rattle.nibl.specs.Values.{is, no, Value}
-use Rattle.nibl.specs.Read.{consSome, replied}
+use Rattle.nibl.specs.found.Read.{consSome, replied}
 use Rattle.nibl.specs.Meaning.{on, stop}
 use Rattle.word.specs.declared.Cursor.{Cursor}
 use Rattle.relation.specs.Code.{values}

@@ -10,7 +10,7 @@ use Rattle.nibl.specs.Bytes.{if_then_else_, byteCR, byteLF}
 use Rattle.nibl.specs.Values.{Result, is, Value, sub16, not16, mod16, apply, printed}
 use Rattle.nibl.specs.Stack.{popOf, popFor}
 use Rattle.nibl.specs.Page.{find, used}
-use Rattle.nibl.specs.Read.{replied}
+use Rattle.nibl.specs.found.Read.{replied}
 use Rattle.nibl.specs.Meaning.{World, Env, withSession, on, skip, go, stop, Done, done, bind, given, went, byteOf, stringAt, storeAt, statOf}
 use Rattle.nibl.specs.Record.{withVar, withFlags}
 use Rattle.nibl.specs.Meaning.{put, keepIn, lineThere, gosubTo, returnBy, doHere, untilBy, forHere, nextBy, asked, assignReply}

@@ -6,7 +6,7 @@ use mathlib.Core.Option.{Option, none, some}
 use mathlib.Core.Path.{_≡_}
 use lib.ListN.{getD, set, length, drop}
 use Rattle.nibl.specs.Tree.{Expr}
-use Rattle.nibl.specs.Read.{replied}
+use Rattle.nibl.specs.found.Read.{replied}
 use Rattle.nibl.specs.Page.{used}
 use Rattle.nibl.specs.Meaning.{World, withSession, Next, on, stop, Done, done, bind}
 use Rattle.nibl.specs.Record.{withVars}

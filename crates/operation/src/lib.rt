@@ -8,11 +8,12 @@ ghost use Rattle.nibl.specs.Page.{used};
 ghost use Rattle.nibl.specs.Meaning.{statOf};
 ghost use Rattle.value.specs.Operators.{valueOf};
 ghost use Rattle.codes.specs.Operators.{opOf};
-ghost use Rattle.nibl.specs.Read.{replied};
+ghost use Rattle.nibl.specs.found.Read.{replied};
 ghost use Rattle.operation.specs.Operations.{takes, valueBy, valueStep, valuesFirst, variablesOf};
 ghost use Rattle.operation.specs.Stacks.{sources, stackOf, stackAfter, heightOf, reachedIn, reachedHeight, reachedAt, topIn, topAfter, reachedTop, worked, ReplyRoom, Assigning, assignedBy, assigning};
 use line::ListRead;
 use line::RelationRead;
+use nibl::stop;
 use value::Value;
 use word::Cursor;
 use world::jump;
@@ -260,7 +261,7 @@ fn assign(
         }
         let r = line::reply_relation(text, c, ops);
         let RelationRead::Relation(k, next) = r else {
-            return Way::Stop(6);
+            return Way::Stop(stop::BAD_REPLY);
         };
         let v = work_out(&ops[..k], vars, flags, sense, page, memory, values);
         match v {
@@ -293,6 +294,6 @@ pub fn take_reply(
 {
     match line::read_reply(text, n, ops) {
         ListRead::Reads => assign(rest, n, text, flags, sense, page, vars, memory, ops, values),
-        _ => Way::Stop(6),
+        _ => Way::Stop(stop::BAD_REPLY),
     }
 }

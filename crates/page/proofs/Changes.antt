@@ -9,7 +9,7 @@ use lib.ListN.{length, drop}
 use lib.Dec.{ltb, eqb}
 use borrow.Author.Tests.{ltb-true, ltb-false, eqb-true, eqb-false}
 use Rattle.nibl.specs.Bytes.{if_then_else_}
-use Rattle.nibl.specs.Read.{stepIn, wordStep, _>>=_, aStatement, statementN, statement, member, membersN, reading}
+use Rattle.nibl.specs.found.Read.{stepIn, wordStep, _>>=_, aStatement, statementN, statement, member, membersN, reading}
 use Rattle.nibl.specs.Page.{Stored, programBytes, hasReading, isStorable, isGood, recordsOf, without, with, onto}
 use Rattle.page.proofs.Walk.{by-cases}
 use Rattle.page.proofs.Program.{both, Storable, Program, none, each, program-good, records-back, ranged}

@@ -13,7 +13,7 @@ use Rattle.nibl.specs.declared.LineNumber.{LineNumber}
 use Rattle.nibl.specs.Page.{isEnd, lineAt, recordsOf, find, lineOf, used}
 use Rattle.nibl.specs.Record.{positionOf}
 use Rattle.nibl.specs.Values.{digits}
-use Rattle.nibl.specs.Calls.{textFrom}
+use Rattle.nibl.specs.Runs.{textFrom}
 use Rattle.page.specs.declared.FoundLine.{FoundLine}
 use Rattle.page.specs.declared.FoundLine.the-variants as line
 use Rattle.page.specs.declared.Begins.{Begins}
@@ -25,7 +25,7 @@ use Rattle.page.specs.declared.Edited.the-variants as edited
 use Rattle.page.specs.declared.Listed.{Listed}
 use Rattle.page.specs.declared.Listed.the-variants as lines
 use Rattle.page.specs.Walk.{sizeAt, foundAt, reached, beginOf, textOf}
-use Rattle.page.specs.Edits.{seatOf, Seated, Changed, changed, moved, canMove, storeAt, deleteAt, newOf}
+use Rattle.page.specs.Edits.{seatOf, Seated, Changed, changed, moved, canMove, storeAtSeat, deleteAt, newOf}
 use Rattle.page.specs.Listing.{Shown, shown, listing}
 
 pub end-determined : (page : List ℕ) (at : ℕ) (a b : Bool) → a ≡ isEnd (drop at page) → b ≡ isEnd (drop at page) → a ≡ b
@@ -94,8 +94,8 @@ changed-determined c p q a b u v =
     let e = determined c (changed p a) (changed q b) u v in
     (sym (page-is p a) ∙ (λ i. e i .page) ∙ page-is q b, sym (answer-is p a) ∙ ap answerOf e ∙ answer-is q b)
 
-pub store-determined : (page : List ℕ) (s : Seat) (n : ℕ) (t p q : List ℕ) (a b : Edited) → changed p a ≡ storeAt page s n t → changed q b ≡ storeAt page s n t → (p ≡ q) × (a ≡ b)
-store-determined page s n t = changed-determined (storeAt page s n t)
+pub store-determined : (page : List ℕ) (s : Seat) (n : ℕ) (t p q : List ℕ) (a b : Edited) → changed p a ≡ storeAtSeat page s n t → changed q b ≡ storeAtSeat page s n t → (p ≡ q) × (a ≡ b)
+store-determined page s n t = changed-determined (storeAtSeat page s n t)
 
 pub delete-determined : (page : List ℕ) (s : Seat) (p q : List ℕ) (a b : Edited) → changed p a ≡ deleteAt page s → changed q b ≡ deleteAt page s → (p ≡ q) × (a ≡ b)
 delete-determined page s = changed-determined (deleteAt page s)

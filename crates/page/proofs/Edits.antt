@@ -11,7 +11,7 @@ use Rattle.nibl.specs.Bytes.{if_then_else_}
 use Rattle.nibl.specs.Page.{Stored, recordBytes, recordsOf, size, used, usedBy}
 use Rattle.page.specs.declared.Seat.{Seat}
 use Rattle.page.specs.declared.Edited.the-variants as edited
-use Rattle.page.specs.Edits.{seatIn, seatOf, Seated, spliced, changed, canStore, storeAt, deleteAt}
+use Rattle.page.specs.Edits.{seatIn, seatOf, Seated, spliced, changed, canStore, storeAtSeat, deleteAt}
 use Rattle.page.proofs.Walk.{by-cases}
 
 pub used-two : (rs : List Stored) → 2 ≤ usedBy rs
@@ -33,23 +33,23 @@ seated {page = page} {n = n} e i r = record { is = e; sits = record { inside = i
 
 -- how a store ends
 module _ (page : List ℕ) (s : Seat) (n : ℕ) (t : List ℕ) where
-  full : canStore page s (length t + 4) ≡ false → changed page edited.NoRoom ≡ storeAt page s n t
-  unfolding storeAt
+  full : canStore page s (length t + 4) ≡ false → changed page edited.NoRoom ≡ storeAtSeat page s n t
+  unfolding storeAtSeat
   full e = sym (rw e)
 
-  pub store-endless : length page < used page → changed page edited.NoRoom ≡ storeAt page s n t
+  pub store-endless : length page < used page → changed page edited.NoRoom ≡ storeAtSeat page s n t
   store-endless a = full (rw (lt-leb (used page) (length page) a))
 
-  pub store-long : used page ≤ length page → 255 < length t + 4 → changed page edited.NoRoom ≡ storeAt page s n t
+  pub store-long : used page ≤ length page → 255 < length t + 4 → changed page edited.NoRoom ≡ storeAtSeat page s n t
   store-long a b = full (rw (le-leb (used page) (length page) a, lt-leb (length t + 4) 255 b))
 
-  pub store-full : used page ≤ length page → length t + 4 ≤ 255 → length page < used page - s .gone + (length t + 4) → changed page edited.NoRoom ≡ storeAt page s n t
+  pub store-full : used page ≤ length page → length t + 4 ≤ 255 → length page < used page - s .gone + (length t + 4) → changed page edited.NoRoom ≡ storeAtSeat page s n t
   store-full a b c =
       full (rw (le-leb (used page) (length page) a, le-leb (length t + 4) 255 b, lt-leb (used page - s .gone + (length t + 4)) (length page) c))
 
   pub store-done : used page ≤ length page → length t + 4 ≤ 255 → used page - s .gone + (length t + 4) ≤ length page
-      → changed (spliced page (s .at) (s .gone) (used page) (recordBytes (record { line = n; text = t }))) edited.Done ≡ storeAt page s n t
-  unfolding storeAt
+      → changed (spliced page (s .at) (s .gone) (used page) (recordBytes (record { line = n; text = t }))) edited.Done ≡ storeAtSeat page s n t
+  unfolding storeAtSeat
   store-done a b c =
       sym (rw (le-leb (used page) (length page) a, le-leb (length t + 4) 255 b, le-leb (used page - s .gone + (length t + 4)) (length page) c))
 

@@ -11,11 +11,11 @@ use lib.Dec.{ltb, leb, eqb}
 use borrow.Author.Tests.{ltb-true, ltb-false, eqb-true, eqb-false, lt-ltb, le-ltb, le-leb, eq-eqb, ne-eqb}
 use Rattle.nibl.specs.Bytes.{if_then_else_}
 use Rattle.nibl.specs.Page.{Stored, recordBytes, programBytes, isGood, recordsOf, size, used, usedBy, hasLine, with, without, onto}
-use Rattle.nibl.specs.Calls.{stops}
+use Rattle.nibl.specs.Lent.{stops}
 use Rattle.nibl.specs.Calls as calls
 use Rattle.nibl.specs.Meaning.{World}
 use Rattle.page.specs.declared.Edited.the-variants as edited
-use Rattle.page.specs.Edits.{seatIn, seatOf, spliced, changed, storeAt, deleteAt, storeOf, deleteOf, newOf, outcomeOf}
+use Rattle.page.specs.Edits.{seatIn, seatOf, spliced, changed, storeAtSeat, deleteAt, storeOf, deleteOf, newOf, outcomeOf}
 use Rattle.page.proofs.Walk.{by-cases}
 use Rattle.page.proofs.Program.{Bytes, Program, none, each, program-length, record-length}
 use Rattle.page.proofs.Laid.{good-program, good-bytes, good-fits}
@@ -162,7 +162,7 @@ module _ (lim : ℕ) (page : List ℕ) (bytes : Bytes page) (good : isGood lim p
   pub store-is : (n : ℕ) (t : List ℕ) → length t ≤ 251
       → (let rs : List Stored = with (record { line = n; text = t }) (recordsOf page) in
       storeOf page n t ≡ (if leb (length (programBytes rs)) (length page) then changed (onto page rs) edited.Done else changed page edited.NoRoom))
-  unfolding storeOf storeAt
+  unfolding storeOf storeAtSeat
   store-is n t h =
       let q : Stored = record { line = n; text = t } in
       let f = good-fits lim page bytes good in

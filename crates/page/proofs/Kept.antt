@@ -15,7 +15,7 @@ use Rattle.nibl.proofs.Words.{if-split}
 use Rattle.page.specs.Walk.{stopsAt, sizeAt, reached, LineRecord, isThere}
 use Rattle.page.specs.declared.Seat.{Seat}
 use Rattle.page.specs.declared.Edited.the-variants as edited
-use Rattle.page.specs.Edits.{seatOf, spliced, Changed, changed, canStore, storeAt, deleteAt, storeOf, deleteOf, newOf, Untouched}
+use Rattle.page.specs.Edits.{seatOf, spliced, Changed, changed, canStore, storeAtSeat, deleteAt, storeOf, deleteOf, newOf, Untouched}
 use Rattle.page.proofs.Walk.{by-cases, stop, size-some, met}
 use Rattle.page.proofs.Program.{both, Bytes, Storable, Program, none as empty, each}
 use Rattle.page.proofs.Laid.{good-program}
@@ -78,7 +78,7 @@ bytes-record n t h k b =
 
 module _ (page : List ℕ) (bytes : Bytes page) where
   pub store-bytes : (n : ℕ) (t : List ℕ) → n < 65536 → Bytes t → Bytes (storeOf page n t .page)
-  unfolding storeOf storeAt
+  unfolding storeOf storeAtSeat
   store-bytes n t h b =
       let s : Seat = seatOf page n in
       by-cases (canStore page s (length t + 4))
@@ -125,7 +125,7 @@ undone page p e = let z : _≡_ {A = ℕ} 0 1 = cc in absurd (omega arith)
 
 module _ (page : List ℕ) where
   pub store-untouched : (n : ℕ) (t : List ℕ) → Untouched page (storeOf page n t)
-  unfolding storeOf storeAt
+  unfolding storeOf storeAtSeat
   store-untouched n t =
       if-split (Untouched page) (canStore page (seatOf page n) (length t + 4)) (λ e. undone page _) (λ e f. refl)
 
@@ -140,7 +140,7 @@ module _ (page : List ℕ) where
   new-untouched = if-split (Untouched page) (leb 2 (length page)) (λ e. undone page _) (λ e f. refl)
 
   pub no-room-untouched : (n : ℕ) (t : List ℕ) → storeOf page n t .stop ≡ 2 → storeOf page n t .page ≡ page
-  unfolding storeOf storeAt
+  unfolding storeOf storeAtSeat
   no-room-untouched n t =
       if-split (λ (c : Changed). c .stop ≡ 2 → c .page ≡ page) (canStore page (seatOf page n) (length t + 4)) (λ e f. absurd (omega arith)) (λ e f. refl)
 

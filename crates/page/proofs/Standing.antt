@@ -12,9 +12,9 @@ use borrow.Author.Tests.{eqb-true, eq-eqb, ne-eqb, le-leb, le-ltb, lt-ltb}
 use Rattle.nibl.specs.Bytes.{if_then_else_, notCR, All, none as every-none, each, front}
 use Rattle.nibl.specs.Tree.{Member}
 use Rattle.nibl.specs.Grammar.{Members, lastMember, moreMembers}
-use Rattle.nibl.specs.Read.{nothing as unread, found, member, reading}
+use Rattle.nibl.specs.found.Read.{nothing as unread, found, member, reading}
 use Rattle.nibl.specs.Page.{Stored, isEnd, lengthAt, isGood, recordsOf, size, positionIn, find, lineIn, lineOf, endsFrom, endsOf, placesIn, placesOf, isAmong}
-use Rattle.nibl.specs.Calls.{Standing, Fetched, past, unread as unreadable, here, textFrom, lineFrom, fetchText, fetch}
+use Rattle.nibl.specs.Runs.{Standing, Fetched, past, unread as unreadable, here, textFrom, lineFrom, fetchText, fetch}
 use Rattle.nibl.proofs.Words.{or-cases, front-run}
 use Rattle.nibl.proofs.Over.{word-over}
 use Rattle.nibl.proofs.Rules.{W}

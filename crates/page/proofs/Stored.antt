@@ -8,7 +8,7 @@ use lib.ListN.{length}
 use borrow.Author.Tests.{leb-true, not-true}
 use Rattle.nibl.specs.Bytes.{isDigit, isText, starts, All}
 use Rattle.nibl.specs.Tree.{Member}
-use Rattle.nibl.specs.Read.{reading}
+use Rattle.nibl.specs.found.Read.{reading}
 use Rattle.nibl.specs.Values.{digits}
 use Rattle.nibl.specs.Page.{Stored, hasReading, isStorable}
 use Rattle.nibl.proofs.Lines.{reading-sound}

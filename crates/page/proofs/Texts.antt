@@ -9,7 +9,7 @@ use lib.ListN.{length, getD, take, drop, drop-of-length-le, length-drop}
 use lib.Seq.{drop-cons}
 use borrow.Author.Tests.{eq-eqb, ne-eqb}
 use Rattle.nibl.specs.Bytes.{if_then_else_, notCR, front}
-use Rattle.nibl.specs.Calls.{lineFrom}
+use Rattle.nibl.specs.Runs.{lineFrom}
 
 module _ (s : List ℕ) (at : ℕ) where
   pub line-past : length s ≤ at → lineFrom s at ≡ []

@@ -8,7 +8,7 @@ use lib.Seq.{paste}
 use lib.Dec.{ltb, leb, eqb}
 use Rattle.nibl.specs.Bytes.{if_then_else_}
 use Rattle.nibl.specs.Page.{Stored, recordBytes, recordsOf, size, used, usedBy, onto}
-use Rattle.nibl.specs.Calls.{Outcome, stops}
+use Rattle.nibl.specs.Lent.{Outcome, stops}
 use Rattle.nibl.specs.Record.{stackless}
 use Rattle.nibl.specs.Meaning.{World, withSession}
 use Rattle.page.specs.declared.Seat.{Seat}
@@ -70,8 +70,8 @@ abbrev pub canStore : List ℕ → Seat → ℕ → Bool
 canStore page s n = leb (used page) (length page) && (leb n 255 && leb (used page - s .gone + n) (length page))
 
 -- an edit at a seat
-unfoldable pub storeAt : List ℕ → Seat → ℕ → List ℕ → Changed
-storeAt page s n t =
+unfoldable pub storeAtSeat : List ℕ → Seat → ℕ → List ℕ → Changed
+storeAtSeat page s n t =
     let p = spliced page (s .at) (s .gone) (used page) (recordBytes (record { line = n; text = t })) in
     if canStore page s (length t + 4) then changed p edited.Done else changed page edited.NoRoom
 
@@ -83,7 +83,7 @@ deleteAt page s =
 
 -- an edit of a line
 unfoldable pub storeOf : List ℕ → ℕ → List ℕ → Changed
-storeOf page n t = storeAt page (seatOf page n) n t
+storeOf page n t = storeAtSeat page (seatOf page n) n t
 
 unfoldable pub deleteOf : List ℕ → ℕ → Changed
 deleteOf page n = deleteAt page (seatOf page n)

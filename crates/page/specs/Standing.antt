@@ -6,10 +6,10 @@ use mathlib.Core.List.{List}
 use mathlib.Core.Option.{none, some}
 use lib.ListN.{length, getD, drop}
 use Rattle.nibl.specs.Tree.{Member}
-use Rattle.nibl.specs.Read.{found, member}
+use Rattle.nibl.specs.found.Read.{found, member}
 use Rattle.nibl.specs.Page.{Stored, lengthAt, isStorable, find, lineOf, placesOf, isAmong, fitsPaused}
 use Rattle.nibl.specs.Record.{pausedAt}
-use Rattle.nibl.specs.Calls.{Standing, Fetched, past, here, textFrom, lineFrom}
+use Rattle.nibl.specs.Runs.{Standing, Fetched, past, here, textFrom, lineFrom}
 
 -- every one is a byte, as in a slice
 abbrev pub Bytes : List ℕ → Type 0

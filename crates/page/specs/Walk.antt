@@ -9,7 +9,7 @@ use lib.Dec.{ltb, leb}
 use Rattle.nibl.specs.Bytes.{if_then_else_}
 use Rattle.nibl.specs.Page.{Stored, isEnd, lineAt, lengthAt, textAt}
 use Rattle.nibl.specs.Record.{positionOf}
-use Rattle.nibl.specs.Calls.{lineFrom}
+use Rattle.nibl.specs.Runs.{lineFrom}
 use Rattle.page.specs.declared.FoundLine.{FoundLine}
 use Rattle.page.specs.declared.FoundLine.the-variants as line
 use Rattle.page.specs.declared.Begins.{Begins}

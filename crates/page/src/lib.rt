@@ -11,9 +11,10 @@ ghost use lib.Seq.{paste};
 ghost use Rattle.nibl.specs.Bytes.{if_then_else_, byte};
 ghost use Rattle.nibl.specs.Page.{recordBytes, isEnd, find, lineAt, lengthAt, lineOf, used, usedBy, recordsOf};
 ghost use Rattle.nibl.specs.Record.{positionOf};
-ghost use Rattle.nibl.specs.Calls.{lineFrom, textFrom, listed};
+ghost use Rattle.nibl.specs.Runs.{lineFrom, textFrom};
+ghost use Rattle.nibl.specs.Calls.{listed};
 ghost use Rattle.value.specs.Writes.{Writes};
-ghost use Rattle.page.specs.Edits.{Seated, Seatable, moved, canMove, spliced, changed, storeAt, deleteAt, newOf};
+ghost use Rattle.page.specs.Edits.{Seated, Seatable, moved, canMove, spliced, changed, storeAtSeat, deleteAt, newOf};
 ghost use Rattle.page.specs.Listing.{shown, listing, Here};
 ghost use Rattle.page.specs.Walk.{stopsAt, sizeAt, recordAt, cut, reached, foundAt, beginOf, textOf};
 use nibl::COLON;
@@ -424,7 +425,7 @@ fn put_in(s: &mut [u8], gone: usize, rest: usize, number: LineNumber, text: &[u8
 // A record is inserted at its line's seat, or replaces the one of its number, whose room counts as free.
 pub fn store_at(page: &mut [u8], seat: Seat, number: LineNumber, text: &[u8]) -> Edited
     requires { ⌜ Seatable (now page) seat ⌝ }
-    ensures { λ r. ⌜ changed (now (page .exit)) r ≡ storeAt (now (page .entry)) seat (number .0) (now (text .entry)) ⌝ }
+    ensures { λ r. ⌜ changed (now (page .exit)) r ≡ storeAtSeat (now (page .entry)) seat (number .0) (now (text .entry)) ⌝ }
 {
     let at = seat.at;
     let gone = seat.gone;

@@ -11,7 +11,7 @@ use lib.Seq.{getD-drop, drop-drop}
 use lib.Dec.{leb}
 use borrow.Author.Tests.{le-leb, lt-leb, eq-eqb, ne-eqb, leb-true, leb-false, eqb-true}
 use Rattle.nibl.specs.Bytes.{if_then_else_, isDigit, starts}
-use Rattle.nibl.specs.Read.{reading}
+use Rattle.nibl.specs.found.Read.{reading}
 use Rattle.nibl.specs.Values.{digits}
 use Rattle.nibl.specs.Page.{isEnd, lineAt, lengthAt, textAt, hasReading, isStorable, isRecord, goodN}
 use Rattle.page.proofs.Walk.{by-cases}

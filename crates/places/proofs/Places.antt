@@ -10,7 +10,7 @@ use lib.ListN.{length}
 use lib.Dec.{eqb}
 use borrow.Author.Tests.{ne-eqb, eq-eqb, eqb-true, eqb-false}
 use Rattle.nibl.specs.Tree.{Member}
-use Rattle.nibl.specs.Read.{reading}
+use Rattle.nibl.specs.found.Read.{reading}
 use Rattle.nibl.specs.Page.{Stored, size, endsFrom, endsOf, placesIn, isAmong}
 use Rattle.page.proofs.Walk.{by-cases}
 use Rattle.page.proofs.Standing.{among-append}

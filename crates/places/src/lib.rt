@@ -4,7 +4,7 @@ ghost use Prim.Native.Nat.{_≤_, _<_};
 ghost use mathlib.Core.Path.{_≡_};
 ghost use lib.ListN.{length, drop};
 ghost use Rattle.nibl.specs.Bytes.{isDigit, starts};
-ghost use Rattle.nibl.specs.Read.{reading};
+ghost use Rattle.nibl.specs.found.Read.{reading};
 ghost use Rattle.nibl.specs.Page.{hasReading, isStorable, isGood, textAt, endsOf, placesOf, isAmong};
 ghost use Rattle.page.specs.Walk.{sizeAt};
 ghost use Rattle.places.specs.Whole.{Roomy, wholeSize, recordSize};

@@ -11,7 +11,7 @@ use lib.ListN.{length, drop, length-drop}
 use Rattle.nibl.specs.Bytes.{isSpace, all}
 use Rattle.nibl.specs.Words.{keywords}
 use Rattle.nibl.specs.Tree.{Stmt, Member}
-use Rattle.nibl.specs.Read.{Step, atEnd, stepIn, nothing, found, onStep, signOf, aSign, fail, key, endsMember}
+use Rattle.nibl.specs.found.Read.{FrontWord, atEnd, stepIn, nothing, found, onStep, signOf, aSign, fail, key, endsMember}
 use Rattle.nibl.proofs.Words.{ended-sound, ended-complete, true-all, all-true}
 use Rattle.word.specs.declared.Cursor.{Cursor}
 use Rattle.word.specs.declared.Word.{Word}
@@ -54,7 +54,7 @@ module _ {text : List ℕ} {r : Made} {c : Cursor} {n : ℕ} (e : r ≡ Next c n
 
   sign-of : (w : Word) → WordIs keywords text (c .at) w → aSign (drop (c .at) text) ≡ onStep (foundStep text w) signOf
   unfolding aSign
-  sign-of w h = ap (λ (s : Step). onStep s signOf) (sym (h .same))
+  sign-of w h = ap (λ (s : FrontWord). onStep s signOf) (sym (h .same))
 
   pub end-colon : {k l : ℕ} {p : Cursor} → k ≡ 58 → l ≡ length text - p .at + 1 → WordIs keywords text (c .at) (Sign k p) → EndsIs text r (member.Member n l)
   end-colon {k} {l} {p} f g h =

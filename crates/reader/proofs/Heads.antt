@@ -9,7 +9,7 @@ use types.Run.{OneOf, miss}
 use lib.ListN.{length, drop, length-append, length-drop}
 use lib.Dec.{leb}
 use Rattle.nibl.specs.Words.{Token, variable, decimal, hex, string, sign, keywords, Word, spaced, keyword, letter, decimalDigits, hexDigits, quoted, pair, symbol, firstKeyword}
-use Rattle.nibl.specs.Read.{Step, nothing, Reader, onStep, byWord, variableOf, stringOf, signOf, aVariable, aString, aSign, fail}
+use Rattle.nibl.specs.found.Read.{FrontWord, nothing, Reader, onStep, byWord, variableOf, stringOf, signOf, aVariable, aString, aSign, fail}
 use Rattle.nibl.proofs.Words.{word-sound, of-pairs, no-symbol}
 use Rattle.word.specs.declared.Cursor.{Cursor}
 use Rattle.word.specs.declared.Word.{Word as Read}
@@ -54,7 +54,7 @@ pub kind-none : {text : List ℕ} {r : Made} → r ≡ NoReading → KindIs text
 kind-none e = rw e halted
 
 -- Readers by the next word
-no-kind : {A : Type 0} (k : Token → Reader A) {s : Step} → ((n : ℕ) → k (decimal n) ≡ fail) → ((n : ℕ) → k (hex n) ≡ fail) → Unkind s → onStep s k ≡ nothing
+no-kind : {A : Type 0} (k : Token → Reader A) {s : FrontWord} → ((n : ℕ) → k (decimal n) ≡ fail) → ((n : ℕ) → k (hex n) ≡ fail) → Unkind s → onStep s k ≡ nothing
 no-kind k f g textEnd = refl
 no-kind k f g noWord = refl
 no-kind k f g (aDecimal {n} {s}) = ap (λ (q : Reader _). q s) (f n)
@@ -66,11 +66,11 @@ module _ {text : List ℕ} where
 
   module _ {X A : Type 0} (k : X → Token → Reader A) where
     pub heads-leads : {w : Token} {r m : Made} → Heads w text r m → Leads (λ x. byWord (k x)) (λ x. k x w) text r m
-    heads-leads (heads e l h) = onto (λ x. ap (λ (s : Step). onStep s (k x)) e) (λ i. h)
+    heads-leads (heads e l h) = onto (λ x. ap (λ (s : FrontWord). onStep s (k x)) e) (λ i. h)
 
   -- a word that the reader does not take
   pub heads-absent : {A : Type 0} (k : Token → Reader A) {w : Token} {r m : Made} → k w ≡ fail → Heads w text r m → Absent (byWord k) text r
-  heads-absent k f (heads {d} e l h) = absent (ap (λ (s : Step). onStep s k) e ∙ ap (λ (q : Reader _). q (drop (d .at) text)) f)
+  heads-absent k f (heads {d} e l h) = absent (ap (λ (s : FrontWord). onStep s k) e ∙ ap (λ (q : Reader _). q (drop (d .at) text)) f)
 
   pub headless-absent : {A : Type 0} (k : Token → Reader A) {r : Made} → ((n : ℕ) → k (decimal n) ≡ fail) → ((n : ℕ) → k (hex n) ≡ fail) → Headless text r
       → Absent (byWord k) text r
@@ -95,15 +95,15 @@ module _ {text : List ℕ} where
 
   pub heads-variable : {v : ℕ} {r m : Made} → Heads (variable v) text r m → Stood aVariable v text r m
   unfolding aVariable
-  heads-variable (heads e l h) = stood (ap (λ (s : Step). onStep s variableOf) e) l h
+  heads-variable (heads e l h) = stood (ap (λ (s : FrontWord). onStep s variableOf) e) l h
 
   pub heads-string : {bs : List ℕ} {r m : Made} → Heads (string bs) text r m → Stood aString bs text r m
   unfolding aString
-  heads-string (heads e l h) = stood (ap (λ (s : Step). onStep s stringOf) e) l h
+  heads-string (heads e l h) = stood (ap (λ (s : FrontWord). onStep s stringOf) e) l h
 
   pub heads-sign : {k : ℕ} {r m : Made} → Heads (sign k) text r m → Stood aSign k text r m
   unfolding aSign
-  heads-sign (heads e l h) = stood (ap (λ (s : Step). onStep s signOf) e) l h
+  heads-sign (heads e l h) = stood (ap (λ (s : FrontWord). onStep s signOf) e) l h
 
   -- another sign than k, or none
   pub stood-unless : (k : ℕ) {j : ℕ} {r m : Made} → (j ≡ k → ⊥) → Stood aSign j text r m → Unless k text r

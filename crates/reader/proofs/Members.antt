@@ -12,7 +12,7 @@ use lib.Seq.{sets}
 use lib.Dec.{leb}
 use Rattle.nibl.specs.Bytes.{if_then_else_}
 use Rattle.nibl.specs.Tree.{Member}
-use Rattle.nibl.specs.Read.{nothing, found, statement, endsMember, member}
+use Rattle.nibl.specs.found.Read.{nothing, found, statement, endsMember, member}
 use Rattle.nibl.proofs.Words.{and-left, and-right}
 use Rattle.word.specs.declared.Cursor.{Cursor}
 use Rattle.relation.specs.Makes.{Gives, stopped, refused, given, only, bare}

@@ -7,7 +7,7 @@ use native.Mathlib.Omega.{arith}
 use lib.ListN.{length}
 use lib.Seq.{sets}
 use Rattle.nibl.specs.Words.{number}
-use Rattle.nibl.specs.Read.{nothing, Reader, aSign, fail, give, ifKey, key, may, _>>=_}
+use Rattle.nibl.specs.found.Read.{nothing, Reader, aSign, fail, give, ifKey, key, may, _>>=_}
 use Rattle.word.specs.declared.Cursor.{Cursor}
 use Rattle.relation.specs.Makes.{ahead, need, filled, WroteOps, Written, written, Gives, stopped, refused, given, Reads, Leads, onto, only, bare, Over, Stood, stood, Absent, absent, KeyIs, there}
 use Rattle.relation.specs.declared.Made.{Made}

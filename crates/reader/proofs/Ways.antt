@@ -15,7 +15,7 @@ use Rattle.nibl.specs.Bytes.{if_then_else_, isText, all}
 use Rattle.nibl.specs.Words.{Token, variable, decimal, hex, string, sign, number, firstKeyword}
 use Rattle.nibl.specs.Tree.{Expr, const, Item, text as textItem, stored, value}
 use Rattle.nibl.specs.Tree.{Stmt, letVar, letStat, letByte, letCopy, letText, goto, gosub, until, return, doLoop, remark, end, print, ifThen, for, next, input, inputText}
-use Rattle.nibl.specs.Read.{Step, Found, nothing, found, Reader, onStep, byWord, choose, andThen, _>>=_, orElse, aVariable, aString, aSign, fail, give, ifKey, key, Part, read, factor, relation, aRelation, assigned, letCases, letOf, anItem, joined, printing, forTo, inputting, remarking, statement, aStatement, statementOf, statementCases}
+use Rattle.nibl.specs.found.Read.{FrontWord, Found, nothing, found, Reader, onStep, byWord, choose, andThen, _>>=_, orElse, aVariable, aString, aSign, fail, give, ifKey, key, Part, read, factor, relation, aRelation, assigned, letCases, letOf, anItem, joined, printing, forTo, inputting, remarking, statement, aStatement, statementOf, statementCases}
 use Rattle.nibl.proofs.Words.{and-left, and-right}
 use Rattle.nibl.proofs.Statements.{statement-eq, joined-eq, items-join, variables-join}
 use Rattle.word.specs.declared.Cursor.{Cursor}
@@ -30,7 +30,7 @@ use Rattle.relation.proofs.Signs.{stood-over, NoneOf, noneLeft, _but_}
 use Rattle.relation.proofs.States.{filled-need, written-ahead, written-need}
 use Rattle.reader.specs.Code.{texts, itemCode, itemsCode, compile}
 use Rattle.reader.specs.Forms.{halted, filledBy, Room, Spends, Heads, heads, KindIs, Unless, unless, MayIs, Puts, puts, Counted, refused as unread, counted, Countable, copying, going, ending, stepping, variablesInto, iffing, RemarkIs, FrontIs, assigns, symbol, when, keyword, other, Long}
-use Rattle.reader.specs.declared.Front.the-variants as front
+use Rattle.reader.specs.declared.StatementFront.the-variants as front
 use Rattle.reader.specs.declared.Kind.{Kind}
 use Rattle.reader.specs.declared.Kind.the-variants as kind
 use Rattle.reader.proofs.Kind.{the-type}
@@ -463,7 +463,7 @@ module _ {text ops ops1 : List ℕ} {r s : Made} where
 -- How a statement begins
 by-statement : {text : List ℕ} {r m : Made} {w : Token} → Heads w text r m → Leads (only statement) (only (statementOf statement w)) text r m
 unfolding aStatement
-by-statement {text} (heads {c} e l h) = onto (λ x. statement-eq (drop (c .at) text) ∙ ap (λ (f : Step). onStep f (statementOf statement)) e) (λ i. h)
+by-statement {text} (heads {c} e l h) = onto (λ x. statement-eq (drop (c .at) text) ∙ ap (λ (f : FrontWord). onStep f (statementOf statement)) e) (λ i. h)
 
 pub front-assigns : {text : List ℕ} {r m : Made} {n v : ℕ} → v ≡ op codeSetVariable n → KindIs text r (kind.Variable n m) → FrontIs text r (front.Assigns v m)
 front-assigns {n} e h = assigns n e (by-statement h) (heads-over h)

@@ -6,7 +6,7 @@ use lib.ListN.{length, replicate}
 use lib.Seq.{sets}
 use lib.Dec.{leb}
 use Rattle.nibl.specs.Tree.{Member}
-use Rattle.nibl.specs.Read.{Found, nothing, found}
+use Rattle.nibl.specs.found.Read.{Found, nothing, found}
 use Rattle.reader.specs.Code.{compile}
 use Rattle.reader.specs.declared.MemberRead.{MemberRead}
 use Rattle.reader.specs.declared.MemberRead.the-variants as member

@@ -7,7 +7,7 @@ use lib.ListN.{length, drop, set}
 use lib.Seq.{sets, slice}
 use Rattle.nibl.specs.Words.{Token, variable, decimal, hex, string, sign, keywords, number}
 use Rattle.nibl.specs.Tree.{Expr, const, Item, Stmt, letVar, letText, letCopy, goto, gosub, print, ifThen}
-use Rattle.nibl.specs.Read.{Step, atEnd, wrong, got, stepIn, nothing, found, Reader, aString, aSign, choose, fail, give, ifKey, key, may, orElse, _>>=_, read, factor, relation, aRelation, assigned, letCases, remarking, statementCases, statement, endsMember}
+use Rattle.nibl.specs.found.Read.{FrontWord, atEnd, wrong, got, stepIn, nothing, found, Reader, aString, aSign, choose, fail, give, ifKey, key, may, orElse, _>>=_, read, factor, relation, aRelation, assigned, letCases, remarking, statementCases, statement, endsMember}
 use Rattle.word.specs.declared.Cursor.{Cursor}
 use Rattle.codes.specs.Codes.{op, codeSetVariable, codeInput, codeInputVariable}
 use Rattle.relation.specs.Makes.{ahead, need, Gives, Leads, only, bare, Over, Stood, Absent, Otherwise}
@@ -18,8 +18,8 @@ use Rattle.reader.specs.declared.Kind.{Kind}
 use Rattle.reader.specs.declared.Kind.the-variants as kind
 use Rattle.reader.specs.declared.Keyed.{Keyed}
 use Rattle.reader.specs.declared.Keyed.the-variants as keyed
-use Rattle.reader.specs.declared.Front.{Front}
-use Rattle.reader.specs.declared.Front.the-variants as front
+use Rattle.reader.specs.declared.StatementFront.{StatementFront}
+use Rattle.reader.specs.declared.StatementFront.the-variants as front
 use Rattle.reader.specs.declared.MemberRead.{MemberRead}
 use Rattle.reader.specs.declared.MemberRead.the-variants as member
 
@@ -41,7 +41,7 @@ pub data Heads (w : Token) (text : List ℕ) : Made → Made → Type 0 where
       → Heads w text (Next c o) (Next d o)
 
 -- no variable, string or sign
-pub data Unkind : Step → Type 0 where
+pub data Unkind : FrontWord → Type 0 where
   textEnd : Unkind atEnd
   noWord : Unkind wrong
   aDecimal : {n : ℕ} {s : List ℕ} → Unkind (got (decimal n) s)
@@ -124,7 +124,7 @@ abbrev pub RemarkIs : List ℕ → Made → Made → Type 0
 RemarkIs text r s = (ops : List ℕ) → Spends 0 (only remarking) bare compile text ops r ops s
 
 -- how a statement begins
-pub data FrontIs (text : List ℕ) (r : Made) : Front → Type 0 where
+pub data FrontIs (text : List ℕ) (r : Made) : StatementFront → Type 0 where
   assigns : {v : ℕ} {m : Made} (n : ℕ) → v ≡ op codeSetVariable n → Leads (only statement) (only (assigned (letVar n))) text r m → Over text r m
       → FrontIs text r (front.Assigns v m)
   symbol : {k : ℕ} {m : Made} → Leads (only statement) (only (choose letCases fail k)) text r m → Over text r m → FrontIs text r (front.Symbol k m)

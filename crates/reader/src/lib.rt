@@ -12,7 +12,7 @@ ghost use lib.ListN.{length, drop};
 ghost use lib.Seq.{sets, slice};
 ghost use Rattle.nibl.specs.Bytes.{if_then_else_, isText, all};
 ghost use Rattle.nibl.specs.Words.{number};
-ghost use Rattle.nibl.specs.Read.{read, factor, relation, key, choose, fail, byWord, letOf, letCases, aVariable, anItem, joined, printing, forTo, inputting, statementCases, statement, member};
+ghost use Rattle.nibl.specs.found.Read.{read, factor, relation, key, choose, fail, byWord, letOf, letCases, aVariable, anItem, joined, printing, forTo, inputting, statementCases, statement, member};
 ghost use Rattle.relation.specs.Code.{values};
 ghost use Rattle.codes.specs.Codes.{codes, op, codeInputVariable};
 ghost use Rattle.relation.specs.Makes.{only, bare};
@@ -36,7 +36,7 @@ pub enum Keyed {
 
 // How a statement begins, and the state past that: by a variable, with the operation that assigns to it; by a
 // symbol; by IF; or by another keyword.
-pub enum Front {
+pub enum StatementFront {
     Assigns(u32, Made),
     Symbol(u8, Made),
     If(Made),
@@ -467,24 +467,24 @@ fn form(text: &[u8], r: Made, ops: &mut [u32], k: u8) -> Made
 }
 
 // How a statement begins.
-fn front_at(text: &[u8], r: Made) -> Front
+fn front_at(text: &[u8], r: Made) -> StatementFront
     ensures { λ f. ⌜ FrontIs (now (text .entry)) r f ⌝ }
 {
     let w = kind_at(text, r);
     match w {
         Kind::Variable(v, m) => {
-            Front::Assigns(codes::operation(codes::SET_VARIABLE, wide(v)), m)
+            StatementFront::Assigns(codes::operation(codes::SET_VARIABLE, wide(v)), m)
         }
         Kind::Sign(k, m) => {
             if k < sign::KEYWORD {
-                return Front::Symbol(k, m);
+                return StatementFront::Symbol(k, m);
             }
             if k == sign::IF {
-                return Front::If(m);
+                return StatementFront::If(m);
             }
-            Front::Keyword(k, m)
+            StatementFront::Keyword(k, m)
         }
-        _ => Front::Other,
+        _ => StatementFront::Other,
     }
 }
 
@@ -497,21 +497,21 @@ fn read_statement(text: &[u8], r: Made, ops: &mut [u32]) -> Made
     loop {
         let f = front_at(text, s);
         match f {
-            Front::Assigns(v, m) => {
+            StatementFront::Assigns(v, m) => {
                 return assigned(text, m, ops, v);
             }
-            Front::Symbol(k, m) => {
+            StatementFront::Symbol(k, m) => {
                 return let_form(text, m, ops, k);
             }
-            Front::If(m) => {
+            StatementFront::If(m) => {
                 let a = relation::read_relation(text, m, ops);
                 let t = past_any(text, a, sign::THEN);
                 s = relation::write(ops, t, codes::IF);
             }
-            Front::Keyword(k, m) => {
+            StatementFront::Keyword(k, m) => {
                 return form(text, m, ops, k);
             }
-            Front::Other => {
+            StatementFront::Other => {
                 return Made::NoReading;
             }
         }

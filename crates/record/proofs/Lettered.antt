@@ -9,7 +9,7 @@ use borrow.Author.Tests.{eqb-true, leb-true}
 use Rattle.nibl.specs.Words.{Token, variable, Word, spaced, keyword, letter, decimalDigits, hexDigits, quoted, pair, symbol}
 use Rattle.nibl.specs.Grammar.{Statement, aLetVar, aLetStat, aLetByte, aLetText, aLetCopy, aGoto, aGosub, aReturn, aPrint, anIf, aDo, anUntil, aFor, aNext, anInput, anInputText, aRemark, anEnd}
 use Rattle.nibl.specs.Tree.{Stmt, Member}
-use Rattle.nibl.specs.Read.{found, member}
+use Rattle.nibl.specs.found.Read.{found, member}
 use Rattle.nibl.specs.Page.{isAmong}
 use Rattle.nibl.proofs.Words.{or-cases}
 use Rattle.nibl.proofs.Rules.{W, it, ok-found}

@@ -11,14 +11,15 @@ use borrow.Author.Tests.{eq-eqb, lt-ltb}
 use Rattle.nibl.specs.Bytes.{if_then_else_, bytes}
 use Rattle.nibl.specs.Tree.{Expr, Item, text, stored, value}
 use Rattle.nibl.specs.Tree.{Member, Stmt, letVar, letStat, letByte, letCopy, letText, goto, gosub, until, return, doLoop, remark, end, print, ifThen, for, next, input, inputText}
-use Rattle.nibl.specs.Read.{found, member, replied}
+use Rattle.nibl.specs.found.Read.{found, member, replied}
 use Rattle.nibl.specs.Values.{Result, is, no, Value, printed}
 use Rattle.nibl.specs.Typing.{Gathered, gather}
 use Rattle.nibl.specs.Stack.{pushOf, popOf, pushFor, popFor}
 use Rattle.nibl.specs.Page.{Stored, isAmong, isGood, find, placesOf}
 use Rattle.nibl.specs.Meaning.{World, Env, on, skip, go, stop, Done, done, withSession, withInpos, bind, given, went, eval, stringAt, lineThere, put, putItem, putItems, putEnd, keepIn, gosubTo, returnBy, doHere, untilBy, forHere, goesOn, nextBy, gathered, asked, assign, assignReply, exec}
 use Rattle.nibl.specs.Record.{mark, withGosubs, place}
-use Rattle.nibl.specs.Calls.{envAt, needsProgram, listed, listFrom}
+use Rattle.nibl.specs.Runs.{envAt}
+use Rattle.nibl.specs.Calls.{needsProgram, listed, listFrom}
 use Rattle.nibl.specs.declared.ForEntry.{ForEntry}
 use Rattle.nibl.specs.declared.Top.{Top}
 use Rattle.nibl.specs.declared.Top.the-variants as top

@@ -14,15 +14,10 @@ use nibl::Place;
 use nibl::PlaceStack;
 use nibl::Session;
 
-// How deep the stacks of GOSUB and DO may be, and that of FOR.
-const DEEPEST: usize = 8;
+// The last variable, and all flags set.
+const LAST_VARIABLE: u8 = nibl::VARIABLES as u8 - 1;
 
-const MOST_FORS: usize = 4;
-
-// The last of the 26 variables, and the flags that use bits 0 to 2 only.
-const LAST_VARIABLE: u8 = 25;
-
-const ALL_FLAGS: u8 = 7;
+const ALL_FLAGS: u8 = nibl::FLAGS as u8 - 1;
 
 // Whether a saved place is one of the page's, or the immediate mark where that may stand.
 fn is_saved(page: &[u8], place: Place, marked: bool) -> bool
@@ -120,13 +115,13 @@ fn fits_stacks(page: &[u8], session: Session) -> bool
 pub fn fits(page: &[u8], session: Session) -> bool
     ensures { λ r. ⌜ r ≡ fits (now (page .entry)) session ⌝ }
 {
-    if DEEPEST < session.gosubs.depth {
+    if nibl::GOSUBS < session.gosubs.depth {
         return false;
     }
-    if DEEPEST < session.dos.depth {
+    if nibl::GOSUBS < session.dos.depth {
         return false;
     }
-    if MOST_FORS < session.fors.depth {
+    if nibl::FORS < session.fors.depth {
         return false;
     }
     if !fits_stacks(page, session) {

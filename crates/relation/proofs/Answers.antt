@@ -4,7 +4,7 @@ use mathlib.Core.Path.{_≡_, refl, sym, ap, _∙_}
 use mathlib.Core.List.{List}
 use native.Mathlib.Omega.{arith}
 use lib.ListN.{length, drop, length-drop}
-use Rattle.nibl.specs.Read.{nothing, found, Reader}
+use Rattle.nibl.specs.found.Read.{nothing, found, Reader}
 use Rattle.word.specs.declared.Cursor.{Cursor}
 use Rattle.relation.specs.Makes.{WroteOps, Gives, refused, given, Makes, only, bare}
 use Rattle.relation.specs.declared.Made.{Made}

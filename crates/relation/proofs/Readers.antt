@@ -8,7 +8,7 @@ use borrow.Author.Tests.{eq-eqb}
 use lib.Dec.{eqb}
 use Rattle.nibl.specs.Bytes.{if_then_else_}
 use Rattle.nibl.specs.Words.{number}
-use Rattle.nibl.specs.Read.{Found, nothing, found, Reader, andThen, _>>=_, orElse, aSign, choose, ifKey, key, give, fail}
+use Rattle.nibl.specs.found.Read.{Found, nothing, found, Reader, andThen, _>>=_, orElse, aSign, choose, ifKey, key, give, fail}
 use Rattle.relation.specs.Makes.{Otherwise, nowhere, another}
 
 module _ {A B : Type 0} (F : Reader A) (k : A → Reader B) (s : List ℕ) where

@@ -15,7 +15,7 @@ use Rattle.nibl.specs.Bytes.{isSpace, past}
 use Rattle.nibl.specs.Words.{Token, variable, decimal, hex, string, sign, keywords, number}
 use Rattle.nibl.specs.Grammar.{Joints, jointOf, sumJoints}
 use Rattle.nibl.specs.Tree.{Op, times, dividedBy, andBits, plus, minus, orBits, equal, less, greater, atMost, atLeast, unequal, Expr, var, const}
-use Rattle.nibl.specs.Read.{Step, atEnd, wrong, got, stepIn, nothing, found, Reader, onStep, signOf, aSign, jointFound, aJoint, choose, factorCases, factorOf, fail, give, ifKey, may, read, sum, factor}
+use Rattle.nibl.specs.found.Read.{FrontWord, atEnd, wrong, got, stepIn, nothing, found, Reader, onStep, signOf, aSign, jointFound, aJoint, choose, factorCases, factorOf, fail, give, ifKey, may, read, sum, factor}
 use Rattle.nibl.proofs.Sound.{read-factor, read-sum}
 use Rattle.word.specs.declared.Cursor.{Cursor}
 use Rattle.word.specs.declared.Word.{Word}
@@ -46,7 +46,7 @@ stood-over (stood e l h) = over-here l h
 -- The word at a cursor
 module _ {text : List ℕ} {r : Made} {c : Cursor} {o : ℕ} (w : Word) (e : r ≡ Next c o) (h : WordIs keywords text (c .at) w) where
   by-step : {A : Type 0} (k : Token → Reader A) → onStep (stepIn keywords (drop (c .at) text)) k ≡ onStep (foundStep text w) k
-  by-step k = ap (λ (s : Step). onStep s k) (sym (h .same))
+  by-step k = ap (λ (s : FrontWord). onStep s k) (sym (h .same))
 
   sign-step : aSign (drop (c .at) text) ≡ onStep (foundStep text w) signOf
   unfolding aSign
@@ -160,11 +160,11 @@ module _ (js : Joints) where
 
 -- What a look at one byte rules out
 module _ (s : List ℕ) where
-  sign-of : (w : Step) → stepIn keywords s ≡ w → aSign s ≡ onStep w signOf
+  sign-of : (w : FrontWord) → stepIn keywords s ≡ w → aSign s ≡ onStep w signOf
   unfolding aSign
-  sign-of w e = ap (λ (x : Step). onStep x signOf) e
+  sign-of w e = ap (λ (x : FrontWord). onStep x signOf) e
 
-  other-step : (k : ℕ) → eqb (firstOf (past isSpace s)) (beginning k) ≡ false → (w : Step) → stepIn keywords s ≡ w → Otherwise k (onStep w signOf)
+  other-step : (k : ℕ) → eqb (firstOf (past isSpace s)) (beginning k) ≡ false → (w : FrontWord) → stepIn keywords s ≡ w → Otherwise k (onStep w signOf)
   other-step k h atEnd e = nowhere
   other-step k h wrong e = nowhere
   other-step k h (got (variable v) t) e = nowhere
@@ -187,7 +187,7 @@ no-begin (j ∷ js) b k e h =
     rw (ne-eqb k (j .0) (λ f. eqb-false b (beginning (j .0)) (o .0) (e ∙ ap beginning f))) (no-begin js b k e (o .1))
 
 module _ (js : Joints) (s : List ℕ) (h : mayJoin js (firstOf (past isSpace s)) ≡ false) where
-  joint-step : (w : Step) → stepIn keywords s ≡ w → aJoint js s ≡ nothing
+  joint-step : (w : FrontWord) → stepIn keywords s ≡ w → aJoint js s ≡ nothing
   unfolding aJoint
   joint-step atEnd e = then-nothing aSign _ s (sign-of s atEnd e)
   joint-step wrong e = then-nothing aSign _ s (sign-of s wrong e)

@@ -8,7 +8,7 @@ use native.Mathlib.Omega.{arith}
 use lib.ListN.{length, set, length-append}
 use lib.Seq.{sets}
 use Rattle.nibl.specs.Words.{number}
-use Rattle.nibl.specs.Read.{Reader, fail, give, key, _>>=_}
+use Rattle.nibl.specs.found.Read.{Reader, fail, give, key, _>>=_}
 use Rattle.word.specs.declared.Cursor.{Cursor}
 use Rattle.relation.specs.Makes.{ahead, need, filled, WroteOps, Written, written, Gives, stopped, refused, given, Reads, Over, Leads, onto, only, bare, stood, KeyIs, there}
 use Rattle.relation.specs.declared.Made.{Made}

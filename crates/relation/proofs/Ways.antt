@@ -7,7 +7,7 @@ use lib.ListN.{length, drop}
 use Rattle.nibl.specs.Words.{number}
 use Rattle.nibl.specs.Grammar.{Joints, sumJoints}
 use Rattle.nibl.specs.Tree.{Op, Expr, negate, modulo, two}
-use Rattle.nibl.specs.Read.{Reader, aJoint, orElse, moreOperands, fail, give, key, _>>=_, Part, read, factor, term, sum, relation, factors, terms, related}
+use Rattle.nibl.specs.found.Read.{Reader, aJoint, orElse, moreOperands, fail, give, key, _>>=_, Part, read, factor, term, sum, relation, factors, terms, related}
 use Rattle.nibl.proofs.Sound.{read-term, read-relation, read-related}
 use Rattle.relation.specs.Code.{values}
 use Rattle.codes.specs.Codes.{op, codeOperator, codeNegate, codeMod}

@@ -9,7 +9,7 @@ use lib.Seq.{sets}
 use lib.Dec.{eqb}
 use Rattle.nibl.specs.Grammar.{Joints, factorJoints, termJoints, sumJoints}
 use Rattle.nibl.specs.Tree.{Op, Expr, negate, modulo}
-use Rattle.nibl.specs.Read.{Found, nothing, found, Reader, aSign, aJoint, choose, fail, give, key, _>>=_, factorCases, read, factor, term, sum, relation, terms}
+use Rattle.nibl.specs.found.Read.{Found, nothing, found, Reader, aSign, aJoint, choose, fail, give, key, _>>=_, factorCases, read, factor, term, sum, relation, terms}
 use Rattle.nibl.specs.Words.{number}
 use Rattle.word.specs.declared.Cursor.{Cursor}
 use Rattle.word.specs.Found.{firstOf, beginning}

@@ -9,7 +9,7 @@ use word::sign;
 ghost use Prim.Native.Nat.{_≤_};
 ghost use mathlib.Core.Path.{_≡_};
 ghost use lib.ListN.{length};
-ghost use Rattle.nibl.specs.Read.{read, factor, term, sum, relation, factors, terms};
+ghost use Rattle.nibl.specs.found.Read.{read, factor, term, sum, relation, factors, terms};
 ghost use Rattle.relation.specs.Code.{values};
 ghost use Rattle.relation.specs.Makes.{need, filled, SignIs, KeyIs, numberOf, jointsOf, JointIs, LeadIs, FormIs, cases, AtomIs, Written, Reads, Makes, FirstTerm, firstIn, mayJoin, mayLead};
 ghost use Rattle.nibl.specs.Grammar.{jointOf};

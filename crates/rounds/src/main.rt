@@ -273,7 +273,7 @@ fn full() -> Session {
         places: [there; 8],
     };
     Session {
-        vars: [0u16; 26],
+        vars: [0u16; nibl::VARIABLES],
         flags: 0,
         gosubs: stack,
         dos: stack,
@@ -463,7 +463,7 @@ fn rounds_by_table(work: u16, n: u16, bytes: &mut [u8]) -> u16
     if !places::is_good(&bytes[1..], nibl::LIMIT) {
         return 0;
     }
-    let mut table = [0u16; nibl::TABLE_LEAST];
+    let mut table = [0u16; nibl::range::TABLE_LEAST];
     table::refill(&bytes[1..], &mut table, 0, 0);
     let mut sum: u16 = 0;
     let mut i: u16 = 0;

@@ -5,7 +5,7 @@ use mathlib.Core.Path.{_≡_}
 use mathlib.Core.List.{List}
 use Rattle.nibl.proofs.Determined.{determined}
 use Rattle.nibl.specs.Meaning.{World, Env}
-use Rattle.nibl.specs.Calls.{runFrom, runOutcome}
+use Rattle.nibl.specs.Runs.{runFrom, runOutcome}
 use Rattle.run.specs.declared.Ran.{Ran}
 use Rattle.run.specs.Running.{ranIn}
 

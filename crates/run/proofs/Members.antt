@@ -11,10 +11,10 @@ use types.Run.{OneOf}
 use lib.ListN.{length, take}
 use Rattle.nibl.specs.Bytes.{if_then_else_}
 use Rattle.nibl.specs.Tree.{Member}
-use Rattle.nibl.specs.Read.{found, member}
+use Rattle.nibl.specs.found.Read.{found, member}
 use Rattle.nibl.specs.Meaning.{World, Env, Done, exec}
-use Rattle.nibl.specs.Calls.{Standing, lineFrom, textFrom, fetchMember, fetch, envAt}
-use Rattle.nibl.specs.Calls as nibl
+use Rattle.nibl.specs.Runs.{Standing, lineFrom, textFrom, fetchMember, fetch, envAt}
+use Rattle.nibl.specs.Runs as nibl
 use Rattle.page.specs.Standing.{Readable}
 use Rattle.reader.specs.Code.{compile}
 use Rattle.reader.specs.Answers.{hasRoom, memberOf, memberOps}

@@ -6,7 +6,7 @@ use mathlib.Core.Path.{_≡_, subst}
 use native.Mathlib.Omega.{arith}
 use Rattle.nibl.specs.Page.{isAmong, isGood, placesOf}
 use Rattle.nibl.specs.Meaning.{World, Env, Next, on, skip, go, stop, Done, done, exec}
-use Rattle.nibl.specs.Calls.{Standing, envAt}
+use Rattle.nibl.specs.Runs.{Standing, envAt}
 use Rattle.page.specs.Standing.{Stands, Readable}
 use Rattle.page.proofs.Standing.{place-stands}
 use Rattle.record.specs.Fit.{Fit, Goes, toNext, toRecord, toPlace, toEnd}

@@ -5,7 +5,8 @@ use mathlib.Core.Path.{_≡_, refl, ap, _∙_}
 use native.Mathlib.Omega.{arith}
 use lib.ListN.{length}
 use Rattle.nibl.specs.Meaning.{World, Env, on, skip, go, stop, Done, done, exec}
-use Rattle.nibl.specs.Calls.{Ran, ran, stepped, outcome, stopAt, pausing, runOutcome, Standing, Fetched, past, unread, here, fetch, envAt, afterStep, runFrom}
+use Rattle.nibl.specs.Lent.{outcome}
+use Rattle.nibl.specs.Runs.{Ran, ran, stepped, stopAt, pausing, runOutcome, Standing, Fetched, past, unread, here, fetch, envAt, afterStep, runFrom}
 use Rattle.run.specs.StepEnds.{StepEnd, doneEnd, stepOf, follow, tally}
 
 -- past the last line, and where the budget is spent

@@ -11,7 +11,8 @@ use lib.ListN.{length}
 use Rattle.nibl.specs.Bytes.{if_then_else_}
 use Rattle.nibl.specs.Page.{isGood, placesOf, lineOf}
 use Rattle.nibl.specs.Meaning.{World, Env, go, stop, withSession, exec}
-use Rattle.nibl.specs.Calls.{outcome, noLine, stopAt, pausing, Standing, past, here, textFrom, fetch, envAt, runFrom}
+use Rattle.nibl.specs.Lent.{outcome, noLine}
+use Rattle.nibl.specs.Runs.{stopAt, pausing, Standing, past, here, textFrom, fetch, envAt, runFrom}
 use Rattle.nibl.specs.Record.{withPaused, pausedAt, nowhere}
 use Rattle.page.specs.Standing.{Stands, Readable}
 use Rattle.page.proofs.Standing.{stands-ready, fetches-here, fetches-read, place-inside}

@@ -4,8 +4,8 @@ use mathlib.Core.List.{List}
 use mathlib.Core.Option.{some}
 use mathlib.Core.Path.{_≡_}
 use lib.ListN.{length, take}
-use Rattle.nibl.specs.Calls.{lineFrom, textFrom, fetch}
-use Rattle.nibl.specs.Calls as nibl
+use Rattle.nibl.specs.Runs.{lineFrom, textFrom, fetch}
+use Rattle.nibl.specs.Runs as nibl
 use Rattle.reader.specs.Code.{compile}
 use Rattle.run.specs.declared.Fetched.{Fetched}
 use Rattle.run.specs.declared.Fetched.the-variants as answer

@@ -8,7 +8,7 @@ use lib.ListN.{length}
 use Rattle.nibl.specs.Bytes.{if_then_else_}
 use Rattle.nibl.specs.Page.{isGood, placesOf}
 use Rattle.nibl.specs.Meaning.{World}
-use Rattle.nibl.specs.Calls.{Outcome, outcomeWith, answerOf}
+use Rattle.nibl.specs.Lent.{Outcome, outcomeWith, answerOf}
 use Rattle.nibl.specs.Record.{nowhere, pausedAt, sessionOf}
 use Rattle.nibl.specs.declared.Parts.{Parts}
 use Rattle.page.specs.Standing.{Stands}

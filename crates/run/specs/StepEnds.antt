@@ -3,7 +3,8 @@ use Prim.Native.Nat.{ℕ, suc, _+_}
 use mathlib.Core.List.{List}
 use lib.ListN.{length}
 use Rattle.nibl.specs.Meaning.{World, Env, Next, on, skip, go, stop, Done, done, exec}
-use Rattle.nibl.specs.Calls.{Outcome, Ran, ran, outcome, Standing, stopAt, pausing, envAt}
+use Rattle.nibl.specs.Lent.{Outcome, outcome}
+use Rattle.nibl.specs.Runs.{Ran, ran, Standing, stopAt, pausing, envAt}
 use Rattle.nibl.specs.Record.{positionOf}
 use Rattle.run.specs.declared.Led.{Led}
 use Rattle.run.specs.declared.Led.the-variants as led

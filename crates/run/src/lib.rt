@@ -6,7 +6,7 @@ ghost use mathlib.Core.List.{[], _∷_};
 ghost use mathlib.Core.Path.{_≡_};
 ghost use lib.ListN.{length};
 ghost use Rattle.nibl.specs.Page.{lineOf};
-ghost use Rattle.nibl.specs.Calls.{stopAt, runFrom, runOutcome};
+ghost use Rattle.nibl.specs.Runs.{stopAt, runFrom, runOutcome};
 ghost use Rattle.nibl.specs.Record.{mark, place, positionOf};
 ghost use Rattle.world.specs.Turns.{wayOf};
 ghost use Rattle.effect.specs.Worlds.{envWith, worldWith};
@@ -17,6 +17,7 @@ ghost use Rattle.run.specs.Running.{MayRun, ranTo, ranIn, pauseOf};
 use nibl::Onward;
 use nibl::Parts;
 use nibl::Place;
+use nibl::stop;
 use page::Begins;
 use page::Where;
 use reader::MemberRead;
@@ -81,10 +82,10 @@ fn fetch<'a>(from: Onward, page: &'a [u8], typed: &'a [u8], ops: &mut [u32]) -> 
 fn line_of_stop(page: &[u8], stop: u8, at: Place) -> u16
     ensures { λ r. ⌜ r ≡ stopAt stop (lineOf (now (page .entry)) (at .0) ∷ []) ⌝ }
 {
-    if stop == 0 {
+    if stop == stop::DONE {
         return nibl::NO_LINE;
     }
-    if stop == 14 {
+    if stop == stop::PAUSED {
         return nibl::NO_LINE;
     }
     let line = page::line_of(page, at);
@@ -96,7 +97,7 @@ fn pause(stop: u8, at: Place) -> u16
     requires { ⌜ at .0 ≤ 65534 ⌝ }
     ensures { λ r. ⌜ r ≡ pauseOf stop (at .0) ⌝ }
 {
-    if stop == 14 {
+    if stop == stop::PAUSED {
         return nibl::paused_at(at.position());
     }
     nibl::NOWHERE
@@ -157,10 +158,10 @@ pub fn run_steps<'a>(
     loop {
         let f = fetch(q, page, typed, ops);
         let Fetched::Member(count, at, cr) = f else {
-            return run_ends(0, nibl::NO_LINE, steps, nibl::NOWHERE, p);
+            return run_ends(stop::DONE, nibl::NO_LINE, steps, nibl::NOWHERE, p);
         };
         if left == 0 {
-            return run_ends(14, nibl::NO_LINE, steps, q.pause(), p);
+            return run_ends(stop::PAUSED, nibl::NO_LINE, steps, q.pause(), p);
         }
         left -= 1;
         steps += 1;

@@ -11,7 +11,7 @@ use lib.ListN.{length, drop, getD, drop-of-length-le}
 use lib.Seq.{drop-cons}
 use Rattle.nibl.specs.Values.{Result, is, no}
 use Rattle.nibl.specs.Stack.{noPlace}
-use Rattle.nibl.specs.Read.{replied}
+use Rattle.nibl.specs.found.Read.{replied}
 use Rattle.nibl.specs.Meaning.{World, Env, on, skip, go, stop, Done, done, given, went, keepIn, storeAt}
 use Rattle.nibl.specs.declared.Place.{Place}
 use Rattle.codes.specs.Codes.{codeIn, argumentIn, effects, codeStoreString}
@@ -27,7 +27,8 @@ use Rattle.operation.specs.Stacks.{sources, assignedBy, assigning, assignedIn}
 use Rattle.operation.proofs.Meaning.{reply-is}
 use Rattle.nibl.specs.declared.Parts.{Parts}
 use Rattle.effect.specs.declared.Did.{Did}
-use Rattle.effect.specs.Worlds.{worldWith, envWith, did, didIn, partsAt}
+use Rattle.effect.specs.Worlds.{worldWith, envWith, did, didIn}
+use Rattle.nibl.specs.Record.{partsAt}
 use Rattle.effect.proofs.Codes.{effect-any-sense}
 use Rattle.statement.specs.Lending.{isOn, takesReply}
 

@@ -4,7 +4,7 @@ use mathlib.Core.Bool.{Bool, true, false}
 use mathlib.Core.List.{List}
 use lib.ListN.{length}
 use Rattle.nibl.specs.Page.{used}
-use Rattle.nibl.specs.Read.{replied}
+use Rattle.nibl.specs.found.Read.{replied}
 use Rattle.nibl.specs.Meaning.{World, Done}
 use Rattle.world.specs.declared.jump.Way.{Way}
 use Rattle.world.specs.declared.jump.Way.the-variants as way

@@ -15,14 +15,14 @@ use Rattle.nibl.specs.Page.{Stored, recordsOf, recordBytes, used}
 use Rattle.nibl.specs.Table.{positionsFrom, walkTable, refilled}
 use Rattle.page.specs.declared.Seat.{Seat}
 use Rattle.page.specs.Walk.{sizeAt}
-use Rattle.page.specs.Edits.{seatOf, Seatable, Seated, spliced, canStore, storeAt, deleteAt}
+use Rattle.page.specs.Edits.{seatOf, Seatable, Seated, spliced, canStore, storeAtSeat, deleteAt}
 use Rattle.page.specs.Tables.{spanOf}
 use Rattle.page.proofs.Walk.{by-cases, met}
 use Rattle.page.proofs.Program.{both}
 use Rattle.page.proofs.Ways.{Way, here, way-span, way-records, way-to, way-kept}
 use Rattle.page.proofs.Tables.{lines-most, positions-append, walk-length, table-front}
 use Rattle.table.specs.Index.{Described}
-use Rattle.table.specs.Spots.{below, Front}
+use Rattle.table.specs.Spots.{below, TableFront}
 use Rattle.table.proofs.Below.{below-most, seat-span}
 
 -- An edit leaves the way to its seat
@@ -32,8 +32,8 @@ module _ (page : List ℕ) (at : ℕ) {rs : List Stored} (w : Way page 0 at rs) 
       way-kept (take at page) (drop at page) _ (omega (arith, length-take-le at page h)) (rw (take-append-drop at page) w)
 
 module _ (page : List ℕ) (s : Seat) (h : Seatable page s) {rs : List Stored} (w : Way page 0 (s .at) rs) where
-  pub store-way : (n : ℕ) (t : List ℕ) → Way (storeAt page s n t .page) 0 (s .at) rs
-  unfolding storeAt
+  pub store-way : (n : ℕ) (t : List ℕ) → Way (storeAtSeat page s n t .page) 0 (s .at) rs
+  unfolding storeAtSeat
   store-way n t =
       by-cases (canStore page s (length t + 4))
       (λ e.
@@ -60,7 +60,7 @@ seat-way {page = page} {n = n} {s = s} h =
 
 -- the first lines of a page that has the way to them
 pub way-front : {page table : List ℕ} {at : ℕ} {rs : List Stored} (k : ℕ) → 1025 ≤ length table → length page ≤ 4096 → Way page 0 at rs → length rs ≡ k
-    → take k (drop 1 table) ≡ positionsFrom 0 rs → Front page table k at
+    → take k (drop 1 table) ≡ positionsFrom 0 rs → TableFront page table k at
 way-front {page = page} {at = at} {rs = rs} k l s w c e =
     let more : List Stored = recordsOf (drop at page) in
     let all = way-records w in
@@ -73,22 +73,22 @@ way-front {page = page} {at = at} {rs = rs} k l s w c e =
 
 -- an edit's: the page before it is described, and the way to the seat is that of the page after it
 pub edit-front : {page table page′ : List ℕ} (n k : ℕ) (s : Seat) → Described page table → length page′ ≡ length page → k ≡ below n (recordsOf page)
-    → Way page′ 0 (s .at) (take (below n (recordsOf page)) (recordsOf page)) → Front page′ table k (s .at)
+    → Way page′ 0 (s .at) (take (below n (recordsOf page)) (recordsOf page)) → TableFront page′ table k (s .at)
 edit-front {page = page} {table = table} n k s d l e w =
     let rs : List Stored = recordsOf page in
     way-front k (d .long) (omega (arith, d .short)) w (length-take-le (below n rs) rs (below-most n rs) ∙ sym e)
     (ap (λ (x : ℕ). take x (drop 1 table)) e ∙ table-front page table (d .is) (below n rs) (below-most n rs))
 
-pub new-front : (page table : List ℕ) → 1025 ≤ length table → length page ≤ 4096 → Front page table 0 0
+pub new-front : (page table : List ℕ) → 1025 ≤ length table → length page ≤ 4096 → TableFront page table 0 0
 new-front page table l s = way-front 0 l s here refl refl
 
 -- The table while it is filled up: the first k entries are right, and those past them as they were
 pub record Filling (page before table : List ℕ) (k at : ℕ) : Type 0 where
-  pub front : Front page table k at
+  pub front : TableFront page table k at
   pub long : length table ≡ length before
   pub behind : drop (k + 1) table ≡ drop (k + 1) before
 
-pub fill-start : {page table : List ℕ} {k at : ℕ} → Front page table k at → Filling page table table k at
+pub fill-start : {page table : List ℕ} {k at : ℕ} → TableFront page table k at → Filling page table table k at
 fill-start f = record { front = f; long = refl; behind = refl }
 
 -- a turn, at a record of n bytes: there is room for its entry

@@ -21,7 +21,7 @@ abbrev pub goneAt : List ℕ → ℕ → ℕ
 goneAt q n = if eqb (lineAt q) n then sizeAt q else 0
 
 -- the first k lines of a page go up to `at`, and the table has their positions
-pub record Front (page table : List ℕ) (k at : ℕ) : Type 0 where
+pub record TableFront (page table : List ℕ) (k at : ℕ) : Type 0 where
   pub long : 1025 ≤ length table
   pub short : length page ≤ 4096
   pub count : length (recordsOf page) ≡ k + length (recordsOf (drop at page))

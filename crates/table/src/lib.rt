@@ -9,7 +9,7 @@ ghost use Rattle.page.specs.Walk.{foundAt, reached};
 ghost use Rattle.page.specs.Edits.{changed, storeOf, deleteOf, newOf};
 ghost use Rattle.table.specs.Index.{Described, Indexed, keptTrue};
 ghost use Rattle.page.specs.Tables.{spanOf};
-ghost use Rattle.table.specs.Spots.{below, goneAt, Front, Spotted};
+ghost use Rattle.table.specs.Spots.{below, goneAt, TableFront, Spotted};
 use nibl::LineNumber;
 use page::Edited;
 use page::FoundLine;
@@ -138,7 +138,7 @@ fn find_spot(page: &[u8], number: LineNumber, table: &[u16]) -> Spot
 // The table is made true of a page whose first lines, so many, it describes; they go up to `from`. Only the count and what follows those
 // lines is written.
 pub fn refill(page: &[u8], table: &mut [u16], first: usize, from: usize)
-    requires { ⌜ (1 ≤ length (now table) → Front (now page) (now table) first from) ⌝ }
+    requires { ⌜ (1 ≤ length (now table) → TableFront (now page) (now table) first from) ⌝ }
     ensures { λ _. ⌜ now (table .exit) ≡ keptTrue (now (page .entry)) (now (table .entry)) ⌝ }
 {
     if table.len() < 1 {

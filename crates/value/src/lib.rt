@@ -11,9 +11,7 @@ ghost use Rattle.nibl.specs.Tree.{dividedBy, equal};
 ghost use Rattle.value.specs.Operators.{valueOf};
 ghost use Rattle.codes.specs.Operators.{opNumber, opOf};
 ghost use Rattle.value.specs.Writes.{Writes, signByte};
-
-// The stop number of a division or MOD by 0.
-const BY_ZERO: u8 = 13;
+use nibl::stop;
 
 // The first pattern that is negative.
 const NEGATIVE: u16 = 32768;
@@ -93,7 +91,7 @@ pub fn quotient(a: u16, b: u16) -> Value
     ensures { λ r. ⌜ valueOf r ≡ apply dividedBy a b ⌝ }
 {
     if b == 0 {
-        return Value::No(BY_ZERO);
+        return Value::No(stop::DIVISION_BY_ZERO);
     }
     let q = magnitude(a) / magnitude(b);
     if is_negative(a) == is_negative(b) {
@@ -107,7 +105,7 @@ pub fn modulo(a: u16, b: u16) -> Value
     ensures { λ r. ⌜ valueOf r ≡ mod16 a b ⌝ }
 {
     if b == 0 {
-        return Value::No(BY_ZERO);
+        return Value::No(stop::DIVISION_BY_ZERO);
     }
     let m = magnitude(a);
     let d = magnitude(b);

@@ -10,8 +10,8 @@ use lib.Dec.{eqb}
 use lib.ListN.{length, drop, getD, length-drop, drop-of-length-le}
 use Rattle.nibl.specs.Bytes.{if_then_else_, classOf, classDigit, classCapital, classQuote, isSpace, isCapital, isDigit, isQuotable, starts, past}
 use Rattle.nibl.specs.Words.{sign, pairs, numberOr, isSymbol}
-use Rattle.nibl.specs.Read.{Step, atEnd, got, pairOr, wordStep, stepIn}
-use Rattle.nibl.specs.GaveUp.{wordGaveUp, gaveUp}
+use Rattle.nibl.specs.found.Read.{FrontWord, atEnd, got, pairOr, wordStep, stepIn}
+use Rattle.nibl.specs.found.GaveUp.{wordGaveUp, gaveUp}
 use Rattle.letter.proofs.Classes.{capital, digit, quote}
 use Rattle.word.specs.declared.Word.{Word}
 use Rattle.word.specs.declared.Word.the-variants.{Variable, Decimal, Hex, Text, Sign, End, Wrong}
@@ -178,7 +178,7 @@ module _ (table : List (List ℕ)) (text : List ℕ) (from i : ℕ) (e : i ≡ r
     stops = sym (ap (starts isSpace) (rest-at isSpace text from i e ∙ at-byte text i h)) ∙ parted isSpace (drop from text) .stops
 
     -- a word that was read at i or behind it, as the step that the first byte calls for
-    found : (step : List ℕ → Step) (left : List ℕ → ℕ) (j : ℕ) (r : Word)
+    found : (step : List ℕ → FrontWord) (left : List ℕ → ℕ) (j : ℕ) (r : Word)
         → (wordStep table (getD text i 0) (drop (i + 1) text) ≡ step (drop j text)) × (wordGaveUp table (getD text i 0) (drop (i + 1) text) ≡ left (drop j text))
         → i ≤ j → AnswerIs step left text j r → WordIs table text from r
     found step left j r f l w =
@@ -190,7 +190,7 @@ module _ (table : List (List ℕ)) (text : List ℕ) (from i : ℕ) (e : i ≡ r
           stopped = asked left (gaveUp table) text from j (at-left ∙ ap (gaveUp table) (at-byte text i h) ∙ left-word table b s stops ∙ f .1) r (w .stopped);
         }
 
-    whole : (step : List ℕ → Step) (left : List ℕ → ℕ) (r : Word)
+    whole : (step : List ℕ → FrontWord) (left : List ℕ → ℕ) (r : Word)
         → (wordStep table (getD text i 0) (drop (i + 1) text) ≡ step (getD text i 0 ∷ drop (i + 1) text))
         × (wordGaveUp table (getD text i 0) (drop (i + 1) text) ≡ left (getD text i 0 ∷ drop (i + 1) text))
         → AnswerIs step left text i r → WordIs table text from r

@@ -9,12 +9,12 @@ use lib.ListN.{length, take, drop, getD, length-drop}
 use lib.Seq.{slice, drop-drop, take-all}
 use Rattle.nibl.specs.Bytes.{isCapital, starts, front, all}
 use Rattle.nibl.specs.Words.{indexIn}
-use Rattle.nibl.specs.Read.{signOr, letterStep, lettersStep}
-use Rattle.nibl.specs.GaveUp.{mostCommon}
+use Rattle.nibl.specs.found.Read.{signOr, letterStep, lettersStep}
+use Rattle.nibl.specs.found.GaveUp.{mostCommon}
 use Rattle.nibl.proofs.Keywords.{take-run, letters-down}
 use Rattle.nibl.proofs.GaveUp.{most-short}
 use Rattle.word.specs.declared.Word.the-variants.{Variable, Sign, Wrong}
-use Rattle.word.specs.Found.{AnswerIs, tableOf, keysOf, keyOf, keyIndex, lettersAt, lettersLeft}
+use Rattle.word.specs.Found.{AnswerIs, spellingsOf, keysOf, keyOf, keyIndex, lettersAt, lettersLeft}
 use Rattle.word.proofs.Runs.{and-left, and-right, at-byte, between, parted, slice-front, run-cons, end-within}
 use Rattle.word.proofs.Keys.{table-short, signBy, index-key, none-over}
 
@@ -72,43 +72,43 @@ module _ (b : Bool) (text : List ℕ) (from : ℕ) (h : from < length text) (c :
   sized : size text from ≡ suc (size text (from + 1))
   sized = ap length (run-cons isCapital text from h c)
 
-  pub tried-first : {end : ℕ} → end ≡ from + length (front isCapital (take 6 (drop from text))) → Tried (tableOf b) text from end
+  pub tried-first : {end : ℕ} → end ≡ from + length (front isCapital (take 6 (drop from text))) → Tried (spellingsOf b) text from end
   tried-first {end} e =
       let here = drop from text in
       let f = few isCapital 6 here in
       let n = length (front isCapital (take 6 here)) in
       let one = f .least 1 (omega arith) (omega (arith, sized)) in
-      let over = none-over n (front isCapital here) (f .least) (tableOf b) (table-short b) in
+      let over = none-over n (front isCapital here) (f .least) (spellingsOf b) (table-short b) in
       let left : n ≡ end - from = omega arith in
       record {
         some = omega arith;
         run = omega (arith, f .run);
         most = omega (arith, f .most);
-        same = letters-down (tableOf b) here n (size text from) over one (f .run) (omega arith) ∙ ap (λ (m : ℕ). lettersStep (tableOf b) m here) left;
+        same = letters-down (spellingsOf b) here n (size text from) over one (f .run) (omega arith) ∙ ap (λ (m : ℕ). lettersStep (spellingsOf b) m here) left;
       }
 
-  pub letters-one : starts isCapital (drop (from + 1) text) ≡ false → AnswerIs (lettersAt (tableOf b)) (lettersLeft (tableOf b)) text from (Variable (getD text from 0 - 65) (record { at = from + 1 }))
+  pub letters-one : starts isCapital (drop (from + 1) text) ≡ false → AnswerIs (lettersAt (spellingsOf b)) (lettersLeft (spellingsOf b)) text from (Variable (getD text from 0 - 65) (record { at = from + 1 }))
   letters-one e =
       let range = between 65 90 (getD text from 0) c in
       record {
-        same = sym (letters-last (tableOf b) (drop from text) (size text from) (omega (arith, sized, stays isCapital (drop (from + 1) text) e)) ∙ rw (at-byte text from h) (rw e refl));
+        same = sym (letters-last (spellingsOf b) (drop from text) (size text from) (omega (arith, sized, stays isCapital (drop (from + 1) text) e)) ∙ rw (at-byte text from h) (rw e refl));
         inside = (omega arith, omega arith, omega arith);
         stopped = tt;
       }
 
-  pub letters-wrong : starts isCapital (drop (from + 1) text) ≡ true → {to : ℕ} → Tried (tableOf b) text from to → to - from ≤ 1
-      → {p : ℕ} → p ≡ from + mostCommon (tableOf b) (drop from text) → AnswerIs (lettersAt (tableOf b)) (lettersLeft (tableOf b)) text from (Wrong (record { at = p }))
+  pub letters-wrong : starts isCapital (drop (from + 1) text) ≡ true → {to : ℕ} → Tried (spellingsOf b) text from to → to - from ≤ 1
+      → {p : ℕ} → p ≡ from + mostCommon (spellingsOf b) (drop from text) → AnswerIs (lettersAt (spellingsOf b)) (lettersLeft (spellingsOf b)) text from (Wrong (record { at = p }))
   letters-wrong e {to} t l {p} f =
       let size = length-drop from text in
       record {
-        same = sym (t .same ∙ letters-last (tableOf b) (drop from text) (to - from) l ∙ rw (at-byte text from h) (rw e refl));
+        same = sym (t .same ∙ letters-last (spellingsOf b) (drop from text) (to - from) l ∙ rw (at-byte text from h) (rw e refl));
         inside = tt;
-        stopped = omega (arith, most-short (tableOf b) (drop from text) (omega arith));
+        stopped = omega (arith, most-short (spellingsOf b) (drop from text) (omega arith));
       }
 
   -- the keywords that end at `to`, by the number of their key
-  module _ {to : ℕ} (t : Tried (tableOf b) text from to) (m : 1 < to - from) {q k : ℕ} (f : q ≡ keyOf (slice from to text)) (g : k ≡ keyIndex 128 (keysOf b) q) where
-    named : lettersAt (tableOf b) (drop from text) ≡ signBy k (drop to text) (lettersStep (tableOf b) (to - 1 - from) (drop from text))
+  module _ {to : ℕ} (t : Tried (spellingsOf b) text from to) (m : 1 < to - from) {q k : ℕ} (f : q ≡ keyOf (slice from to text)) (g : k ≡ keyIndex 128 (keysOf b) q) where
+    named : lettersAt (spellingsOf b) (drop from text) ≡ signBy k (drop to text) (lettersStep (spellingsOf b) (to - 1 - from) (drop from text))
     named =
         let here = drop from text in
         let n = to - 1 - from in
@@ -119,14 +119,14 @@ module _ (b : Bool) (text : List ℕ) (from : ℕ) (h : from < length text) (c :
         let letters : all isCapital (take (suc n) here) ≡ true =
         rw (take-run isCapital (suc n) here (omega (arith, t .run))) (all-take isCapital (suc n) (front isCapital here) (parted isCapital here .each)) in
         let number : keyIndex 128 (keysOf b) (keyOf (take (suc n) here)) ≡ k = rw (word, ← f) (sym g) in
-        t .same ∙ ap (λ (x : ℕ). lettersStep (tableOf b) x here) (sym left) ∙ letters-try (tableOf b) here n (omega arith)
-        ∙ index-key (take (suc n) here) (drop (suc n) here) (lettersStep (tableOf b) n here) letters 128 (tableOf b) (omega arith) (table-short b)
+        t .same ∙ ap (λ (x : ℕ). lettersStep (spellingsOf b) x here) (sym left) ∙ letters-try (spellingsOf b) here n (omega arith)
+        ∙ index-key (take (suc n) here) (drop (suc n) here) (lettersStep (spellingsOf b) n here) letters 128 (spellingsOf b) (omega arith) (table-short b)
         ∙ rw (number, rest) refl
 
-    pub tried-on : k ≡ 0 → Tried (tableOf b) text from (to - 1)
+    pub tried-on : k ≡ 0 → Tried (spellingsOf b) text from (to - 1)
     tried-on z = record { some = omega arith; run = omega (arith, t .run); most = omega (arith, t .most); same = named ∙ rw (eq-eqb k 0 z) refl }
 
-    pub letters-sign : (k ≡ 0 → ⊥) → AnswerIs (lettersAt (tableOf b)) (lettersLeft (tableOf b)) text from (Sign k (record { at = to }))
+    pub letters-sign : (k ≡ 0 → ⊥) → AnswerIs (lettersAt (spellingsOf b)) (lettersLeft (spellingsOf b)) text from (Sign k (record { at = to }))
     letters-sign z =
         let high = end-within isCapital text from (omega arith) in
         record { same = sym (named ∙ rw (ne-eqb k 0 z) refl); inside = (t .some, omega (arith, t .run)); stopped = tt }

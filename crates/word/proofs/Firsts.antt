@@ -11,7 +11,7 @@ use lib.ListN.{length, take, drop, getD, length-drop, drop-of-length-le}
 use lib.Seq.{slice}
 use Rattle.nibl.specs.Bytes.{if_then_else_, same, isSpace, isCapital, isDigit, isHexDigit, isQuotable, starts, front, past, all, decimalValue}
 use Rattle.nibl.specs.Words.{variable, decimal, hex, string, sign, keywords, commands, indexFrom, indexIn, isSymbol, pairs, firstKeyword}
-use Rattle.nibl.specs.Read.{Step, atEnd, wrong, got, signOr, lettersStep, digitsStep, hexStep, quotedStep, pairOr, symbolStep, wordStep, stepIn}
+use Rattle.nibl.specs.found.Read.{FrontWord, atEnd, wrong, got, signOr, lettersStep, digitsStep, hexStep, quotedStep, pairOr, symbolStep, wordStep, stepIn}
 use Rattle.nibl.proofs.Keywords.{of-table}
 use Rattle.word.specs.Found.{keyOf, keyIndex, fronts, mayCommand, firstOf, spelling, beginning}
 use Rattle.word.proofs.Runs.{and-left, at-byte, slice-front, parted, runEnd, rest-at}
@@ -96,7 +96,7 @@ pub front-stands : (w s : List ℕ) (k : ℕ) → indexIn commands w ≡ some k 
 front-stands w s k e = of-table (λ v. mayCommand (past isSpace (v ++ s))) firstKeyword commands w k refl e
 
 -- whether a step that is a sign begins with a byte
-abbrev begun : ℕ → Step → Bool
+abbrev begun : ℕ → FrontWord → Bool
 begun b atEnd = true
 begun b wrong = true
 begun b (got (variable v) t) = true
@@ -131,7 +131,7 @@ index-first : (n : ℕ) (ks : List (List ℕ)) (w : List ℕ) (k : ℕ) → inde
 index-first n [] w k e = let i : _≡_ {A = ℕ} 0 1 = cc in absurd (omega arith)
 index-first n (x ∷ ks) w k e = index-step n x ks w k (index-first (suc n) ks w k) (same x w) refl e
 
-signed-first : (w t : List ℕ) (r : Step) (o : Option ℕ) → indexFrom firstKeyword keywords w ≡ o → begun (firstOf w) r ≡ true → begun (firstOf w) (signOr o t r) ≡ true
+signed-first : (w t : List ℕ) (r : FrontWord) (o : Option ℕ) → indexFrom firstKeyword keywords w ≡ o → begun (firstOf w) r ≡ true → begun (firstOf w) (signOr o t r) ≡ true
 signed-first w t r none e i = i
 signed-first w t r (some k) e i =
     let h = index-first firstKeyword keywords w k e in

@@ -10,11 +10,11 @@ use lib.Dec.{eqb, leb}
 use lib.ListN.{length, drop, getD, drop-of-length-le}
 use lib.Seq.{slice, slice-empty, slice-cons}
 use Rattle.nibl.specs.Bytes.{if_then_else_, same, isCapital, all}
-use Rattle.nibl.specs.Read.{Step, got, signOr}
+use Rattle.nibl.specs.found.Read.{FrontWord, got, signOr}
 use Rattle.nibl.specs.Words.{sign, indexFrom, begins, noneOver}
 use Rattle.nibl.proofs.Keywords.{begins-short}
 use Rattle.nibl.proofs.Words.{or-true}
-use Rattle.word.specs.Found.{keyOf, keyIndex, tableOf}
+use Rattle.word.specs.Found.{keyOf, keyIndex, spellingsOf}
 use Rattle.word.proofs.Runs.{and-left, and-right, between, at-byte}
 
 pub key-none : (t : ℕ) (text : List ℕ) → 0 ≡ keyOf (slice t t text)
@@ -71,16 +71,16 @@ abbrev pub short : List (List ℕ) → Bool
 short [] = true
 short (w ∷ ws) = (all isCapital w && leb (length w) 6) && short ws
 
-pub table-short : (b : Bool) → short (tableOf b) ≡ true
+pub table-short : (b : Bool) → short (spellingsOf b) ≡ true
 table-short true = refl
 table-short false = refl
 
 -- the sign of a number, or r where it is 0
-abbrev pub signBy : ℕ → List ℕ → Step → Step
+abbrev pub signBy : ℕ → List ℕ → FrontWord → FrontWord
 signBy k s r = if eqb k 0 then r else got (sign k) s
 
 -- the index of a spelling is that of its key
-module _ (w s : List ℕ) (r : Step) (h : all isCapital w ≡ true) where
+module _ (w s : List ℕ) (r : FrontWord) (h : all isCapital w ≡ true) where
   index-step : (n : ℕ) (v : List ℕ) (vs : List (List ℕ)) → 0 < n → eqb (keyOf v) (keyOf w) ≡ same v w
       → signOr (indexFrom (suc n) vs w) s r ≡ signBy (keyIndex (suc n) (map keyOf vs) (keyOf w)) s r → (t : Bool) → same v w ≡ t
       → signOr (indexFrom n (v ∷ vs) w) s r ≡ signBy (keyIndex n (map keyOf (v ∷ vs)) (keyOf w)) s r

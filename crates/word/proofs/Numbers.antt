@@ -9,8 +9,8 @@ use lib.Dec.{leb}
 use lib.ListN.{length, drop, getD, length-drop}
 use Rattle.nibl.specs.Bytes.{isDigit, isHexDigit, starts, front, past, decimalValue, hexValue}
 use Rattle.nibl.specs.Words.{hex}
-use Rattle.nibl.specs.Read.{got, hexStep}
-use Rattle.nibl.specs.GaveUp.{pastLargest}
+use Rattle.nibl.specs.found.Read.{got, hexStep}
+use Rattle.nibl.specs.found.GaveUp.{pastLargest}
 use Rattle.word.specs.declared.Word.the-variants.{Decimal, Hex, Wrong}
 use Rattle.word.specs.Found.{hexDigit, decimalAt, decimalLeft, hexAt, AnswerIs}
 use Rattle.word.proofs.Runs.{at-byte, between, runEnd, run-cons, front-stop, end-go, end-stop, end-past, rest-stop}

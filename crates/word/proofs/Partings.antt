@@ -8,8 +8,8 @@ use borrow.Author.Tests.{eq-eqb, ne-eqb, le-leb, lt-leb}
 use lib.Dec.{eqb, leb}
 use lib.ListN.{length, drop, getD, drop-of-length-le}
 use Rattle.nibl.specs.Bytes.{if_then_else_, isCapital, all}
-use Rattle.nibl.specs.GaveUp.{common, mostCommon}
-use Rattle.word.specs.Found.{keyOf, keyCommon, mostKey, tableOf, keysOf}
+use Rattle.nibl.specs.found.GaveUp.{common, mostCommon}
+use Rattle.word.specs.Found.{keyOf, keyCommon, mostKey, spellingsOf, keysOf}
 use Rattle.word.proofs.Runs.{and-left, and-right, between, at-byte}
 use Rattle.word.proofs.Keys.{short, table-short}
 
@@ -63,5 +63,5 @@ most-common (w ∷ ws) s h =
     let rest = and-right (all isCapital w && leb (length w) 6) (short ws) h in
     rw (key-common w s (and-left (all isCapital w) (leb (length w) 6) here), most-common ws s rest)
 
-pub most-letters : (b : Bool) (s : List ℕ) → mostKey (keysOf b) s ≡ mostCommon (tableOf b) s
-most-letters b s = most-common (tableOf b) s (table-short b)
+pub most-letters : (b : Bool) (s : List ℕ) → mostKey (keysOf b) s ≡ mostCommon (spellingsOf b) s
+most-letters b s = most-common (spellingsOf b) s (table-short b)

@@ -7,24 +7,24 @@ use native.Mathlib.Omega.{arith}
 use lib.ListN.{length, drop, length-drop}
 use lib.Seq.{slice, length-slice}
 use Rattle.nibl.specs.Words.{Token, variable, decimal, hex, string, sign}
-use Rattle.nibl.specs.Read.{Step, atEnd, wrong, got}
+use Rattle.nibl.specs.found.Read.{FrontWord, atEnd, wrong, got}
 use Rattle.word.specs.declared.Cursor.{Cursor}
 use Rattle.word.specs.declared.Word.{Word}
 use Rattle.word.specs.declared.Word.the-variants.{Variable, Decimal, Hex, Text, Sign, End, Wrong}
 use Rattle.word.specs.Found.{foundStep, Behind, Stopped, AnswerIs}
 
 -- at a position stands the word w, and the next cursor moves on and stays within the text
-pub record Read (step : List ℕ → Step) (text : List ℕ) (at : ℕ) (w : Token) (next : Cursor) : Type 0 where
+pub record Read (step : List ℕ → FrontWord) (text : List ℕ) (at : ℕ) (w : Token) (next : Cursor) : Type 0 where
   pub word : step (drop at text) ≡ got w (drop (next .at) text)
   pub on : at < next .at
   pub within : next .at ≤ length text
 
 -- so what is left falls
-pub falls : {step : List ℕ → Step} {text : List ℕ} {at : ℕ} {w : Token} {next : Cursor} → Read step text at w next → length text - next .at < length text - at
+pub falls : {step : List ℕ → FrontWord} {text : List ℕ} {at : ℕ} {w : Token} {next : Cursor} → Read step text at w next → length text - next .at < length text - at
 falls {text = text} {at = at} {next = next} r = let h = r .on in let k = r .within in omega arith
 
 -- The laws take the promise and what a match showed of the answer
-module _ {step : List ℕ → Step} {left : List ℕ → ℕ} {text : List ℕ} {at : ℕ} {r : Word} (w : AnswerIs step left text at r) where
+module _ {step : List ℕ → FrontWord} {left : List ℕ → ℕ} {text : List ℕ} {at : ℕ} {r : Word} (w : AnswerIs step left text at r) where
   told : (q : Word) → r ≡ q → AnswerIs step left text at q
   told q e = rw e at w
 
@@ -58,7 +58,7 @@ tokenWord n (hex v) left = Hex v (record { at = n - left })
 tokenWord n (string bs) left = Text (n - left - 1 - length bs) (n - left - 1) (record { at = n - left })
 tokenWord n (sign k) left = Sign k (record { at = n - left })
 
-abbrev pub wordOf : ℕ → ℕ → Step → Word
+abbrev pub wordOf : ℕ → ℕ → FrontWord → Word
 wordOf n up atEnd = End
 wordOf n up wrong = Wrong (record { at = n - up })
 wordOf n up (got w s) = tokenWord n w (length s)
@@ -82,7 +82,7 @@ stands-for left text at End i k = refl
 stands-for left text at (Wrong c) i k = ap (λ (p : ℕ). Wrong (record { at = p })) (omega arith)
 
 -- the promise as an equation
-module _ (step : List ℕ → Step) (left : List ℕ → ℕ) (text : List ℕ) (at : ℕ) where
+module _ (step : List ℕ → FrontWord) (left : List ℕ → ℕ) (text : List ℕ) (at : ℕ) where
   pub exact : (r : Word) → AnswerIs step left text at r → r ≡ wordOf (length text) (left (drop at text)) (step (drop at text))
   exact r w = stands-for left text at r (w .inside) (w .stopped) ∙ ap (wordOf (length text) (left (drop at text))) (w .same)
 

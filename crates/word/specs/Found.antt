@@ -8,13 +8,13 @@ use lib.ListN.{length, take, drop}
 use lib.Seq.{slice}
 use Rattle.nibl.specs.Bytes.{if_then_else_, classSpace, classCapital, isSpace, isDigit, isCapital, isHexDigit, isQuotable, front, past, decimalValue, byte}
 use Rattle.nibl.specs.Words.{variable, decimal, hex, string, sign, keywords, commands, isSymbol, firstKeyword, number}
-use Rattle.nibl.specs.Read.{Step, atEnd, wrong, got, lettersStep, digitsStep, hexStep, quotedStep, symbolStep, stepIn}
-use Rattle.nibl.specs.GaveUp.{mostCommon, pastLargest, gaveUp}
+use Rattle.nibl.specs.found.Read.{FrontWord, atEnd, wrong, got, lettersStep, digitsStep, hexStep, quotedStep, symbolStep, stepIn}
+use Rattle.nibl.specs.found.GaveUp.{mostCommon, pastLargest, gaveUp}
 use Rattle.word.specs.declared.Word.{Word}
 use Rattle.word.specs.declared.Word.the-variants.{Variable, Decimal, Hex, Text, Sign, End, Wrong}
 
 -- a word of the code as a step of the definition
-abbrev pub foundStep : List ℕ → Word → Step
+abbrev pub foundStep : List ℕ → Word → FrontWord
 foundStep text (Variable v c) = got (variable v) (drop (c .at) text)
 foundStep text (Decimal n c) = got (decimal n) (drop (c .at) text)
 foundStep text (Hex n c) = got (hex n) (drop (c .at) text)
@@ -48,7 +48,7 @@ Stopped left text at End = Unit {0}
 Stopped left text at (Wrong c) = c .at + left (drop at text) ≡ length text
 
 -- the word r, read at a position of a text, is what the definition's `step` finds there, or no word could go on where `left` says
-pub record AnswerIs (step : List ℕ → Step) (left : List ℕ → ℕ) (text : List ℕ) (at : ℕ) (r : Word) : Type 0 where
+pub record AnswerIs (step : List ℕ → FrontWord) (left : List ℕ → ℕ) (text : List ℕ) (at : ℕ) (r : Word) : Type 0 where
   pub same : foundStep text r ≡ step (drop at text)
   pub inside : Behind at (length text) r
   pub stopped : Stopped left text at r
@@ -86,12 +86,12 @@ mostKey [] s = 1
 mostKey (k ∷ ks) s = if leb (keyCommon k s) (mostKey ks s) then mostKey ks s else keyCommon k s
 
 -- the words that stand at the front of an immediate line, or those of any text
-abbrev pub tableOf : Bool → List (List ℕ)
-tableOf true = commands
-tableOf false = keywords
+abbrev pub spellingsOf : Bool → List (List ℕ)
+spellingsOf true = commands
+spellingsOf false = keywords
 
 abbrev pub keysOf : Bool → List ℕ
-keysOf b = map keyOf (tableOf b)
+keysOf b = map keyOf (spellingsOf b)
 
 -- a command's first three letters, as one number; and whether those of a text are a command's
 abbrev pub fronts : List ℕ
@@ -107,29 +107,29 @@ abbrev pub hexDigit : ℕ → ℕ
 hexDigit d = if isDigit d then d - byte "0" else d - byte "A" + 10
 
 -- The kinds of word, each as a step, and how many bytes are left where it gives up
-abbrev pub lettersAt : List (List ℕ) → List ℕ → Step
+abbrev pub lettersAt : List (List ℕ) → List ℕ → FrontWord
 lettersAt table s = lettersStep table (length (front isCapital s)) s
 
 abbrev pub lettersLeft : List (List ℕ) → List ℕ → ℕ
 lettersLeft table s = length s - mostCommon table s
 
-abbrev pub decimalAt : List ℕ → Step
+abbrev pub decimalAt : List ℕ → FrontWord
 decimalAt s = digitsStep (decimalValue 0 (front isDigit s)) (past isDigit s)
 
 abbrev pub decimalLeft : List ℕ → ℕ
 decimalLeft s = length (pastLargest 0 s)
 
 -- past the "#", and past the opening quote
-abbrev pub hexAt : List ℕ → Step
+abbrev pub hexAt : List ℕ → FrontWord
 hexAt s = hexStep (front isHexDigit s) (past isHexDigit s)
 
-abbrev pub quotedAt : List ℕ → Step
+abbrev pub quotedAt : List ℕ → FrontWord
 quotedAt s = quotedStep (front isQuotable s) (past isQuotable s)
 
 abbrev pub quotedLeft : List ℕ → ℕ
 quotedLeft s = length (past isQuotable s)
 
-abbrev pub symbolAt : List ℕ → Step
+abbrev pub symbolAt : List ℕ → FrontWord
 symbolAt [] = wrong
 symbolAt (b ∷ s) = if isSymbol b then symbolStep b s else wrong
 

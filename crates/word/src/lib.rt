@@ -7,8 +7,8 @@ ghost use lib.ListN.{length, take, drop, getD};
 ghost use lib.Seq.{slice};
 ghost use Rattle.nibl.specs.Bytes.{isDigit, isCapital, isHexDigit, isSpace, isQuotable, starts, front, past, all};
 ghost use Rattle.nibl.specs.Words.{keywords, commands, isSymbol, pairs, numberOr, firstKeyword};
-ghost use Rattle.nibl.specs.GaveUp.{mostCommon};
-ghost use Rattle.word.specs.Found.{passing, keyOf, longestKeyword, keyIndex, keyCommon, mostKey, tableOf, keysOf, hexDigit, firstOf, mayCommand};
+ghost use Rattle.nibl.specs.found.GaveUp.{mostCommon};
+ghost use Rattle.word.specs.Found.{passing, keyOf, longestKeyword, keyIndex, keyCommon, mostKey, spellingsOf, keysOf, hexDigit, firstOf, mayCommand};
 ghost use Rattle.word.specs.Found.{AnswerIs, WordIs, lettersAt, lettersLeft, decimalAt, decimalLeft, hexAt, quotedAt, quotedLeft, symbolAt};
 
 pub mod sign;
@@ -244,7 +244,7 @@ fn last_parting(keys: &[u64], text: &[u8], from: usize) -> usize
 // The letter at which the last keyword parts from the letters at `from`. It is asked for only where no word stands.
 fn parting(text: &[u8], from: usize, commands: bool) -> usize
     requires { ⌜ from < length (now text) ⌝ }
-    ensures { λ r. ⌜ r ≡ from + mostCommon (tableOf commands) (drop from (now (text .entry))) ⌝ }
+    ensures { λ r. ⌜ r ≡ from + mostCommon (spellingsOf commands) (drop from (now (text .entry))) ⌝ }
 {
     if commands {
         last_parting(&COMMANDS, text, from)
@@ -257,7 +257,7 @@ fn parting(text: &[u8], from: usize, commands: bool) -> usize
 // letter alone, so most letters need no look into the lists.
 fn letters(text: &[u8], from: usize, commands: bool) -> Word
     requires { ⌜ (from < length (now text)) × (isCapital (getD (now text) from 0) ≡ true) ⌝ }
-    ensures { λ r. ⌜ AnswerIs (lettersAt (tableOf commands)) (lettersLeft (tableOf commands)) (now (text .entry)) from r ⌝ }
+    ensures { λ r. ⌜ AnswerIs (lettersAt (spellingsOf commands)) (lettersLeft (spellingsOf commands)) (now (text .entry)) from r ⌝ }
 {
     let next = from + 1;
     if !letter_at(text, next) {
@@ -401,7 +401,7 @@ fn symbol(text: &[u8], from: usize) -> Word
 // The word at a cursor, past any spaces, by the keywords or by the commands. Every word is read here, so the loop over the
 // spaces answers by itself where the text ends: nothing is tested twice.
 fn word_in(text: &[u8], from: usize, commands: bool) -> Word
-    ensures { λ r. ⌜ WordIs (tableOf commands) (now (text .entry)) from r ⌝ }
+    ensures { λ r. ⌜ WordIs (spellingsOf commands) (now (text .entry)) from r ⌝ }
 {
     let mut i = from;
     loop {

@@ -5,6 +5,7 @@ ghost use lib.ListN.{length};
 ghost use Rattle.world.specs.Hearing.{heard, hearing, slotsOf, replyCount};
 use letter::Gathering;
 use letter::gather;
+use nibl::stop;
 use value::Wrote;
 use value::write_item;
 
@@ -21,11 +22,11 @@ pub fn ask(input: &[u8], inpos: usize, output: &mut [u8], outpos: usize, reply: 
     ensures room { λ r. ⌜ replyCount r ≤ length (now (reply .exit)) ⌝ }
 {
     let Wrote::To(next) = write_item(output, outpos, b"?") else {
-        return Reply::No(17, inpos, outpos);
+        return Reply::No(stop::OUTPUT_FULL, inpos, outpos);
     };
     match gather(input, inpos, reply) {
-        Gathering::NoCr => Reply::No(7, inpos, next),
-        Gathering::TooLong(at) => Reply::No(6, at, next),
+        Gathering::NoCr => Reply::No(stop::NO_CR, inpos, next),
+        Gathering::TooLong(at) => Reply::No(stop::BAD_REPLY, at, next),
         Gathering::Line(at, n) => Reply::Line(n, at, next),
     }
 }

@@ -16,6 +16,7 @@ use nibl::Place;
 use nibl::PlaceStack;
 use nibl::Top;
 use nibl::TopFor;
+use nibl::stop;
 use page::FoundLine;
 
 // How a statement ends: on to the next one, to the next record, to where a line or a place says, or with a stop.
@@ -74,7 +75,7 @@ fn after(p: Place) -> Way
     ensures { λ r. ⌜ wayOf r ≡ Rattle.nibl.specs.Meaning.after p ⌝ }
 {
     if p.is_mark() {
-        return Way::Stop(0);
+        return Way::Stop(stop::DONE);
     }
     go_past(p)
 }
@@ -85,7 +86,7 @@ pub fn go_to(page: &[u8], n: u16, table: &[u16]) -> Way
     ensures { λ r. ⌜ wayOf r ≡ wayTo (reached (find (now (page .entry)) n)) ⌝ }
 {
     match table::find_line(page, LineNumber(n), table) {
-        FoundLine::Nothing => Way::Stop(8),
+        FoundLine::Nothing => Way::Stop(stop::NO_SUCH_LINE),
         FoundLine::At(o) => Way::Go(o),
     }
 }
@@ -103,7 +104,7 @@ fn keep(stack: PlaceStack, here: Place, way: Way) -> Turn
         };
     }
     Turn {
-        way: Way::Stop(10),
+        way: Way::Stop(stop::TOO_DEEP),
         stack: stack,
     }
 }
@@ -115,7 +116,7 @@ pub fn go_sub(page: &[u8], n: u16, here: Place, stack: PlaceStack, table: &[u16]
 {
     match table::find_line(page, LineNumber(n), table) {
         FoundLine::Nothing => Turn {
-            way: Way::Stop(8),
+            way: Way::Stop(stop::NO_SUCH_LINE),
             stack: stack,
         },
         FoundLine::At(o) => keep(stack, here, Way::Go(o)),
@@ -131,7 +132,7 @@ pub fn return_from(stack: PlaceStack) -> Turn
     let top = popped.top;
     match top {
         Top::Empty => Turn {
-            way: Way::Stop(9),
+            way: Way::Stop(stop::NO_GOSUB),
             stack: stack,
         },
         Top::At(p) => Turn {
@@ -155,7 +156,7 @@ pub fn until(stack: PlaceStack, x: u16) -> Turn
     let top = stack.top();
     let Top::At(p) = top else {
         return Turn {
-            way: Way::Stop(15),
+            way: Way::Stop(stop::NO_DO),
             stack: stack,
         };
     };
@@ -201,7 +202,7 @@ pub fn for_here(
         };
     }
     ForTurn {
-        way: Way::Stop(10),
+        way: Way::Stop(stop::TOO_DEEP),
         stack: stack,
     }
 }
@@ -233,13 +234,13 @@ pub fn next_of(stack: ForStack, vars: &mut [u16], v: u8) -> ForTurn
     let top = stack.top();
     let TopFor::Entry(entry) = top else {
         return ForTurn {
-            way: Way::Stop(11),
+            way: Way::Stop(stop::NO_FOR),
             stack: stack,
         };
     };
     if entry.var != v {
         return ForTurn {
-            way: Way::Stop(12),
+            way: Way::Stop(stop::OTHER_VARIABLE),
             stack: stack,
         };
     }

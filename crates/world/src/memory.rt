@@ -9,6 +9,7 @@ ghost use Rattle.nibl.specs.Values.{is};
 ghost use Rattle.nibl.specs.Meaning.{bind, byteOf, stringAt, storeAt};
 ghost use Rattle.value.specs.Operators.{valueOf};
 ghost use Rattle.world.specs.Stores.{extentOf, storeGave, storeLeaves, argsOf};
+use nibl::stop;
 use page::move_bytes;
 use value::Value;
 use value::write_item;
@@ -31,7 +32,7 @@ pub fn byte_of(memory: &[u8], a: u16) -> Value
 {
     let i = a as usize;
     if memory.len() <= i {
-        return Value::No(16);
+        return Value::No(stop::NO_MEMORY);
     }
     Value::Is(memory[i] as u16)
 }
@@ -47,7 +48,7 @@ pub fn string_end(memory: &[u8], a: u16) -> Extent
         }
         i += 1;
     }
-    Extent::No(16)
+    Extent::No(stop::NO_MEMORY)
 }
 
 // Whether n bytes from a position on are all in memory.
@@ -66,7 +67,7 @@ pub fn store_byte(memory: &mut [u8], a: u16, x: u16) -> StoreEnd
 {
     let i = a as usize;
     if memory.len() <= i {
-        return StoreEnd::No(16);
+        return StoreEnd::No(stop::NO_MEMORY);
     }
     memory[i] = (x % 256) as u8;
     StoreEnd::Done
@@ -78,7 +79,7 @@ pub fn store_args(memory: &mut [u8], a: u16, ops: &[u32]) -> StoreEnd
 {
     let at = a as usize;
     if !has_room(memory, at, ops.len()) {
-        return StoreEnd::No(16);
+        return StoreEnd::No(stop::NO_MEMORY);
     }
     let mut i: usize = 0;
     while i < ops.len() {
@@ -95,7 +96,7 @@ pub fn store_text(memory: &mut [u8], a: u16, text: &[u8]) -> StoreEnd
     let at = a as usize;
     let n = text.len();
     if !has_room(memory, at, n + 1) {
-        return StoreEnd::No(16);
+        return StoreEnd::No(stop::NO_MEMORY);
     }
     write_item(memory, at, text);
     memory[at + n] = nibl::CR;
@@ -113,7 +114,7 @@ pub fn copy_string(memory: &mut [u8], to: u16, from: u16) -> StoreEnd
             if move_bytes(memory, first, to as usize, end + 1 - first) {
                 return StoreEnd::Done;
             }
-            StoreEnd::No(16)
+            StoreEnd::No(stop::NO_MEMORY)
         }
     }
 }

@@ -7,7 +7,9 @@ use lib.Seq.{length-take-le}
 use Rattle.nibl.specs.Typing.{gather}
 use mathlib.Core.Bool.{Bool}
 use native.Mathlib.Omega.{arith}
-use Rattle.nibl.specs.Calls.{Lent, lentAll, hasTable, limit}
+use Rattle.nibl.specs.Lent.{Lent, lentAll}
+use Rattle.nibl.specs.Typing.{limit}
+use Rattle.nibl.specs.FirstRefusals.{hasTable}
 use Rattle.nibl.specs.declared.Call.{Call}
 use Rattle.page.proofs.Walk.{by-cases}
 use Rattle.calls.specs.Past.{pastRefusals}

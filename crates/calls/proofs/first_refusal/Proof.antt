@@ -2,7 +2,7 @@
 use mathlib.Core.Path.{sym, _∙_}
 use borrow.Author.Tests.{not-true, not-false}
 use borrow.Author.Needs.{needs}
-use Rattle.nibl.specs.Calls.{firstRefusal}
+use Rattle.nibl.specs.FirstRefusals.{firstRefusal}
 use Rattle.calls.proofs.first_refusal.Statement.{statement}
 use Rattle.calls.proofs.first_refusal.Tie as tie
 

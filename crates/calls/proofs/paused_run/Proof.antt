@@ -1,7 +1,7 @@
 -- `paused_run` meets its contract: by the record's pause. Assumes nothing.
 use mathlib.Core.Path.{_∙_}
 use lib.ListN.{length}
-use Rattle.nibl.specs.Calls.{Lent, lentAll}
+use Rattle.nibl.specs.Lent.{Lent, lentAll}
 use Rattle.calls.proofs.First.{pause-is, nothing-goes-on, goes-on}
 use borrow.Author.Needs.{needs}
 use Rattle.calls.proofs.paused_run.Statement.{statement}

@@ -1,7 +1,7 @@
 use mathlib.Core.Path.{refl, sym, subst, _∙_}
 use native.Mathlib.Omega.{arith}
 use lib.ListN.{drop}
-use Rattle.nibl.specs.Read.{read, relation, fail}
+use Rattle.nibl.specs.found.Read.{read, relation, fail}
 use Rattle.relation.specs.Code.{values}
 use Rattle.relation.specs.Makes.{Makes}
 use Rattle.relation.proofs.Answers.{got, none}

@@ -7,7 +7,7 @@ use lib.ListN.{length, drop, length-drop}
 use mathlib.Core.Logic.{⊎-elim}
 use Rattle.line.proofs.Lists.{no-first-at, first-at, left-fits, list-none, list-ends, list-on, met-here, met-not}
 use borrow.Author.Needs.{needs}
-use Rattle.nibl.specs.Read.{reading}
+use Rattle.nibl.specs.found.Read.{reading}
 use Rattle.line.specs.Answers.{membersOf}
 use Rattle.line.proofs.members.Statement.{statement}
 use Rattle.line.proofs.members.Tie as tie

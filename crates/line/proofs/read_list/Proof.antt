@@ -1,7 +1,7 @@
 use Prim.Native.Nat.{ℕ}
 use mathlib.Core.Path.{sym, ap, _∙_}
 use lib.ListN.{length, replicate}
-use Rattle.nibl.specs.Read.{reading}
+use Rattle.nibl.specs.found.Read.{reading}
 use Rattle.line.proofs.Lists.{shut, opened, list-reads, list-fails}
 use borrow.Author.Tests.{not-true, not-false}
 use borrow.Author.Needs.{needs}

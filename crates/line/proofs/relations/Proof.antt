@@ -2,7 +2,7 @@ use Prim.Native.Nat.{ℕ}
 use mathlib.Core.Path.{_≡_, refl, sym, ap, _∙_}
 use native.Mathlib.Omega.{arith}
 use lib.ListN.{length, drop}
-use Rattle.nibl.specs.Read.{replied}
+use Rattle.nibl.specs.found.Read.{replied}
 use Rattle.line.specs.Answers.{listOf}
 use Rattle.line.proofs.Lists.{room-for, room-less}
 use Rattle.line.proofs.Replies.{key-told, more-none, more-on, no-reply, pair-none, pair-found}

@@ -2,7 +2,7 @@ use Prim.Native.Nat.{ℕ}
 use mathlib.Core.Path.{refl, sym, ap, subst, _∙_}
 use native.Mathlib.Omega.{arith}
 use lib.ListN.{length, replicate}
-use Rattle.nibl.specs.Read.{read, relation}
+use Rattle.nibl.specs.found.Read.{read, relation}
 use Rattle.relation.specs.Code.{values}
 use Rattle.relation.specs.Makes.{Makes}
 use Rattle.line.specs.Answers.{relationOf, relationOps}

@@ -5,7 +5,7 @@ use mathlib.Core.Bool.{true}
 use native.Mathlib.Omega.{arith}
 use lib.ListN.{length, drop, length-take}
 use lib.Seq.{length-take-le}
-use Rattle.nibl.specs.Read.{replied}
+use Rattle.nibl.specs.found.Read.{replied}
 use Rattle.reader.specs.Answers.{hasRoom}
 use Rattle.line.specs.Answers.{listOf}
 use Rattle.line.specs.declared.ListRead.the-variants as list

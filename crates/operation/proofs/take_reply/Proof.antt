@@ -1,7 +1,7 @@
 -- `take_reply` meets its contract: where there is no reply nothing is assigned. Assumes nothing.
 use mathlib.Core.Path.{sym, _∙_}
 use native.Mathlib.Omega.{arith}
-use Rattle.nibl.specs.Read.{replied}
+use Rattle.nibl.specs.found.Read.{replied}
 use Rattle.line.proofs.Lists.{room-less}
 use Rattle.operation.proofs.Replies.{reply-read, no-reply}
 use borrow.Author.Needs.{needs}

@@ -4,7 +4,7 @@ use mathlib.Core.Path.{_≡_, sym, ap, _∙_}
 use native.Mathlib.Omega.{arith}
 use lib.ListN.{length, take, drop}
 use borrow.Author.Needs.{needs}
-use Rattle.nibl.specs.Calls.{lineFrom}
+use Rattle.nibl.specs.Runs.{lineFrom}
 use Rattle.nibl.specs.Bytes.{notCR}
 use Rattle.page.proofs.Texts.{line-past, line-inside, front-part}
 use Rattle.page.proofs.line_from.Statement.{statement}

@@ -3,7 +3,7 @@ use Prim.Native.Nat.{_+_, _-_, _≤_}
 use mathlib.Core.Path.{_≡_, refl, ap}
 use native.Mathlib.Omega.{arith}
 use lib.ListN.{length}
-use Rattle.nibl.specs.Calls.{lineFrom}
+use Rattle.nibl.specs.Runs.{lineFrom}
 use Rattle.page.proofs.Texts.{line-past, line-ends, line-goes}
 use Rattle.page.proofs.text_end.Statement.{statement}
 use Rattle.page.proofs.text_end.Tie as tie

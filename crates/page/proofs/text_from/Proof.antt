@@ -2,7 +2,7 @@
 use mathlib.Core.Path.{sym, _∙_}
 use native.Mathlib.Omega.{arith}
 use borrow.Author.Needs.{needs}
-use Rattle.nibl.specs.Calls.{textFrom}
+use Rattle.nibl.specs.Runs.{textFrom}
 use Rattle.page.proofs.text_from.Statement.{statement}
 use Rattle.page.proofs.text_from.Tie as tie
 

@@ -3,7 +3,7 @@ use mathlib.Core.Path.{_≡_, sym, ap, _∙_}
 use mathlib.Core.Bool.{Bool}
 use lib.ListN.{length}
 use borrow.Author.Needs.{needs}
-use Rattle.nibl.specs.Read.{reading}
+use Rattle.nibl.specs.found.Read.{reading}
 use Rattle.nibl.specs.Page.{endsOf, isAmong}
 use Rattle.line.specs.declared.EndRead.the-variants as end
 use Rattle.places.proofs.Asked.{with-room, saysEnd}

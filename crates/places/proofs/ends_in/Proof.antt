@@ -5,7 +5,7 @@ use mathlib.Core.Path.{_≡_, sym, ap, _∙_}
 use native.Mathlib.Omega.{arith}
 use lib.ListN.{length, drop}
 use borrow.Author.Needs.{needs}
-use Rattle.nibl.specs.Read.{reading}
+use Rattle.nibl.specs.found.Read.{reading}
 use Rattle.nibl.specs.Page.{textAt, endsOf, isAmong}
 use Rattle.page.proofs.Walk.{Met, met}
 use Rattle.page.proofs.Listings.{text-part}

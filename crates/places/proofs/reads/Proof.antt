@@ -1,7 +1,7 @@
 -- `reads` meets its contract: there is room for a record's text, so the answer is about its reading. Assumes nothing.
 use mathlib.Core.Path.{_≡_, sym, ap, _∙_}
 use borrow.Author.Needs.{needs}
-use Rattle.nibl.specs.Read.{reading}
+use Rattle.nibl.specs.found.Read.{reading}
 use Rattle.nibl.specs.Page.{hasReading}
 use Rattle.line.specs.Answers.{listOf}
 use Rattle.line.specs.declared.ListRead.the-variants as list

@@ -1,6 +1,6 @@
 -- `reader::form` meets its contract. Assumes nothing.
 use native.Mathlib.Omega.{arith}
-use Rattle.nibl.specs.Read.{statementCases, statement as aStatement}
+use Rattle.nibl.specs.found.Read.{statementCases, statement as aStatement}
 use Rattle.relation.proofs.Signs.{_but_, noneLeft}
 use Rattle.reader.proofs.Spending.{room-low, room-write, looser}
 use Rattle.reader.proofs.Ways.{case-at, goto-is, gosub-is, until-is, next-is, return-is, do-is, end-is, form-let}

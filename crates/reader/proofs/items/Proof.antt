@@ -2,7 +2,7 @@
 use mathlib.Core.Path.{_∙_, subst}
 use native.Mathlib.Omega.{arith}
 use borrow.Author.Needs.{needs}
-use Rattle.nibl.specs.Read.{anItem, joined}
+use Rattle.nibl.specs.found.Read.{anItem, joined}
 use Rattle.relation.specs.Makes.{ahead}
 use Rattle.relation.proofs.Signs.{stood-over}
 use Rattle.reader.specs.Code.{itemsCode}

@@ -1,6 +1,6 @@
 -- `reader::let_form` meets its contract. Assumes nothing.
 use native.Mathlib.Omega.{arith}
-use Rattle.nibl.specs.Read.{letCases}
+use Rattle.nibl.specs.found.Read.{letCases}
 use Rattle.relation.proofs.Signs.{_but_, noneLeft}
 use Rattle.reader.proofs.Spending.{room-low, room-reads, room-key}
 use Rattle.reader.proofs.Ways.{case-at, case-none, stat-is, byte-is, text-is}

@@ -3,7 +3,7 @@
 use mathlib.Core.Path.{_∙_, subst}
 use native.Mathlib.Omega.{arith}
 use borrow.Author.Needs.{needs}
-use Rattle.nibl.specs.Read.{statement}
+use Rattle.nibl.specs.found.Read.{statement}
 use Rattle.relation.specs.Makes.{ahead}
 use Rattle.reader.specs.Code.{compile}
 use Rattle.reader.specs.Forms.{FrontIs}

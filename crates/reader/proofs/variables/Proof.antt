@@ -2,7 +2,7 @@
 use mathlib.Core.Path.{_∙_, subst}
 use native.Mathlib.Omega.{arith}
 use borrow.Author.Needs.{needs}
-use Rattle.nibl.specs.Read.{aVariable, joined}
+use Rattle.nibl.specs.found.Read.{aVariable, joined}
 use Rattle.codes.specs.Codes.{codeInputVariable}
 use Rattle.relation.specs.Makes.{ahead}
 use Rattle.relation.proofs.Signs.{stood-over}

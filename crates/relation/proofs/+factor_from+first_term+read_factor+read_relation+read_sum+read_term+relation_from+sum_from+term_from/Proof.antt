@@ -5,7 +5,7 @@ use native.Mathlib.Omega.{arith}
 use lib.ListN.{length}
 use borrow.Author.Needs.{needs}
 use Rattle.nibl.specs.Grammar.{factorJoints, termJoints, sumJoints}
-use Rattle.nibl.specs.Read.{read, factor, term, factors, terms}
+use Rattle.nibl.specs.found.Read.{read, factor, term, factors, terms}
 use Rattle.nibl.proofs.Sound.{read-factors, read-terms}
 use Rattle.relation.specs.Makes.{ahead, need, JointIs, LeadIs, AtomIs}
 use Rattle.relation.proofs.Signs.{stood-over}

@@ -9,7 +9,7 @@ use lib.Seq.{length-take-le}
 use borrow.Author.Needs.{needs}
 use borrow.Author.Tests.{not-false}
 use Rattle.nibl.specs.Page.{isGood}
-use Rattle.nibl.specs.Calls.{limit}
+use Rattle.nibl.specs.Typing.{limit}
 use Rattle.page.proofs.Tables.{table-fits, refilled-true, refilled-long}
 use Rattle.table.specs.Index.{Indexed, lent, keptTrue}
 use Rattle.table.proofs.Index.{kept-some, good-described}

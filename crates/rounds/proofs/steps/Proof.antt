@@ -3,7 +3,7 @@ use mathlib.Core.Path.{refl, sym, _∙_}
 use native.Mathlib.Omega.{arith}
 use borrow.Author.Needs.{needs}
 use borrow.Author.Tests.{not-false}
-use Rattle.nibl.specs.Calls.{limit}
+use Rattle.nibl.specs.Typing.{limit}
 use Rattle.nibl.specs.Record.{nowhere}
 use Rattle.record.proofs.Fitted.{known-sized, sound-fit, fit-paused}
 use Rattle.rounds.proofs.steps.Statement.{statement}

@@ -6,7 +6,7 @@ use mathlib.Core.Path.{_≡_, sym, ap, _∙_}
 use native.Mathlib.Omega.{arith}
 use lib.ListN.{length}
 use Rattle.nibl.specs.Record.{positionOf}
-use Rattle.nibl.specs.Calls.{lineFrom, textFrom}
+use Rattle.nibl.specs.Runs.{lineFrom, textFrom}
 use Rattle.page.specs.Walk.{beginOf}
 use Rattle.line.proofs.Lists.{First}
 use Rattle.run.specs.Fetching.{TextRoom}

@@ -9,7 +9,7 @@ use lib.Seq.{length-take-le}
 use Rattle.nibl.specs.Page.{lineOf, placesOf}
 use Rattle.nibl.specs.Record.{mark, place, positionOf}
 use Rattle.nibl.specs.Meaning.{World, Env, Done, go}
-use Rattle.nibl.specs.Calls.{Standing, stopAt, runFrom, runOutcome}
+use Rattle.nibl.specs.Runs.{Standing, stopAt, runFrom, runOutcome}
 use Rattle.nibl.specs.declared.Place.{Place}
 use Rattle.nibl.specs.declared.Parts.{Parts}
 use Rattle.nibl.specs.declared.Onward.{Onward}
@@ -24,7 +24,8 @@ use Rattle.world.specs.Turns.{turned, turnedFor, gosubsIn, dosIn, forsIn}
 use Rattle.world.specs.declared.jump.Turn.{Turn}
 use Rattle.world.specs.declared.jump.ForTurn.{ForTurn}
 use Rattle.effect.specs.Acts.{callTurn, loopTurn, countTurn}
-use Rattle.effect.specs.Worlds.{worldWith, envWith, did, didIn, withGosubsIn, withDosIn, withForsIn}
+use Rattle.effect.specs.Worlds.{worldWith, envWith, did, didIn}
+use Rattle.nibl.specs.Record.{withGosubsIn, withDosIn, withForsIn}
 use Rattle.statement.specs.Lending.{Fair}
 use Rattle.statement.specs.Plain.{Around}
 use Rattle.statement.specs.declared.Plain.the-variants as plain

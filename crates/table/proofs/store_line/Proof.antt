@@ -6,7 +6,7 @@ use borrow.Author.Needs.{needs}
 use lib.ListN.{take}
 use Rattle.nibl.specs.Page.{recordsOf}
 use Rattle.page.specs.declared.Seat.{Seat}
-use Rattle.page.specs.Edits.{storeAt, storeOf}
+use Rattle.page.specs.Edits.{storeAtSeat, storeOf}
 use Rattle.page.proofs.Ways.{Way}
 use Rattle.page.proofs.Determined.{page-is}
 use Rattle.table.specs.Spots.{below}
@@ -25,7 +25,7 @@ refill-requires c κs h =
     let at = f .find-spot .ensures in
     let page = a .page .now in
     let n = a .number .0 in
-    let is : e .store-at .last .0 ≡ storeAt page (spot .seat) n (a .text .now) .page = sym (page-is (e .store-at .last .0) (e .store-at .result)) ∙ (λ i. e .store-at .ensures i .page) in
+    let is : e .store-at .last .0 ≡ storeAtSeat page (spot .seat) n (a .text .now) .page = sym (page-is (e .store-at .last .0) (e .store-at .result)) ∙ (λ i. e .store-at .ensures i .page) in
     edit-front n (spot .index) (spot .seat) (described (s .pre) h) (e .store-at .kept .0) (at .index h)
     (subst (λ (p : List ℕ). Way p 0 (spot .seat .at) (take (below n (recordsOf page)) (recordsOf page))) (sym is) (store-way page (spot .seat) (at .seated .sits) (seat-way (at .seated)) n (a .text .now)))
 
@@ -36,7 +36,7 @@ returns c =
     let e = r .before .before .before .before .before in
     let f = e .before .before .before in
     let a = f .before .before .before .before .before .before .args in
-    (e .store-at .ensures ∙ ap (λ (s : Seat). storeAt (a .page .now) s (a .number .0) (a .text .now)) (f .find-spot .ensures .seated .is), r .refill .ensures)
+    (e .store-at .ensures ∙ ap (λ (s : Seat). storeAtSeat (a .page .now) s (a .number .0) (a .text .now)) (f .find-spot .ensures .seated .is), r .refill .ensures)
 
 pub store-line-spec : {M : Type 1} → statement M
 store-line-spec =

@@ -5,14 +5,14 @@ use mathlib.Core.Path.{_∙_, sym}
 use borrow.Author.Needs.{needs}
 use borrow.Author.Tests.{not-true, not-false}
 use Rattle.nibl.specs.Bytes.{isCapital}
-use Rattle.word.specs.Found.{tableOf}
+use Rattle.word.specs.Found.{spellingsOf}
 use Rattle.word.proofs.Runs.{between, end-within}
 use Rattle.word.proofs.Capitals.{Tried, tried-first, tried-on, letters-one, letters-sign, letters-wrong}
 use Rattle.word.proofs.letters.Statement.{statement}
 use Rattle.word.proofs.letters.Tie as tie
 
 abbrev Inv-loop : tie.InvT-loop
-Inv-loop text from commands next to₀ to = Tried (tableOf commands) text from to
+Inv-loop text from commands next to₀ to = Tried (spellingsOf commands) text from to
 
 abbrev μ-loop : tie.MeasureT-loop
 μ-loop text from commands next to₀ to = to

@@ -7,7 +7,7 @@ use borrow.Author.Needs.{needs}
 use borrow.Author.Tests.{not-true, not-false}
 use lib.ListN.{length}
 use Rattle.nibl.specs.Bytes.{isSpace}
-use Rattle.word.specs.Found.{tableOf}
+use Rattle.word.specs.Found.{spellingsOf}
 use Rattle.word.proofs.Runs.{runEnd, end-go, end-here, stops-at, stops-end}
 use Rattle.word.proofs.Answers.{is-capital, is-digit, found-end, found-letters, found-decimal, found-hex, found-quoted, found-symbol}
 use Rattle.word.proofs.word_in.Statement.{statement}
@@ -27,7 +27,7 @@ returns c =
     let a = c .before .before .before .args in
     let l = c .before .loop in
     let t = a .text .now in
-    found-end (tableOf (a .commands)) t (a .from) (l .i) (end-here isSpace t (a .from) (l .i) (l .inv) (stops-end isSpace t (l .i) (c .if1 .taken))) (c .if1 .taken)
+    found-end (spellingsOf (a .commands)) t (a .from) (l .i) (end-here isSpace t (a .from) (l .i) (l .inv) (stops-end isSpace t (l .i) (c .if1 .taken))) (c .if1 .taken)
 
 loop-again : tie.Need-loop-again Inv-loop μ-loop
 loop-again c =
@@ -48,35 +48,35 @@ letters-requires c κs =
     let x = c .before in
     let a = x .before .before .before .before .before .before .before .before .args in
     let k = x .class-by-range in
-    (search needs, is-capital (tableOf (a .commands)) (a .text .now) (a .from) (x .before .before .before .before .before .before .loop .i) (ended x) (omega arith) (k .result) (k .ensures .0) (c .match .keys1))
+    (search needs, is-capital (spellingsOf (a .commands)) (a .text .now) (a .from) (x .before .before .before .before .before .before .loop .i) (ended x) (omega arith) (k .result) (k .ensures .0) (c .match .keys1))
 
 decimal-requires : tie.Need-decimal-requires Inv-loop μ-loop
 decimal-requires c κs =
     let x = c .before in
     let a = x .before .before .before .before .before .before .before .before .args in
     let k = x .class-by-range in
-    (search needs, is-digit (tableOf (a .commands)) (a .text .now) (a .from) (x .before .before .before .before .before .before .loop .i) (ended x) (omega arith) (k .result) (k .ensures .0) (c .match .keys2))
+    (search needs, is-digit (spellingsOf (a .commands)) (a .text .now) (a .from) (x .before .before .before .before .before .before .loop .i) (ended x) (omega arith) (k .result) (k .ensures .0) (c .match .keys2))
 
 returns-3 : tie.Need-returns-3 Inv-loop μ-loop
 returns-3 c =
     let x = c .before .before in
     let a = x .before .before .before .before .before .before .before .before .args in
     let k = x .class-by-range in
-    found-letters (tableOf (a .commands)) (a .text .now) (a .from) (x .before .before .before .before .before .before .loop .i) (ended x) (omega arith) (k .result) (k .ensures .0) (c .letters .result) (c .before .match .keys1) (c .letters .ensures)
+    found-letters (spellingsOf (a .commands)) (a .text .now) (a .from) (x .before .before .before .before .before .before .loop .i) (ended x) (omega arith) (k .result) (k .ensures .0) (c .letters .result) (c .before .match .keys1) (c .letters .ensures)
 
 returns-4 : tie.Need-returns-4 Inv-loop μ-loop
 returns-4 c =
     let x = c .before .before in
     let a = x .before .before .before .before .before .before .before .before .args in
     let k = x .class-by-range in
-    found-decimal (tableOf (a .commands)) (a .text .now) (a .from) (x .before .before .before .before .before .before .loop .i) (ended x) (omega arith) (k .result) (k .ensures .0) (c .decimal .result) (c .before .match .keys2) (c .decimal .ensures)
+    found-decimal (spellingsOf (a .commands)) (a .text .now) (a .from) (x .before .before .before .before .before .before .loop .i) (ended x) (omega arith) (k .result) (k .ensures .0) (c .decimal .result) (c .before .match .keys2) (c .decimal .ensures)
 
 returns-5 : tie.Need-returns-5 Inv-loop μ-loop
 returns-5 c =
     let x = c .before .before in
     let a = x .before .before .before .before .before .before .before .before .args in
     let k = x .class-by-range in
-    found-quoted (tableOf (a .commands)) (a .text .now) (a .from) (x .before .before .before .before .before .before .loop .i) (ended x) (omega arith) (k .result) (k .ensures .0) (c .quoted .result) (c .before .match .keys3) (c .quoted .ensures)
+    found-quoted (spellingsOf (a .commands)) (a .text .now) (a .from) (x .before .before .before .before .before .before .loop .i) (ended x) (omega arith) (k .result) (k .ensures .0) (c .quoted .result) (c .before .match .keys3) (c .quoted .ensures)
 
 returns-2 : tie.Need-returns-2 Inv-loop μ-loop
 returns-2 c =
@@ -84,7 +84,7 @@ returns-2 c =
     let a = x .before .before .before .before .before .before .before .before .args in
     let k = x .class-by-range in
     let o = c .before .before .match .rest in
-    found-hex (tableOf (a .commands)) (a .text .now) (a .from) (x .before .before .before .before .before .before .loop .i) (ended x) (omega arith) (k .result) (k .ensures .0) (o .0 .0 .1) (o .0 .1) (c .hex .result) (c .before .if3 .taken) (c .hex .ensures)
+    found-hex (spellingsOf (a .commands)) (a .text .now) (a .from) (x .before .before .before .before .before .before .loop .i) (ended x) (omega arith) (k .result) (k .ensures .0) (o .0 .0 .1) (o .0 .1) (c .hex .result) (c .before .if3 .taken) (c .hex .ensures)
 
 returns-6 : tie.Need-returns-6 Inv-loop μ-loop
 returns-6 c =
@@ -92,7 +92,7 @@ returns-6 c =
     let a = x .before .before .before .before .before .before .before .before .args in
     let k = x .class-by-range in
     let o = c .before .before .match .rest in
-    found-symbol (tableOf (a .commands)) (a .text .now) (a .from) (x .before .before .before .before .before .before .loop .i) (ended x) (omega arith) (k .result) (k .ensures .0) (o .0 .0 .1) (o .0 .1) (c .symbol .result) (o .1) (c .before .if3 .left) (c .symbol .ensures)
+    found-symbol (spellingsOf (a .commands)) (a .text .now) (a .from) (x .before .before .before .before .before .before .loop .i) (ended x) (omega arith) (k .result) (k .ensures .0) (o .0 .0 .1) (o .0 .1) (c .symbol .result) (o .1) (c .before .if3 .left) (c .symbol .ensures)
 
 pub word-in-spec : {M : Type 1} → statement M
 word-in-spec =

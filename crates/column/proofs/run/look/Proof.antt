@@ -1,7 +1,7 @@
 -- `run::look` meets its contract: a word as the rules know it. Assumes nothing.
 use mathlib.Core.Path.{subst}
 use borrow.Author.Needs.{needs}
-use Rattle.word.specs.Found.{tableOf, WordIs}
+use Rattle.word.specs.Found.{spellingsOf, WordIs}
 use Rattle.column.proofs.Steps.{next-is}
 use Rattle.column.proofs.run.look.Statement.{statement}
 use Rattle.column.proofs.run.look.Tie as tie
@@ -33,37 +33,37 @@ enum-known-w-6 c = search needs
 returns : tie.Need-returns
 returns c =
     let a = c .before .before .before .before .before .args in
-    next-is (tableOf (a .commands)) (a .text .now) (a .at) (subst (WordIs (tableOf (a .commands)) (a .text .now) (a .at)) (c .before .w .given .1) (c .before .before .before .word-in .ensures))
+    next-is (spellingsOf (a .commands)) (a .text .now) (a .at) (subst (WordIs (spellingsOf (a .commands)) (a .text .now) (a .at)) (c .before .w .given .1) (c .before .before .before .word-in .ensures))
 
 returns-2 : tie.Need-returns-2
 returns-2 c =
     let a = c .before .before .before .before .before .args in
-    next-is (tableOf (a .commands)) (a .text .now) (a .at) (subst (WordIs (tableOf (a .commands)) (a .text .now) (a .at)) (c .before .w2 .given .1) (c .before .before .before .word-in .ensures))
+    next-is (spellingsOf (a .commands)) (a .text .now) (a .at) (subst (WordIs (spellingsOf (a .commands)) (a .text .now) (a .at)) (c .before .w2 .given .1) (c .before .before .before .word-in .ensures))
 
 returns-3 : tie.Need-returns-3
 returns-3 c =
     let a = c .before .before .before .before .before .args in
-    next-is (tableOf (a .commands)) (a .text .now) (a .at) (subst (WordIs (tableOf (a .commands)) (a .text .now) (a .at)) (c .before .w3 .given .1) (c .before .before .before .word-in .ensures))
+    next-is (spellingsOf (a .commands)) (a .text .now) (a .at) (subst (WordIs (spellingsOf (a .commands)) (a .text .now) (a .at)) (c .before .w3 .given .1) (c .before .before .before .word-in .ensures))
 
 returns-4 : tie.Need-returns-4
 returns-4 c =
     let a = c .before .before .before .before .before .args in
-    next-is (tableOf (a .commands)) (a .text .now) (a .at) (subst (WordIs (tableOf (a .commands)) (a .text .now) (a .at)) (c .before .w4 .given .1) (c .before .before .before .word-in .ensures))
+    next-is (spellingsOf (a .commands)) (a .text .now) (a .at) (subst (WordIs (spellingsOf (a .commands)) (a .text .now) (a .at)) (c .before .w4 .given .1) (c .before .before .before .word-in .ensures))
 
 returns-5 : tie.Need-returns-5
 returns-5 c =
     let a = c .before .before .before .before .before .args in
-    next-is (tableOf (a .commands)) (a .text .now) (a .at) (subst (WordIs (tableOf (a .commands)) (a .text .now) (a .at)) (c .before .w5 .given .1) (c .before .before .before .word-in .ensures))
+    next-is (spellingsOf (a .commands)) (a .text .now) (a .at) (subst (WordIs (spellingsOf (a .commands)) (a .text .now) (a .at)) (c .before .w5 .given .1) (c .before .before .before .word-in .ensures))
 
 returns-6 : tie.Need-returns-6
 returns-6 c =
     let a = c .before .before .before .before .args in
-    next-is (tableOf (a .commands)) (a .text .now) (a .at) (subst (WordIs (tableOf (a .commands)) (a .text .now) (a .at)) (c .enum-told .given .1) (c .before .before .word-in .ensures))
+    next-is (spellingsOf (a .commands)) (a .text .now) (a .at) (subst (WordIs (spellingsOf (a .commands)) (a .text .now) (a .at)) (c .enum-told .given .1) (c .before .before .word-in .ensures))
 
 returns-7 : tie.Need-returns-7
 returns-7 c =
     let a = c .before .before .before .before .before .args in
-    next-is (tableOf (a .commands)) (a .text .now) (a .at) (subst (WordIs (tableOf (a .commands)) (a .text .now) (a .at)) (c .before .w6 .given .1) (c .before .before .before .word-in .ensures))
+    next-is (spellingsOf (a .commands)) (a .text .now) (a .at) (subst (WordIs (spellingsOf (a .commands)) (a .text .now) (a .at)) (c .before .w6 .given .1) (c .before .before .before .word-in .ensures))
 
 pub look-spec : {M : Type 1} → statement M
 look-spec =
