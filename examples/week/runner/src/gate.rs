@@ -2,6 +2,8 @@
 
 use nibl::{Answer, Call, Controller, Stop};
 
+use crate::typed::Typed;
+
 const PAGE: usize = 4096;
 const MEMORY: usize = 19;
 const OUTPUT: usize = 8192;
@@ -9,7 +11,6 @@ const OUTPUT: usize = 8192;
 const BUDGET: usize = 1000;
 
 const CR: u8 = 13;
-const LF: u8 = 10;
 
 /// The bits of the sense byte that the boxes set.
 pub const TAKEN: u8 = 16;
@@ -25,6 +26,7 @@ const FLOW: usize = 7;
 const DAYS: usize = 8;
 const BLOCKED: usize = 9;
 const LAST_END: usize = 11;
+const LAST_START: usize = 13;
 const RULE: usize = 16;
 const INTERVAL: usize = 17;
 
@@ -42,7 +44,9 @@ pub struct Question {
     pub flow: u8,
     pub days: u8,
     pub blocked_until: u16,
-    pub last_end: i16,
+    /// The minutes at which she left the box after her last milking, and at which she had come in to it.
+    pub last_end: i32,
+    pub last_start: i32,
     pub sense: u8,
 }
 
@@ -51,7 +55,7 @@ pub struct Question {
 pub struct Decision {
     pub admitted: bool,
     pub rule: u8,
-    /// Minutes since the end of her last milking.
+    /// Her interval, as the program worked it out.
     pub interval: i16,
     /// The program line whose END decided, as the controller answered it.
     pub line: u16,
@@ -65,7 +69,7 @@ pub struct Gate {
 
 impl Gate {
     /// A gate with this rule book typed into an empty page.
-    pub fn with(book: &[u8]) -> Result<Gate, String> {
+    pub fn with(book: &Typed) -> Result<Gate, String> {
         let mut gate = Gate {
             controller: Controller::owned(PAGE, MEMORY).with_table(),
             output: vec![0; OUTPUT],
@@ -74,21 +78,25 @@ impl Gate {
         Ok(gate)
     }
 
-    /// Types lines, each ended by CR, one after the other. A line that is not taken is an error.
-    pub fn type_in(&mut self, lines: &[u8]) -> Result<(), String> {
-        let mut at = 0;
-        while lines[at..].contains(&CR) {
-            let answer = self.take(lines, Call::at(at, 0, BUDGET));
+    /// Types lines, one after the other. A line that is not taken is an error.
+    pub fn type_in(&mut self, typed: &Typed) -> Result<(), String> {
+        for (at, line) in typed.lines.iter().enumerate() {
+            let answer = self.take(&[line, &[CR][..]].concat(), Call::at(0, 0, BUDGET));
             if answer.stop != Stop::Done {
-                let typed = String::from_utf8_lossy(&lines[at..answer.inpos]);
-                return Err(format!("{:?} was refused, {}", typed.trim(), answer.stop));
+                let (name, text) = (&typed.name, String::from_utf8_lossy(line));
+                return Err(format!(
+                    "{name}, line {}: {:?} was refused, {}",
+                    at + 1,
+                    text.trim(),
+                    refusal(answer)
+                ));
             }
-            at = answer.inpos;
         }
-        match lines[at..].iter().all(|byte| *byte == LF) {
-            true => Ok(()),
-            false => Err("the last typed line does not end in CR".to_string()),
-        }
+        Ok(())
+    }
+
+    pub fn page(&self) -> &[u8] {
+        &self.controller.page
     }
 
     /// What LIST writes.
@@ -135,7 +143,11 @@ impl Gate {
         self.put(COW, question.cow);
         self.put(MINUTE, question.minute);
         self.put(BLOCKED, question.blocked_until);
-        self.put(LAST_END, question.last_end as u16);
+        self.put(LAST_END, lent_minute(question.last_end, question.minute));
+        self.put(
+            LAST_START,
+            lent_minute(question.last_start, question.minute),
+        );
         let memory = &mut self.controller.memory;
         memory[BOX] = question.at;
         memory[HOME] = question.home;
@@ -175,6 +187,21 @@ impl Gate {
             line += usize::from(page[line + 2]);
         }
         u16::from_be_bytes([page[line], page[line + 1]])
+    }
+}
+
+/// A minute of a last milking as it is lent. A program's numbers have 16 bits, so an interval of more than 32,767 minutes,
+/// 22 days, is lent as that long and no longer: it would come out below 0.
+fn lent_minute(last: i32, now: u16) -> u16 {
+    let earliest = i32::from(now) - i32::from(i16::MAX);
+    last.max(earliest) as u16
+}
+
+/// Why a typed line was refused, with the spot if there is one.
+fn refusal(answer: Answer) -> String {
+    match (answer.stop, answer.column) {
+        (Stop::NoReading, column) if column > 0 => format!("{} after column {column}", answer.stop),
+        (stop, _) => stop.to_string(),
     }
 }
 

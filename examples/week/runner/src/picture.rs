@@ -1,9 +1,11 @@
 //! The picture: one HTML file with all that it shows.
 
-use crate::barn::{Outcome, CHANGED};
-use crate::early::Early;
+use crate::case::Case;
+use crate::early::Wait;
 use crate::gate::Gate;
+use crate::rules::Rule;
 use crate::tables::Cow;
+use crate::told::{Entry, Told};
 
 const PAGE: &str = include_str!("picture.html");
 
@@ -11,44 +13,38 @@ const PAGE: &str = include_str!("picture.html");
 const DATA: &str = "/*DATA*/";
 
 /// A week under a name, for the picture.
-pub struct Told<'a> {
-    name: &'a str,
+pub struct Shown<'a> {
+    name: String,
     /// The rule program from the change on: what LIST writes.
     listing: String,
-    outcomes: &'a [Outcome],
-    early: &'a [Early],
+    told: &'a Told,
 }
 
-impl<'a> Told<'a> {
-    pub fn new(
-        name: &'a str,
-        gate: &mut Gate,
-        outcomes: &'a [Outcome],
-        early: &'a [Early],
-    ) -> Result<Told<'a>, String> {
-        Ok(Told {
+impl<'a> Shown<'a> {
+    pub fn new(name: String, gate: &mut Gate, told: &'a Told) -> Result<Shown<'a>, String> {
+        Ok(Shown {
             name,
             listing: gate.listing()?,
-            outcomes,
-            early,
+            told,
         })
     }
 }
 
-pub fn picture(herd: &[Cow], rules: &[String], weeks: &[Told]) -> String {
-    let mut data = format!("{{\"changed\":{CHANGED},\"rules\":[");
-    separated(&mut data, rules, |data, name| data.push_str(&quoted(name)));
+pub fn picture(case: &Case, weeks: &[Shown]) -> String {
+    let mut data = format!("{{\"changed\":{},\"rules\":[", case.changed);
+    separated(&mut data, &case.rules, |data, rule: &Rule| {
+        data.push_str(&quoted(&rule.name))
+    });
     data += "],\n\"herd\":[";
-    separated(&mut data, herd, cow);
+    separated(&mut data, &case.herd, cow);
     data += "],\n\"weeks\":[";
     separated(&mut data, weeks, |data, week| {
-        *data += &format!("{{\"name\":{},\n\"listing\":[", quoted(week.name));
+        *data += &format!("{{\"name\":{},\n\"listing\":[", quoted(&week.name));
         let lines: Vec<&str> = week.listing.lines().collect();
         separated(data, &lines, |data, line| listed(data, line));
         data.push_str("],\n\"visits\":[");
-        separated(data, week.outcomes, |data, outcome| {
-            visit(data, outcome, week.early)
-        });
+        let entries: Vec<Entry> = week.told.entries().collect();
+        separated(data, &entries, visit);
         data.push_str("]}");
     });
     data += "]}";
@@ -82,15 +78,15 @@ fn quoted(text: &str) -> String {
     format!("\"{inner}\"")
 }
 
-/// A visit as numbers: minute, box, cow, admitted, rule, interval, line, minutes milked, minutes too early.
-fn visit(data: &mut String, outcome: &Outcome, early: &[Early]) {
-    let (visit, decision) = (&outcome.visit, &outcome.decision);
-    let is_this = |early: &&Early| {
-        let other = &early.outcome.visit;
-        (other.minute, other.at) == (visit.minute, visit.at)
+/// A visit as numbers: minute, box, cow, admitted, rule, interval, line, minutes in the box, minutes too early.
+fn visit(data: &mut String, entry: &Entry) {
+    let (outcome, decision) = (entry.outcome, &entry.outcome.decision);
+    let by = match entry.early() {
+        None => 0,
+        Some(Wait::Minutes(by)) => i32::from(by),
+        Some(Wait::Longer) => -1,
     };
-    let by = early.iter().find(is_this).map_or(0, |early| early.by);
-    let (minute, at, cow) = (visit.minute, visit.at, outcome.question.cow);
+    let (minute, at, cow) = (outcome.visit.minute, outcome.visit.at, outcome.question.cow);
     let (admitted, rule) = (u8::from(decision.admitted), decision.rule);
     let (interval, line, took) = (decision.interval, decision.line, outcome.took);
     *data += &format!("[{minute},{at},{cow},{admitted},{rule},{interval},{line},{took},{by}]");

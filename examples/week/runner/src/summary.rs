@@ -1,75 +1,190 @@
 //! What is said on standard output.
 
+use std::collections::BTreeSet;
 use std::fmt::Write;
 
-use crate::early::{otherwise, Early};
-use crate::report::name_of;
-use crate::sums::Sum;
-use crate::tables::clock;
-use crate::weeks::Weeks;
+use crate::barn::Outcome;
+use crate::case::Case;
+use crate::early::{otherwise, Wait};
+use crate::report::litres;
+use crate::rules::{name_of, Rule};
+use crate::sums::{Sum, CHANGED, CHANGED_RULE};
+use crate::times::clock;
+use crate::told::{Entry, Told};
+
+/// So many of the early visits are told; the table has all.
+const TOLD: usize = 12;
 
 /// The sums of the week, its boxes, days and rules; those of the cows are in the file.
-pub fn counts(sums: &[Sum], rules: &[String]) -> String {
-    let mut text = format!("{:20} {:>8} {:>8}\n", "", "admitted", "refused");
-    for sum in sums.iter().filter(|sum| sum.of != "cow") {
-        let mut label = format!("{} {}", sum.of, sum.which);
-        if sum.of == "rule" {
-            let rule = sum.which.parse().unwrap_or(0);
-            label = format!("{label} {}", name_of(rules, rule));
-        }
+pub fn counts(sums: &[Sum], rules: &[Rule]) -> String {
+    let mut text = format!(
+        "{:22} {:>8} {:>8} {:>9}\n",
+        "", "admitted", "refused", "litres"
+    );
+    let is_shown = |sum: &&Sum| !["cow", CHANGED, CHANGED_RULE].contains(&sum.of);
+    for sum in sums.iter().filter(is_shown) {
+        let label = label(sum, rules);
+        let (admitted, refused, milk) = (sum.admitted, sum.refused, litres(sum.milk));
         line(
             &mut text,
-            format_args!("{label:20} {:8} {:8}", sum.admitted, sum.refused),
+            format_args!("{label:22} {admitted:8} {refused:8} {milk:>9}"),
         );
     }
     text
 }
 
-/// The week with the old line left at 241, held to the right one.
-pub fn fault(weeks: &Weeks, early: &[Early], trace: &[u16]) -> String {
-    let mut text = "\nWith the old line left behind the retyped one:\n".to_string();
-    let (in_by_fault, out_by_fault) = otherwise(&weeks.leftover, &weeks.right);
-    for Early { outcome, by } in early {
-        let (time, cow, at) = (
-            clock(outcome.visit.minute),
-            outcome.question.cow,
-            outcome.visit.at,
-        );
-        let (interval, deciding) = (outcome.decision.interval, outcome.decision.line);
-        line(
-            &mut text,
-            format_args!("{time}  cow {cow:3} into box {at} by line {deciding} after {interval} minutes: {by:2} early"),
-        );
+fn label(sum: &Sum, rules: &[Rule]) -> String {
+    let rule = sum.which.parse().ok().filter(|_| sum.of.ends_with("rule"));
+    match rule {
+        Some(rule) => format!("rule {rule} {}", name_of(rules, rule)),
+        None => format!("{} {}", sum.of, sum.which),
     }
+}
+
+/// The second book held to the first, from the change on.
+pub fn compared(
+    case: &Case,
+    [name, other_name]: [&str; 2],
+    first: &[Sum],
+    second: &[Sum],
+) -> String {
+    let time = clock(case.changed);
+    let mut text =
+        format!("\nFrom {time} on, by the first book ({name}) and by the second ({other_name}):\n");
     line(
         &mut text,
         format_args!(
-            "{} visits let in early. Of all, {in_by_fault} come in that stayed out in the right week, {out_by_fault} stay out that came in.",
-            early.len()
+            "{:22} {:>8} {:>8} {:>15} {:>11} {:>12}",
+            "", "milkings", "", "litres each", "short ones", "behind early"
         ),
     );
-    if let Some(first) = early.first() {
-        let lines: Vec<String> = trace.iter().map(u16::to_string).collect();
-        let cow = first.outcome.question.cow;
+    for one in first
+        .iter()
+        .filter(|sum| [CHANGED, CHANGED_RULE].contains(&sum.of))
+    {
+        let other = second
+            .iter()
+            .find(|sum| (sum.of, &sum.which) == (one.of, &one.which));
+        let Some(other) = other.filter(|other| one.admitted + other.admitted > 0) else {
+            continue;
+        };
+        let label = if one.of == CHANGED {
+            "all".to_string()
+        } else {
+            label(one, &case.rules)
+        };
         line(
             &mut text,
             format_args!(
-                "The lines that ran when cow {cow} came in first: {}",
-                lines.join(" ")
+                "{label:22} {:8} {:8} {:>7} {:>7} {:5} {:5} {:>12}",
+                one.admitted,
+                other.admitted,
+                each(one),
+                each(other),
+                one.short,
+                other.short,
+                format!("{} min", other.behind_minutes)
             ),
         );
     }
-    let same = weeks.right.iter().zip(&weeks.listed);
-    let differing = same
-        .filter(|(one, other)| one.decision != other.decision)
-        .count();
+    text + "A milking is short if it brings less than a quarter of her day's milk.\n"
+}
+
+fn each(sum: &Sum) -> String {
+    match sum.admitted {
+        0 => "-".to_string(),
+        milkings => litres(sum.milk / milkings),
+    }
+}
+
+/// The visits that were let in early, the most early ones first.
+pub fn early(told: &Told, trace: &[u16]) -> String {
+    let mut early: Vec<(Wait, Entry)> = told
+        .entries()
+        .filter_map(|entry| Some((entry.early()?, entry)))
+        .collect();
+    early.sort_by_key(|(by, entry)| (std::cmp::Reverse(*by), entry.outcome.visit.minute));
+    let Some((most, first)) = early.first() else {
+        return "\nThe second book lets no cow in early.\n".to_string();
+    };
+    let (middle, least) = (early[early.len() / 2].0, early[early.len() - 1].0);
+    let mut text = format!(
+        "\nThe second book lets {} visits in early, by {least} to {most} minutes, {middle} in the middle. The most early ones:\n",
+        early.len()
+    );
+    for (by, entry) in early.iter().take(TOLD) {
+        line(
+            &mut text,
+            format_args!("{}", early_visit(*by, entry.outcome)),
+        );
+    }
+    let lines: Vec<String> = trace.iter().map(u16::to_string).collect();
+    let (cow, lines) = (first.outcome.question.cow, lines.join(" "));
     line(
         &mut text,
-        format_args!(
-            "\nWith the listing typed back into an empty page {differing} decisions differ."
-        ),
+        format_args!("The lines that ran when cow {cow} came in: {lines}"),
     );
     text
+}
+
+fn early_visit(by: Wait, outcome: &Outcome) -> String {
+    let (time, cow, at) = (
+        clock(outcome.visit.minute),
+        outcome.question.cow,
+        outcome.visit.at,
+    );
+    let (since, line, brought) = (
+        outcome.since_end,
+        outcome.decision.line,
+        litres(outcome.milk),
+    );
+    format!(
+        "{time}  cow {cow:3} into box {at}, {since} minutes after she had left it: {by} early, {brought} litres (line {line})"
+    )
+}
+
+/// Who stood at a gate behind a cow that was let in early, by the rule that decided then.
+pub fn behind(told: &Told, rules: &[Rule]) -> String {
+    let mut text =
+        "\nWho stood at the gate behind an early one, by the rule that decided then:\n".to_string();
+    let deciding: BTreeSet<u8> = told
+        .outcomes
+        .iter()
+        .map(|outcome| outcome.decision.rule)
+        .collect();
+    for rule in deciding {
+        let is_of = |entry: &Entry| entry.behind > 0 && entry.outcome.decision.rule == rule;
+        let waits: Vec<Entry> = told.entries().filter(is_of).collect();
+        let Some(longest) = waits.iter().max_by_key(|entry| entry.behind) else {
+            continue;
+        };
+        let minutes: u32 = waits.iter().map(|entry| u32::from(entry.behind)).sum();
+        let (label, times) = (format!("rule {rule} {}", name_of(rules, rule)), waits.len());
+        let (most, cow) = (longest.behind, longest.outcome.question.cow);
+        line(
+            &mut text,
+            format_args!(
+                "{label:22} {times:3} waits, {minutes:4} minutes, the longest {most} (cow {cow})"
+            ),
+        );
+    }
+    text + "\n"
+}
+
+/// The very visits of the first week, by the second book.
+pub fn same(first: &[Outcome], second: &[Outcome]) -> String {
+    let (only_first, only_second) = otherwise(first, second);
+    format!("Of the first week's very visits the second book lets {only_second} in that stayed out, and keeps {only_first} out that came in.\n")
+}
+
+/// The listing typed back.
+pub fn listed(first: &[Outcome], listed: &[Outcome]) -> String {
+    let differing = first
+        .iter()
+        .zip(listed)
+        .filter(|(one, other)| one.decision != other.decision)
+        .count();
+    format!("With the listing typed back into an empty page {differing} decisions differ.\n")
 }
 
 fn line(text: &mut String, words: std::fmt::Arguments) {

@@ -1,56 +1,96 @@
-//! The same visits decided three times.
+//! The same week decided by each book.
 
 use crate::barn::{run_week, Outcome};
-use crate::folder::Folder;
+use crate::case::{Case, Second};
+use crate::early::Books;
 use crate::gate::Gate;
 use crate::progress::Progress;
+use crate::tables::Visit;
+use crate::typed::Typed;
 
 pub struct Weeks {
-    /// The rule book, with line 240 retyped on Thursday.
-    pub right: Vec<Outcome>,
-    /// The same, but from then on with the old line behind the retyped one.
-    pub leftover: Vec<Outcome>,
-    /// What LIST writes of the rule book, and again after the retyping, each typed into an empty page.
+    /// The rule book, with what is typed at the change.
+    pub first: Vec<Outcome>,
+    /// What LIST writes of the rule book, and again after the change, each typed into an empty page.
     pub listed: Vec<Outcome>,
+    pub second: Option<SecondWeek>,
+}
+
+/// The week by the second book.
+pub struct SecondWeek {
+    /// The very visits of the first.
+    pub same: Vec<Outcome>,
+    /// The visits as the cows come when the second book counts; the very visits of the first, if there is no other list.
+    pub lived: Vec<Outcome>,
 }
 
 impl Weeks {
-    pub fn decide(folder: &Folder) -> Result<Weeks, String> {
-        let mut progress = Progress::of(3 * folder.visits.len());
-        let mut week = |gate: Gate, change: &dyn Fn(&mut Gate) -> Result<(), String>| {
-            run_week(&folder.herd, &folder.visits, gate, change, &mut progress)
+    pub fn decide(case: &Case) -> Result<Weeks, String> {
+        let again = case.second.as_ref().map_or(0, |_| {
+            case.visits.len() + case.lived.as_ref().map_or(0, Vec::len)
+        });
+        let mut progress = Progress::of(2 * case.visits.len() + again);
+        let mut week =
+            |visits: &[Visit], gate: Gate, change: &dyn Fn(&mut Gate) -> Result<(), String>| {
+                run_week(case.farm(), visits, gate, change, &mut progress)
+            };
+        let first = week(&case.visits, case.monday()?, &|gate| case.change(gate))?;
+        let listed = week(&case.visits, typed_back(&mut case.monday()?)?, &|gate| {
+            case.change(gate)?;
+            *gate = typed_back(gate)?;
+            Ok(())
+        })?;
+        let mut by = |second: &Second, visits: &[Visit]| {
+            week(visits, case.monday()?, &|gate| case.change_to(second, gate))
         };
-        let book = || Gate::with(&folder.book);
+        let second = case.second.as_ref().map(|second| {
+            let same = by(second, &case.visits)?;
+            let lived = match &case.lived {
+                Some(visits) => by(second, visits)?,
+                None => same.clone(),
+            };
+            Ok::<_, String>(SecondWeek { same, lived })
+        });
         Ok(Weeks {
-            right: week(book()?, &|gate| gate.type_in(&folder.retyped))?,
-            leftover: week(book()?, &|gate| {
-                gate.type_in(&folder.retyped)?;
-                gate.type_in(&folder.leftover)
-            })?,
-            listed: week(retyped_listing(&mut book()?)?, &|gate| {
-                gate.type_in(&folder.retyped)?;
-                *gate = retyped_listing(gate)?;
-                Ok(())
-            })?,
+            first,
+            listed,
+            second: second.transpose()?,
         })
     }
 }
 
+impl Weeks {
+    /// How many visits were decided, in all.
+    pub fn decisions(&self) -> usize {
+        let second = self
+            .second
+            .as_ref()
+            .map_or(0, |week| week.same.len() + week.lived.len());
+        self.first.len() + self.listed.len() + second
+    }
+}
+
 /// A gate with an empty page, into which the other's listing is typed.
-fn retyped_listing(gate: &mut Gate) -> Result<Gate, String> {
-    Gate::with(gate.listing()?.as_bytes())
+fn typed_back(gate: &mut Gate) -> Result<Gate, String> {
+    Gate::with(&Typed::of("the listing", gate.listing()?.as_bytes()))
 }
 
-/// The rule book as it should be from Thursday on.
-pub fn changed(folder: &Folder) -> Result<Gate, String> {
-    let mut gate = Gate::with(&folder.book)?;
-    gate.type_in(&folder.retyped)?;
+/// The rule book as it is from the change on.
+pub fn changed(case: &Case) -> Result<Gate, String> {
+    let mut gate = case.monday()?;
+    case.change(&mut gate)?;
     Ok(gate)
 }
 
-/// The same with the old line left in it.
-pub fn with_leftover(folder: &Folder) -> Result<Gate, String> {
-    let mut gate = changed(folder)?;
-    gate.type_in(&folder.leftover)?;
-    Ok(gate)
+/// Both books as they are from the change on, if there are two.
+pub fn books(case: &Case) -> Result<Option<Books>, String> {
+    let of = |second: &Second| {
+        let mut gate = case.monday()?;
+        case.change_to(second, &mut gate)?;
+        Ok::<_, String>(Books {
+            first: changed(case)?,
+            second: gate,
+        })
+    };
+    case.second.as_ref().map(of).transpose()
 }

@@ -1,0 +1,167 @@
+//! One run: the weeks as they were decided, and all that is told of them.
+
+use crate::barn::Outcome;
+use crate::case::{Case, Second};
+use crate::early::{Books, By};
+use crate::gate::Gate;
+use crate::leftpage::{left_page, refusal};
+use crate::picture::{picture, Shown};
+use crate::remarks::remarks;
+use crate::report;
+use crate::summary;
+use crate::sums::sums;
+use crate::told::Told;
+use crate::weeks::{books, changed, Weeks};
+
+pub struct Run<'a> {
+    case: &'a Case,
+    first: Told,
+    /// The first week by listings.
+    listed: Told,
+    second: Option<SecondTold>,
+    left_page: Option<Vec<u8>>,
+}
+
+/// The second book's weeks: as it was lived, and on the very visits of the first.
+struct SecondTold {
+    lived: Told,
+    same: Told,
+    books: Books,
+}
+
+/// A file's name and its bytes, if this run has it.
+type File = (&'static str, Option<Vec<u8>>);
+
+impl<'a> Run<'a> {
+    pub fn of(case: &'a Case, weeks: Weeks) -> Result<Run<'a>, String> {
+        let mut books = books(case)?;
+        let first = Told::of(weeks.first, case.changed, books.as_mut(), By::First)?;
+        let listed = Told::of(weeks.listed, case.changed, books.as_mut(), By::First)?;
+        let second = match (weeks.second, books) {
+            (Some(week), Some(mut books)) => Some(SecondTold {
+                lived: Told::of(week.lived, case.changed, Some(&mut books), By::Second)?,
+                same: Told::of(week.same, case.changed, Some(&mut books), By::Second)?,
+                books,
+            }),
+            _ => None,
+        };
+        Ok(Run {
+            case,
+            first,
+            listed,
+            second,
+            left_page: left_page(case, &changed(case)?),
+        })
+    }
+
+    /// All files, those that there are none of this time, too.
+    pub fn files(&mut self) -> Result<Vec<File>, String> {
+        let (case, rules) = (self.case, &self.case.rules);
+        let second = self.second.as_ref();
+        let of_second =
+            |table: &dyn Fn(&SecondTold) -> String| second.map(|second| table(second).into_bytes());
+        let mut files = vec![
+            (
+                "report.csv",
+                Some(report::report(&self.first, rules).into_bytes()),
+            ),
+            (
+                "sums.csv",
+                Some(report::sums(&sums(case, &self.first)).into_bytes()),
+            ),
+            (
+                "listed.csv",
+                Some(report::report(&self.listed, rules).into_bytes()),
+            ),
+            (
+                "second.csv",
+                of_second(&|second| report::report(&second.lived, rules)),
+            ),
+            (
+                "same.csv",
+                of_second(&|second| report::report(&second.same, rules)),
+            ),
+            (
+                "second-sums.csv",
+                of_second(&|second| report::sums(&sums(case, &second.lived))),
+            ),
+            (
+                "early.csv",
+                of_second(&|second| report::early(&second.lived)),
+            ),
+            (
+                "behind.csv",
+                of_second(&|second| report::behind(&second.lived, rules)),
+            ),
+            ("left.page", self.left_page.clone()),
+        ];
+        files.push(("week.html", Some(self.picture()?.into_bytes())));
+        Ok(files)
+    }
+
+    fn picture(&mut self) -> Result<String, String> {
+        let [first_name, second_name] = names(self.case);
+        let mut book = changed(self.case)?;
+        let mut shown = vec![Shown::new(first_name, &mut book, &self.first)?];
+        if let Some(second) = &mut self.second {
+            shown.push(Shown::new(
+                second_name,
+                &mut second.books.second,
+                &second.lived,
+            )?);
+        }
+        Ok(picture(self.case, &shown))
+    }
+
+    pub fn summary(&mut self) -> Result<String, String> {
+        let (case, rules) = (self.case, &self.case.rules);
+        let first = sums(case, &self.first);
+        let [first_name, second_name] = names(case);
+        let mut text = summary::counts(&first, rules);
+        let mut remarked = remarks(&first_name, &self.first.outcomes);
+        if let Some(second) = &mut self.second {
+            text += &summary::compared(
+                case,
+                [&first_name, &second_name],
+                &first,
+                &sums(case, &second.lived),
+            );
+            let trace =
+                most_early(&second.lived).map(|outcome| trace(&mut second.books.second, outcome));
+            text += &summary::early(&second.lived, &trace.transpose()?.unwrap_or_default());
+            text += &summary::behind(&second.lived, rules);
+            text += &summary::same(&self.first.outcomes, &second.same.outcomes);
+            remarked.extend(remarks(&second_name, &second.lived.outcomes));
+        }
+        text += &summary::listed(&self.first.outcomes, &self.listed.outcomes);
+        text.extend(self.left_page.iter().map(|page| refusal(page) + "\n"));
+        text.extend(remarked.into_iter().map(|remark| remark + "\n"));
+        Ok(text)
+    }
+}
+
+/// The visit at which a cow came in most early, the first of them.
+fn most_early(told: &Told) -> Option<&Outcome> {
+    let early = told
+        .entries()
+        .filter_map(|entry| Some((entry.early()?, entry.outcome)));
+    let most = early.max_by_key(|(by, outcome)| (*by, std::cmp::Reverse(outcome.visit.minute)));
+    most.map(|(_, outcome)| outcome)
+}
+
+fn trace(gate: &mut Gate, outcome: &Outcome) -> Result<Vec<u16>, String> {
+    gate.trace(&outcome.question)
+}
+
+/// What the books are called.
+fn names(case: &Case) -> [String; 2] {
+    let first = match &case.change {
+        Some(lines) => format!("Line {} retyped", lines.numbers()),
+        None => "Rule book".to_string(),
+    };
+    let second = match &case.second {
+        Some(Second::Left(lines)) => format!("Old line left at {}", lines.numbers()),
+        _ => "Second book".to_string(),
+    };
+    [first, second]
+}
