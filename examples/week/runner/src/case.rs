@@ -8,7 +8,7 @@ use crate::gate::Gate;
 use crate::rules::{rules, Rule};
 use crate::sheet::Sheet;
 use crate::tables::{self, Cow, Visit, Wash};
-use crate::times::{parse, Calendar, FORMS, WEEK};
+use crate::times::{date, parse, Calendar, FORMS, WEEK};
 use crate::typed::Typed;
 
 /// Where the files are. Those that may be missing are none.
@@ -75,6 +75,8 @@ pub struct Case {
     pub washes: Vec<Wash>,
     pub boxes: u8,
     pub changed: u16,
+    /// The date of the Monday, if the visits have dates.
+    pub monday: Option<String>,
 }
 
 impl Case {
@@ -101,6 +103,7 @@ impl Case {
             washes: washes.transpose()?.unwrap_or_default(),
             boxes: files.boxes,
             changed: moment(files, week)?,
+            monday: week.monday.map(date),
             herd,
         })
     }
@@ -162,5 +165,5 @@ fn moment(files: &Files, week: Calendar) -> Result<u16, String> {
     let minute = minute.filter(|minute| (0..i64::from(WEEK)).contains(minute));
     minute
         .map(|minute| minute as u16)
-        .ok_or_else(|| format!("--at {text:?} is no time in the week; allowed is {FORMS}"))
+        .ok_or_else(|| format!("--at {text:?} is no time in the week; allowed is {FORMS}, a date only where the visits have dates"))
 }

@@ -117,7 +117,7 @@ impl<'a> Run<'a> {
         let (case, rules) = (self.case, &self.case.rules);
         let first = sums(case, &self.first);
         let [first_name, second_name] = names(case);
-        let mut text = summary::counts(&first, rules);
+        let mut text = summary::counts(case, &first);
         let mut remarked = remarks(&first_name, &self.first.outcomes);
         if let Some(second) = &mut self.second {
             text += &summary::compared(

@@ -16,14 +16,21 @@ use crate::told::{Entry, Told};
 const TOLD: usize = 12;
 
 /// The sums of the week, its boxes, days and rules; those of the cows are in the file.
-pub fn counts(sums: &[Sum], rules: &[Rule]) -> String {
-    let mut text = format!(
-        "{:22} {:>8} {:>8} {:>9}\n",
-        "", "admitted", "refused", "litres"
+pub fn counts(case: &Case, sums: &[Sum]) -> String {
+    let mut text = match &case.monday {
+        Some(date) => format!("The week from Monday, {date}:\n"),
+        None => String::new(),
+    };
+    line(
+        &mut text,
+        format_args!(
+            "{:22} {:>8} {:>8} {:>9}",
+            "", "admitted", "refused", "litres"
+        ),
     );
     let is_shown = |sum: &&Sum| !["cow", CHANGED, CHANGED_RULE].contains(&sum.of);
     for sum in sums.iter().filter(is_shown) {
-        let label = label(sum, rules);
+        let label = label(sum, &case.rules);
         let (admitted, refused, milk) = (sum.admitted, sum.refused, litres(sum.milk));
         line(
             &mut text,
@@ -108,10 +115,10 @@ pub fn early(told: &Told, trace: &[u16]) -> String {
         return "\nThe second book lets no cow in early.\n".to_string();
     };
     let (middle, least) = (early[early.len() / 2].0, early[early.len() - 1].0);
-    let mut text = format!(
-        "\nThe second book lets {} visits in early, by {least} to {most} minutes, {middle} in the middle. The most early ones:\n",
-        early.len()
-    );
+    let mut text = match early.len() {
+        1 => format!("\nThe second book lets 1 visit in early, by {most} minutes:\n"),
+        visits => format!("\nThe second book lets {visits} visits in early, by {least} to {most} minutes, {middle} in the middle. The most early ones:\n"),
+    };
     for (by, entry) in early.iter().take(TOLD) {
         line(
             &mut text,
@@ -147,6 +154,9 @@ fn early_visit(by: Wait, outcome: &Outcome) -> String {
 pub fn behind(told: &Told, rules: &[Rule]) -> String {
     let mut text =
         "\nWho stood at the gate behind an early one, by the rule that decided then:\n".to_string();
+    if told.behind.iter().all(|minutes| *minutes == 0) {
+        return "\nNobody stood at the gate behind an early one.\n\n".to_string();
+    }
     let deciding: BTreeSet<u8> = told
         .outcomes
         .iter()

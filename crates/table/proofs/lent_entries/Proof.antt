@@ -1,8 +1,8 @@
 -- `lent_entries` meets its contract: by the call's number. Assumes nothing.
 use mathlib.Core.Path.{sym}
 use borrow.Author.Tests.{eq-eqb, ne-eqb}
-use Rattle.calls.proofs.lent_entries.Statement.{statement}
-use Rattle.calls.proofs.lent_entries.Tie as tie
+use Rattle.table.proofs.lent_entries.Statement.{statement}
+use Rattle.table.proofs.lent_entries.Tie as tie
 
 returns : tie.Need-returns
 returns c = sym (rw (eq-eqb _ 0 (c .if1 .taken)))
