@@ -2,10 +2,10 @@
 use Prim.Native.Nat.{ℕ, zero, suc, _≤_}
 use mathlib.Core.Path.{_≡_, refl, sym, ap, _∙_}
 use mathlib.Core.Bool.{true, false, and-false}
-use mathlib.Core.List.{List, _++_}
+use mathlib.Core.List.{List}
 use mathlib.Core.Option.{Option, none, some}
 use native.Mathlib.Omega.{arith}
-use lib.ListN.{length, take, drop}
+use lib.ListN.{length}
 use lib.Seq.{take-length}
 use lib.Dec.{eqb}
 use borrow.Author.Tests.{leb-true, eq-eqb, ne-eqb}
@@ -14,13 +14,13 @@ use Rattle.nibl.specs.Typing.{Gathered}
 use Rattle.nibl.specs.Lent.{Lent, Outcome, Left, lentAll}
 use Rattle.nibl.specs.Typing.{limit}
 use Rattle.nibl.specs.FirstRefusals.{hasTable, tableInRange, trueOf, firstRefusal}
-use Rattle.nibl.specs.Calls.{obeyLine, continueFrom, tableAfter}
+use Rattle.nibl.specs.Calls.{obeyLine, continueFrom, tableAfter, tablePast}
 use Rattle.nibl.specs.declared.Session.{Session}
 use Rattle.nibl.specs.declared.Call.{Call}
 use Rattle.page.proofs.Walk.{by-cases}
-use Rattle.table.specs.Index.{Indexed, keptTrue}
-use Rattle.table.proofs.Index.{good-described, indexed-none, indexed-whole, kept-some, kept-same, kept-none, kept-whole}
-use Rattle.calls.specs.Tables.{lentEntries, TableLent, tablePast}
+use Rattle.table.specs.Index.{Indexed}
+use Rattle.table.proofs.Index.{good-described, indexed-none, indexed-whole, kept-some, kept-same}
+use Rattle.calls.specs.Tables.{TableLent}
 
 -- a search may go by a table past the first refusals
 pub table-lent : (lim : ℕ) {page table : List ℕ} {c : Call} → length page ≤ 4096 → isGood lim page ≡ true → tableInRange c (length table) ≡ true
@@ -32,12 +32,6 @@ table-lent lim {page} {table} {c} s g l t =
           (λ e. rw e (indexed-whole (good-described lim g s (leb-true _ _ (rw e at l)) (rw e at t))))
           (λ e. rw e (indexed-none page table));
     }
-
--- the part that was lent is kept true, and what was not is as it was
-pub table-kept : (c : Call) (page table part : List ℕ) {n : ℕ} → n ≡ lentEntries c table → tableInRange c (length table) ≡ true
-    → part ≡ keptTrue page (take n table) → part ++ drop n table ≡ tablePast c page table
-table-kept c page table part h l e =
-    by-cases (hasTable c) (λ f. rw (e, h, f) (kept-whole page table (leb-true _ _ (rw f at l)))) (λ f. rw (e, h, f) (kept-none page table))
 
 -- a call that leaves the page leaves the table
 pub table-still : (c : Call) (page table : List ℕ) → TableLent page c table → tablePast c page table ≡ table

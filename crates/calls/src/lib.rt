@@ -8,10 +8,10 @@ ghost use Rattle.nibl.specs.Record.{unpaused};
 ghost use Rattle.nibl.specs.Lent.{lentAll, leftAll, outcomeWith};
 ghost use Rattle.nibl.specs.Typing.{limit};
 ghost use Rattle.nibl.specs.FirstRefusals.{lengthsInRange, trueOf, firstRefusal};
-ghost use Rattle.nibl.specs.Calls.{leaves, continueFrom, takeLine, continueRun};
+ghost use Rattle.nibl.specs.Calls.{leaves, continueFrom, takeLine, continueRun, tablePast};
 ghost use Rattle.outcome.specs.Ends.{endedIn};
 ghost use Rattle.outcome.specs.Lends.{Lists, Accepted};
-ghost use Rattle.calls.specs.Tables.{lentEntries, TableLent, tablePast};
+ghost use Rattle.calls.specs.Tables.{TableLent};
 ghost use Rattle.calls.specs.Past.{pastRefusals};
 ghost use Rattle.table.specs.Index.{Indexed};
 use nibl::Call;
@@ -140,16 +140,6 @@ fn paused_run(
     }
 }
 
-// How much of the table is lent.
-fn lent_entries(call: Call, table: &[u16]) -> usize
-    ensures { λ r. ⌜ r ≡ lentEntries call (now (table .entry)) ⌝ }
-{
-    if call.tabled == 0 {
-        return 0;
-    }
-    table.len()
-}
-
 // A call past its first refusals: it obeys the typed line, or lets a paused run go on. Its lists stand here and not in the calls,
 // so that they take no stack while page and record are checked. Below here no table is one without entries.
 fn accepted_call(
@@ -166,7 +156,7 @@ fn accepted_call(
     ensures { λ r. ⌜ outcomeWith (r .answer) (r .session) (now (page .exit)) (now (memory .exit)) (now (output .exit)) ≡ pastRefusals typed (lentAll rec (now (page .entry)) (now (memory .entry)) (now (input .entry)) (now (output .entry)) call (now (table .entry))) ⌝ }
     ensures { λ _. ⌜ now (table .exit) ≡ tablePast call (now (page .exit)) (now (table .entry)) ⌝ }
 {
-    let entries = lent_entries(call, table);
+    let entries = table::lent_entries(call, table);
     let mut line = [0u8; LIMIT];
     let mut reply = [0u8; LIMIT];
     let mut replies = [0u32; LIMIT];

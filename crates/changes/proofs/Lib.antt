@@ -8,3 +8,4 @@ pub mod Columns
 pub mod GaveUp
 pub mod Tables
 pub mod TableRows
+pub mod Forms

@@ -5,3 +5,4 @@ pub mod Spots
 pub mod Pointed
 pub mod Tables
 pub mod TableRows
+pub mod Carry

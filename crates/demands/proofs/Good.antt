@@ -56,7 +56,7 @@ whole-record {at = at} {page = page} {r = r} w =
       small = w .storable .number;
     }
 
-stored-good : {lim : ℕ} {r : Stored} → Storable lim r → GoodText lim (r .line) (r .text)
+pub stored-good : {lim : ℕ} {r : Stored} → Storable lim r → GoodText lim (r .line) (r .text)
 stored-good {r = r} s =
     let read = stored-read s in
     record {
@@ -72,11 +72,11 @@ laid-good {at = at} {page = page} (laid.ends e) = ends (record { after = drop 2 
 laid-good (laid.laid l w p) = goesOn l (whole-record w) (stored-good (w .storable)) (laid-good p)
 
 -- From the grammar to the test
-members-long : {s : List ℕ} {ms : List Member} → Members W s ms → 1 ≤ length s
+pub members-long : {s : List ℕ} {ms : List Member} → Members W s ms → 1 ≤ length s
 members-long (lastMember p a) = omega (arith, left-short (statement-left p))
 members-long (moreMembers p k ms) = omega (arith, left-short (statement-left p))
 
-good-storable : {lim n : ℕ} {t : List ℕ} → GoodText lim n t → isStorable lim n t ≡ true
+pub good-storable : {lim n : ℕ} {t : List ℕ} → GoodText lim n t → isStorable lim n t ≡ true
 unfolding isStorable
 good-storable {lim = lim} {n = n} {t = t} g = rw (reading-complete (g .reads), g .undigit, le-leb (length t + length (digits n)) lim (g .short))
 

@@ -16,6 +16,7 @@ use Rattle.nibl.specs.Page.{Stored, recordsOf, programBytes, used}
 use Rattle.nibl.specs.Meaning.{World, Env, Done, done, withSession}
 use Rattle.nibl.specs.Record.{mark, withGosubs, unpaused, stackless, cleared}
 use Rattle.nibl.specs.Lent.{Lent, Outcome, Left, leftAll, answerOf, noLine}
+pub use Rattle.nibl.specs.Lent.{unchanged}
 use Rattle.nibl.specs.Typing.{limit}
 use Rattle.nibl.specs.Lent.{begun}
 use Rattle.nibl.specs.Calls.{takeLine, continueRun, leaves}
@@ -44,10 +45,6 @@ others n (r ∷ rs) = if eqb (r .line) n then others n rs else r ∷ others n rs
 -- a stop with no line, no steps and no column, after so many bytes of the input; the output position as it came
 abbrev pub answered : Lent → ℕ → ℕ → Answer
 answered x n taken = answerOf n noLine 0 (x .call .inpos + taken) (x .call .outpos) 0
-
--- everything back as it came, the positions and the table too
-abbrev pub unchanged : Lent → ℕ → Left
-unchanged x n = leftAll (answerOf n noLine 0 (x .call .inpos) (x .call .outpos) 0) (x .session) (x .page) (x .memory) (x .output) (x .table)
 
 -- both calls give all back so, with the stop n
 abbrev pub BothUnchanged : Lent → ℕ → Type 0

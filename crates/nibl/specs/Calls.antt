@@ -19,6 +19,7 @@ use Rattle.nibl.specs.Meaning.{World, Env, withSession, on, skip, go, st
 use Rattle.nibl.specs.Lent.{Lent, Outcome, Left, stops, refusedLine, lentWorld, begun, lentEnv}
 use Rattle.nibl.specs.Runs.{runFrom, runOutcome}
 use Rattle.nibl.specs.FirstRefusals.{hasTable, firstRefusal}
+use Rattle.nibl.specs.declared.Call.{Call}
 
 -- "DO, UNTIL, FOR, NEXT or INPUT in an immediate line"
 abbrev pub needsProgram : Stmt → Bool
@@ -109,6 +110,10 @@ takeLine x = takeLineIn limit x
 
 unfoldable pub continueRun : Lent → Outcome
 continueRun x = continueRunIn limit x
+
+-- the table that a call leaves past its first refusals, with this page
+abbrev pub tablePast : Call → List ℕ → List ℕ → List ℕ
+tablePast c page table = if hasTable c then refilled page table else table
 
 -- What a call leaves, the table with it: "After each edit and NEW it must be what a fresh walk of the page gives". Where no edit
 -- was, that is what it held; a call that is refused at first does not touch it.

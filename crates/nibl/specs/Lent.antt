@@ -75,3 +75,7 @@ stops n w page = outcome n noLine 0 w page
 -- "A dealer sees 5 .. give the column with it"
 abbrev pub refusedLine : ℕ → World → List ℕ → Outcome
 refusedLine column w page = outcomeWith (answerOf 5 noLine 0 (w .inpos) (w .outpos) column) (w .session) page (w .memory) (w .output)
+
+-- everything back as it came, the positions and the table too
+abbrev pub unchanged : Lent → ℕ → Left
+unchanged x n = leftAll (answerOf n noLine 0 (x .call .inpos) (x .call .outpos) 0) (x .session) (x .page) (x .memory) (x .output) (x .table)

@@ -1,6 +1,6 @@
 -- Places, where a run goes on, and the session record: fresh, and with a part changed. antt has no record update, so every
 -- change of the record is written here, once.
-use Prim.Native.Nat.{ℕ, suc}
+use Prim.Native.Nat.{ℕ, suc, _%_}
 use mathlib.Core.List.{List}
 use lib.ListN.{set, replicate}
 use Rattle.nibl.specs.Stack.{noPlace, noEntry}
@@ -77,6 +77,10 @@ stackless s = record { vars = s .vars; flags = s .flags; gosubs = emptied (s .go
 -- "CLEAR zeroes variables and clears stacks"
 abbrev pub cleared : Session → Session
 cleared s = withVars (stackless s) (replicate 26 0)
+
+-- "Loading empties the stacks, .. ends a paused run and keeps bits 0 to 2 of the flags, the others becoming 0"
+abbrev pub loadedSession : Session → List ℕ → Session
+loadedSession s vars = withFlags (withVars (unpaused (stackless s)) vars) (s .flags % 8)
 
 abbrev pub freshPlaces : PlaceStack
 freshPlaces = record { depth = 0; places = replicate 8 noPlace }

@@ -5,3 +5,5 @@ pub mod Read
 pub mod GaveUp
 -- the column of a refused line, which is `IsColumn` (proofs/Spot.antt)
 pub mod Column
+-- what a slice carries, which is what it is the form of (`form-exact`, crate `changes`)
+pub mod Form

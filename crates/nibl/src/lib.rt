@@ -4,7 +4,7 @@ ghost use Prim.Native.Nat.{_-_, _≤_};
 ghost use mathlib.Core.Path.{_≡_};
 ghost use lib.Dec.{eqb};
 ghost use Rattle.nibl.specs.Stack.{onTop, pushOf, topOf, popOf, pushFor, topFor, popFor};
-ghost use Rattle.nibl.specs.Record.{place, mark, positionOf, nowhere, pausedAt, pauseNumber, freshPlaces, freshFors, fresh, unpaused, stackless, cleared, partsOf, sessionOf, withFlags};
+ghost use Rattle.nibl.specs.Record.{place, mark, positionOf, nowhere, pausedAt, pauseNumber, freshPlaces, freshFors, fresh, unpaused, stackless, cleared, loadedSession, partsOf, sessionOf, withFlags};
 ghost use Rattle.nibl.specs.Lent.{answerOf, withPositions};
 
 pub mod range;
@@ -424,6 +424,17 @@ impl Session {
         let zeros = [0u16; VARIABLES];
         let mut next = self.stackless();
         next.vars = zeros;
+        next
+    }
+
+    // A load brings its own variables. The stacks are emptied, a pause is ended, and of the flags bits 0 to 2 are kept.
+    pub fn loaded(self, vars: [u16; 26]) -> Session
+        ensures { λ r. ⌜ r ≡ loadedSession self vars ⌝ }
+    {
+        let mut next = self.stackless();
+        next.vars = vars;
+        next.flags = self.flags % 8;
+        next.paused = NOWHERE;
         next
     }
 

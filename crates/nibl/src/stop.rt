@@ -58,5 +58,14 @@ pub const BAD_RECORD: u8 = 19;
 
 pub const END: u8 = 20;
 
+// Load: another form number, or none.
+pub const OTHER_FORM: u8 = 22;
+
+// Load: counts, records or length wrong.
+pub const BAD_FORM: u8 = 23;
+
+// Load: the form's memory has another length.
+pub const OTHER_MEMORY: u8 = 24;
+
 // The table does not describe the page.
 pub const BAD_TABLE: u8 = 26;

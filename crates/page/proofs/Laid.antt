@@ -37,7 +37,7 @@ laid-room {at = at} {page = page} (ends e) = omega (arith, ap length (end-bytes 
 laid-room (laid l w p) = omega (arith, laid-room p)
 
 -- the text of a whole record, its CR, and what follows
-whole-text : (q : List ℕ) → 5 ≤ lengthAt q → lengthAt q ≤ length q → getD q (lengthAt q - 1) 0 ≡ 13 → drop 3 q ≡ textAt q ++ (13 ∷ drop (lengthAt q) q)
+pub whole-text : (q : List ℕ) → 5 ≤ lengthAt q → lengthAt q ≤ length q → getD q (lengthAt q - 1) 0 ≡ 13 → drop 3 q ≡ textAt q ++ (13 ∷ drop (lengthAt q) q)
 whole-text q h l e =
     let n : ℕ = lengthAt q - 4 in
     let s : List ℕ = drop 3 q in
@@ -107,7 +107,7 @@ pub good-laid : (lim : ℕ) (page : List ℕ) → lim ≤ 251 → isGood lim pag
 good-laid lim page short good = all-laid lim page (limit-room lim page short) good
 
 -- the bytes of a whole record
-record-bytes : (q : List ℕ) (r : Stored) (rest : List ℕ) → Bytes q → lineAt q ≡ r .line → lengthAt q ≡ size r → drop 3 q ≡ r .text ++ (13 ∷ rest) → q ≡ recordBytes r ++ rest
+pub record-bytes : (q : List ℕ) (r : Stored) (rest : List ℕ) → Bytes q → lineAt q ≡ r .line → lengthAt q ≡ size r → drop 3 q ≡ r .text ++ (13 ∷ rest) → q ≡ recordBytes r ++ rest
 record-bytes [] r rest b l n t = absurd (omega (arith, ap length t, length-append (r .text) (13 ∷ rest)))
 record-bytes (x ∷ []) r rest b l n t = absurd (omega (arith, ap length t, length-append (r .text) (13 ∷ rest)))
 record-bytes (x ∷ y ∷ []) r rest b l n t = absurd (omega (arith, ap length t, length-append (r .text) (13 ∷ rest)))

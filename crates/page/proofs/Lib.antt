@@ -2,6 +2,7 @@ pub mod Walk
 pub mod Program
 pub mod Stored
 pub mod Laid
+pub mod Forms
 pub mod Changes
 pub mod Texts
 pub mod Moves

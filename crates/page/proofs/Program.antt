@@ -30,15 +30,15 @@ program-length (r ∷ rs) = length-append (recordBytes r) (programBytes rs) ∙ 
 
 -- the record whose bytes stand first
 module _ (r : Stored) (rest : List ℕ) where
-  front-line : lineAt (recordBytes r ++ rest) ≡ r .line
+  pub front-line : lineAt (recordBytes r ++ rest) ≡ r .line
   front-line = div-add-mod' (r .line) 256
 
-  front-text : textAt (recordBytes r ++ rest) ≡ r .text
+  pub front-text : textAt (recordBytes r ++ rest) ≡ r .text
   front-text =
       ap (λ (l : List ℕ). take (length (r .text) + 4 - 4) l) (append-assoc (r .text) (13 ∷ []) rest)
       ∙ take-at (r .text) (13 ∷ rest) (length (r .text) + 4 - 4) (omega arith)
 
-  front-rest : drop (size r) (recordBytes r ++ rest) ≡ rest
+  pub front-rest : drop (size r) (recordBytes r ++ rest) ≡ rest
   front-rest = drop-at (recordBytes r) rest (size r) (record-length r)
 
   front-end : r .line ≤ 32767 → isEnd (recordBytes r ++ rest) ≡ false
@@ -47,7 +47,7 @@ module _ (r : Stored) (rest : List ℕ) where
   front-stop : r .line ≤ 32767 → 1 ≤ length (r .text) → stopsAt (recordBytes r ++ rest) ≡ false
   front-stop h n = rw (front-end h, le-ltb (length (r .text) + 4) 5 (omega arith))
 
-  front-is : recordAt (recordBytes r ++ rest) ≡ r
+  pub front-is : recordAt (recordBytes r ++ rest) ≡ r
   front-is = λ i. record { line = front-line i; text = front-text i }
 
   pub front-step : r .line ≤ 32767 → 1 ≤ length (r .text) → recordsOf (recordBytes r ++ rest) ≡ r ∷ recordsOf rest
@@ -63,7 +63,7 @@ module _ (r : Stored) (rest : List ℕ) where
       ap (λ (l : List ℕ). getD ((r .line / 256) ∷ (r .line % 256) ∷ size r ∷ l) (size r - 1) 0) (append-assoc (r .text) (13 ∷ []) rest)
       ∙ getD-at head 13 rest 0 (size r - 1) (omega arith)
 
-  front-record : (lim low : ℕ) → low ≤ r .line → Storable lim r → isRecord lim low (recordBytes r ++ rest) ≡ true
+  pub front-record : (lim low : ℕ) → low ≤ r .line → Storable lim r → isRecord lim low (recordBytes r ++ rest) ≡ true
   unfolding isRecord
   front-record lim low h s =
       let whole : length (recordBytes r ++ rest) ≡ size r + length rest = length-append (recordBytes r) rest ∙ omega (arith, record-length r) in

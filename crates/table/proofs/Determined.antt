@@ -5,6 +5,7 @@ use mathlib.Core.Bool.{Bool}
 use mathlib.Core.List.{List}
 use Rattle.nibl.specs.Page.{find}
 use Rattle.nibl.specs.Table.{describes}
+use Rattle.nibl.specs.declared.Call.{Call}
 use Rattle.nibl.proofs.Determined.{determined}
 use Rattle.page.specs.declared.FoundLine.{FoundLine}
 use Rattle.page.specs.declared.Edited.{Edited}
@@ -13,6 +14,7 @@ use Rattle.page.specs.Edits.{Changed, changed, storeOf, deleteOf, newOf}
 use Rattle.page.proofs.Determined.{changed-determined}
 use Rattle.page.proofs.Determined as page
 use Rattle.table.specs.Index.{keptTrue}
+use Rattle.table.specs.Lent.{lentEntries}
 
 pub describes-determined : (page table : List ℕ) (a b : Bool) → a ≡ describes page table → b ≡ describes page table → a ≡ b
 describes-determined page table = determined (describes page table)
@@ -41,3 +43,6 @@ delete-determined page n = edit-determined (deleteOf page n)
 pub new-determined : (page table p q u v : List ℕ) (a b : Edited)
     → changed p a ≡ newOf page → u ≡ keptTrue p table → changed q b ≡ newOf page → v ≡ keptTrue q table → (p ≡ q) × ((u ≡ v) × (a ≡ b))
 new-determined page = edit-determined (newOf page)
+
+pub entries-determined : (c : Call) (table : List ℕ) (m n : ℕ) → m ≡ lentEntries c table → n ≡ lentEntries c table → m ≡ n
+entries-determined c table = determined (lentEntries c table)

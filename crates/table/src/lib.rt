@@ -8,8 +8,10 @@ ghost use Rattle.nibl.specs.Table.{describes};
 ghost use Rattle.page.specs.Walk.{foundAt, reached};
 ghost use Rattle.page.specs.Edits.{changed, storeOf, deleteOf, newOf};
 ghost use Rattle.table.specs.Index.{Described, Indexed, keptTrue};
+ghost use Rattle.table.specs.Lent.{lentEntries};
 ghost use Rattle.page.specs.Tables.{spanOf};
 ghost use Rattle.table.specs.Spots.{below, goneAt, TableFront, Spotted};
+use nibl::Call;
 use nibl::LineNumber;
 use page::Edited;
 use page::FoundLine;
@@ -191,4 +193,14 @@ pub fn new_page(page: &mut [u8], table: &mut [u16]) -> Edited
     let edited = page::new_page(page);
     refill(page, table, 0, 0);
     edited
+}
+
+// How much of the table is lent.
+pub fn lent_entries(call: Call, table: &[u16]) -> usize
+    ensures { λ r. ⌜ r ≡ lentEntries call (now (table .entry)) ⌝ }
+{
+    if call.tabled == 0 {
+        return 0;
+    }
+    table.len()
 }

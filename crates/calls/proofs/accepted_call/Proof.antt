@@ -1,7 +1,6 @@
 -- `accepted_call` meets its contract: by what was called. Assumes nothing.
-use Prim.Native.Nat.{ℕ, _≤_}
+use Prim.Native.Nat.{_≤_}
 use mathlib.Core.Path.{_≡_, refl, sym, ap, _∙_}
-use mathlib.Core.List.{List}
 use lib.ListN.{length, take, drop}
 use lib.Seq.{length-take-le}
 use Rattle.nibl.specs.Typing.{gather}
@@ -9,12 +8,9 @@ use mathlib.Core.Bool.{Bool}
 use native.Mathlib.Omega.{arith}
 use Rattle.nibl.specs.Lent.{Lent, lentAll}
 use Rattle.nibl.specs.Typing.{limit}
-use Rattle.nibl.specs.FirstRefusals.{hasTable}
-use Rattle.nibl.specs.declared.Call.{Call}
-use Rattle.page.proofs.Walk.{by-cases}
+use Rattle.table.proofs.Lent.{lent-within, table-kept}
 use Rattle.calls.specs.Past.{pastRefusals}
-use Rattle.calls.specs.Tables.{lentEntries}
-use Rattle.calls.proofs.Tables.{table-kept, table-still, obeys-by-any, continues-by-any}
+use Rattle.calls.proofs.Tables.{table-still, obeys-by-any, continues-by-any}
 use Rattle.calls.proofs.First.{lists}
 use borrow.Author.Needs.{needs}
 use Rattle.calls.proofs.accepted_call.Statement.{statement}
@@ -23,16 +19,12 @@ use Rattle.calls.proofs.accepted_call.Tie as tie
 abbrev given : tie.Start → Lent
 given s = let a = s .args in lentAll (a .rec) (a .page .now) (a .memory .now) (a .input .now) (a .output .now) (a .call) (a .table .now)
 
--- the part that is lent is within the table
-within : (c : Call) (table : List ℕ) (n : ℕ) → n ≡ lentEntries c table → n ≤ length table
-within c table n e = by-cases (hasTable c) (λ f. omega (arith, rw f at e)) (λ f. omega (arith, rw f at e))
-
 module _ (c : tie.After-lent-entries) where
   abbrev start : tie.Start
   start = c .before .before .before .before .before .before .before
 
   part-within : c .lent-entries .result ≤ length (start .args .table .now)
-  part-within = within (start .args .call) (start .args .table .now) (c .lent-entries .result) (c .lent-entries .ensures)
+  part-within = lent-within (start .args .call) (start .args .table .now) (c .lent-entries .result) (c .lent-entries .ensures)
 
   part-long : c .lent-entries .result ≡ length (take (c .lent-entries .result) (start .args .table .now))
   part-long = sym (length-take-le (c .lent-entries .result) (start .args .table .now) part-within)
