@@ -139,11 +139,7 @@ pub fn at_positions(parts: Parts, inpos: usize, outpos: usize) -> Parts
 fn print_room(output: &[u8], at: usize, n: u32) -> Way
     ensures { λ r. ⌜ wayOf r ≡ (if leb (at + n) (length (now (output .entry))) then on else stop 17) ⌝ }
 {
-    let len = output.len();
-    if len < at {
-        return Way::Stop(stop::OUTPUT_FULL);
-    }
-    if len - at < n as usize {
+    if !value::has_room(output.len(), at, n as usize) {
         return Way::Stop(stop::OUTPUT_FULL);
     }
     Way::On
@@ -153,7 +149,7 @@ fn print_room(output: &[u8], at: usize, n: u32) -> Way
 fn print_byte(output: &mut [u8], at: usize, b: u8) -> Wrote
     ensures { λ r. ⌜ Writes (now (output .entry)) at (b ∷ []) r (now (output .exit)) ⌝ }
 {
-    if output.len() <= at {
+    if !value::has_room(output.len(), at, 1) {
         return Wrote::Full;
     }
     output[at] = b;

@@ -6,6 +6,7 @@ ghost use lib.Dec.{eqb};
 ghost use lib.ListN.{length, take, drop, replicate};
 ghost use Rattle.nibl.specs.Bytes.{classOf, classQuote, classOther, isSpace, isDigit, isCapital, isHexDigit, isText, isQuotable};
 ghost use Rattle.nibl.specs.Typing.{keep, gather as gathered};
+ghost use Rattle.letter.specs.Table.{Classifies};
 ghost use Rattle.letter.specs.Slots.{answer, held, keptIn};
 
 pub mod class;
@@ -306,11 +307,12 @@ const DISCARD: u8 = 21;
 
 const ERASE: u8 = 95;
 
-// The class of a byte, read from the table.
-pub fn class_of(b: u8) -> u8
-    ensures { λ r. ⌜ (r ≡ classOf b) × (r ≤ classOther) ⌝ }
+// The class of a byte, read from the table. A constant array is laid out anew at each use: who gathers a line does that once.
+fn class_in(table: &[u8; 256], b: u8) -> u8
+    requires { ⌜ Classifies (now table) ⌝ }
+    ensures { λ r. ⌜ r ≡ classOf b ⌝ }
 {
-    CLASS[b as usize]
+    table[b as usize]
 }
 
 // The class of a byte below the digits, by comparisons.
@@ -339,8 +341,7 @@ fn low_class(b: u8) -> u8
     class::OTHER
 }
 
-// The same class by comparisons, for readers: a constant table is laid out anew at each use, and they look at every byte of
-// a page.
+// The same class by comparisons, for readers: they look at every byte of a page, one word at a time.
 pub fn class_by_range(b: u8) -> u8
     ensures { λ r. ⌜ (r ≡ classOf b) × (r ≤ classOther) ⌝ }
 {
@@ -431,16 +432,15 @@ struct Tally {
     long: bool,
 }
 
-// One byte of the line that is no CR.
-fn keep_byte(line: &mut [u8], t: Tally, b: u8) -> Tally
-    requires { ⌜ t .count ≤ length (now line) ⌝ }
+// One byte of the line, of the class k, that is no CR.
+fn keep_byte(line: &mut [u8], t: Tally, b: u8, k: u8) -> Tally
+    requires { ⌜ (t .count ≤ length (now line)) × (k ≡ classOf b) ⌝ }
     ensures size { λ r. ⌜ length (now (line .exit)) ≡ length (now (line .entry)) ⌝ }
     ensures room { λ r. ⌜ r .count ≤ length (now (line .entry)) ⌝ }
     ensures kept { λ r. ⌜ keptIn (now (line .exit)) r ≡ keep (length (now (line .entry))) (keptIn (now (line .entry)) t) b ⌝ }
 {
     let n = t.count;
     let long = t.long;
-    let k = class_of(b);
     if k == class::DROPPED {
         return t;
     }
@@ -492,6 +492,7 @@ pub fn gather(input: &[u8], at: usize, line: &mut [u8]) -> Gathering
     ensures answer { λ r. ⌜ r ≡ answer at (gathered (length (now (line .entry))) (drop at (now (input .entry)))) ⌝ }
     ensures slots { λ r. ⌜ now (line .exit) ≡ held (length (now (line .entry))) (gathered (length (now (line .entry))) (drop at (now (input .entry)))) ⌝ }
 {
+    let classes = CLASS;
     let mut t = Tally {
         count: 0,
         long: false,
@@ -500,7 +501,8 @@ pub fn gather(input: &[u8], at: usize, line: &mut [u8]) -> Gathering
     while i < input.len() {
         let b = input[i];
         i += 1;
-        if class_of(b) == class::CR {
+        let k = class_in(&classes, b);
+        if k == class::CR {
             let n = t.count;
             clear_from(line, n);
             if t.long {
@@ -508,7 +510,7 @@ pub fn gather(input: &[u8], at: usize, line: &mut [u8]) -> Gathering
             }
             return Gathering::Line(i, n);
         }
-        t = keep_byte(line, t, b);
+        t = keep_byte(line, t, b, k);
     }
     clear_from(line, 0);
     Gathering::NoCr

@@ -26,6 +26,7 @@ use nibl::Onward;
 use nibl::Place;
 use value::Wrote;
 use value::digit_count;
+use value::has_room;
 use value::write_digits;
 use value::write_item;
 
@@ -486,11 +487,7 @@ fn list_line(page: &[u8], at: usize, size: usize, output: &mut [u8], pos: usize)
     let line = line_at(page, at);
     let count = digit_count(line);
     let n = count + size - 2;
-    let room = output.len();
-    if room < pos {
-        return Wrote::Full;
-    }
-    if room - pos < n {
+    if !has_room(output.len(), pos, n) {
         return Wrote::Full;
     }
     write_digits(output, pos, line);

@@ -142,8 +142,8 @@ pub fn apply(op: u8, a: u16, b: u16) -> Value
     }
 }
 
-// Whether so many bytes fit an output of that length from a position on.
-fn has_room(room: usize, at: usize, size: usize) -> bool
+// Whether so many bytes fit an output of that length from a position on: the one test of 17.
+pub fn has_room(room: usize, at: usize, size: usize) -> bool
     ensures { λ r. ⌜ r ≡ leb (at + size) room ⌝ }
 {
     if room < at {

@@ -5,20 +5,21 @@ use native.Mathlib.Omega.{arith}
 use borrow.Author.Needs.{needs}
 use lib.ListN.{length, getD}
 use Rattle.nibl.specs.Bytes.{classOf}
+use Rattle.letter.proofs.Classes.{table}
 use Rattle.letter.proofs.Gathers.{Going, going-start, going-on, gone-answer, gone-held, met-long, met-line, met-held}
 use Rattle.letter.proofs.gather.Statement.{statement}
 use Rattle.letter.proofs.gather.Tie as tie
 use Rattle.letter.proofs.gather.Reads as reads
 use Rattle.letter.proofs.gather.Lts as lts
-use Rattle.letter.proofs.class_of.Reads as class-of-reads
+use Rattle.letter.proofs.class_in.Reads as class-in-reads
 use Rattle.letter.proofs.clear_from.Reads as clear-from-reads
 use Rattle.letter.proofs.keep_byte.Reads as keep-byte-reads
 
 abbrev Inv-loop : tie.InvT-loop
-Inv-loop input at line₀ t₀ i₀ line t i = (length line ≡ length line₀) × Going input at line t i
+Inv-loop input at line₀ classes t₀ i₀ line t i = (length line ≡ length line₀) × Going input at line t i
 
 abbrev μ-loop : tie.MeasureT-loop
-μ-loop input at line₀ t₀ i₀ line t i = length input - i
+μ-loop input at line₀ classes t₀ i₀ line t i = length input - i
 
 loop-holds : tie.Need-loop-holds Inv-loop μ-loop
 loop-holds c = (refl, going-start _ _ _)
@@ -29,8 +30,8 @@ shared-slice-read-b c = omega arith
 add-i : tie.Need-add-i Inv-loop μ-loop
 add-i c = omega arith
 
-class-of-requires : tie.Need-class-of-requires Inv-loop μ-loop
-class-of-requires c κs = search needs
+class-in-requires : tie.Need-class-in-requires Inv-loop μ-loop
+class-in-requires c κs = record { entry = λ b h. table b h .0 }
 
 clear-from-requires : tie.Need-clear-from-requires Inv-loop μ-loop
 clear-from-requires c κs = search needs
@@ -38,13 +39,13 @@ clear-from-requires c κs = search needs
 same-length : tie.Need-same-length Inv-loop μ-loop
 same-length c = search needs
 
-met : (c : lts.After-slice-known2 (class-of-reads.Asked, class-of-reads.Learnt, clear-from-reads.Asked, clear-from-reads.Learnt, keep-byte-reads.Asked, keep-byte-reads.Learnt) reads.Pre reads.Post Inv-loop μ-loop) →
-    classOf (getD (c .before .before .before .before .before .before .before .before .before .before .before .args .input .now) (c .before .before .before .before .before .before .before .before .loop .i) 0) ≡ 1
-met c = sym (c .before .before .before .before .before .class-of .ensures .0) ∙ c .before .before .before .before .if1 .taken
+met : (c : lts.After-slice-known2 (class-in-reads.Asked, class-in-reads.Learnt, clear-from-reads.Asked, clear-from-reads.Learnt, keep-byte-reads.Asked, keep-byte-reads.Learnt) reads.Pre reads.Post Inv-loop μ-loop) →
+    classOf (getD (c .before .before .before .before .before .before .before .before .before .before .before .before .args .input .now) (c .before .before .before .before .before .before .before .before .before .loop .i) 0) ≡ 1
+met c = sym (c .before .before .before .before .before .class-in .ensures) ∙ c .before .before .before .before .if1 .taken
 
 returns : tie.Need-returns Inv-loop μ-loop
 returns c =
-    let l = c .before .before .before .before .before .before .before .before .before .loop in
+    let l = c .before .before .before .before .before .before .before .before .before .before .loop in
     let m = met (c .before) in
     rw (← l .inv .0) (met-long (l .inv .1) (omega arith) m (c .if2 .taken), c .before .before .before .clear-from .ensures ∙ met-held (l .inv .1) (omega arith) m)
 
@@ -53,7 +54,7 @@ same-length-2 c = search needs
 
 returns-2 : tie.Need-returns-2 Inv-loop μ-loop
 returns-2 c =
-    let l = c .before .before .before .before .before .before .before .before .before .loop in
+    let l = c .before .before .before .before .before .before .before .before .before .before .loop in
     let m = met (c .before) in
     rw (← l .inv .0) (met-line (l .inv .1) (omega arith) m (c .if2 .left), c .before .before .before .clear-from .ensures ∙ met-held (l .inv .1) (omega arith) m)
 
@@ -65,9 +66,9 @@ loop-less c = omega arith
 
 loop-again : tie.Need-loop-again Inv-loop μ-loop
 loop-again c =
-    let l = c .before .before .before .before .before .before .before .before .loop in
+    let l = c .before .before .before .before .before .before .before .before .before .loop in
     let k = c .before .before .keep-byte in
-    (k .ensures .0 ∙ l .inv .0, going-on (l .inv .1) (omega arith) (λ e. c .before .before .before .before .if1 .left (c .before .before .before .before .before .class-of .ensures .0 ∙ e)) (k .last .0) (k .result) (k .ensures .0) (k .ensures .1 .0) (k .ensures .1 .1))
+    (k .ensures .0 ∙ l .inv .0, going-on (l .inv .1) (omega arith) (λ e. c .before .before .before .before .if1 .left (c .before .before .before .before .before .class-in .ensures ∙ e)) (k .last .0) (k .result) (k .ensures .0) (k .ensures .1 .0) (k .ensures .1 .1))
 
 clear-from-requires-2 : tie.Need-clear-from-requires-2 Inv-loop μ-loop
 clear-from-requires-2 c κs = search needs
@@ -89,7 +90,7 @@ gather-spec =
     loop-holds
     shared-slice-read-b
     add-i
-    class-of-requires
+    class-in-requires
     clear-from-requires
     same-length
     returns

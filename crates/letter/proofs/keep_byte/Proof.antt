@@ -12,38 +12,34 @@ use Rattle.letter.proofs.keep_byte.Statement.{statement}
 use Rattle.letter.proofs.keep_byte.Tie as tie
 use Rattle.letter.proofs.keep_byte.Reads as reads
 use Rattle.letter.proofs.keep_byte.Lts as lts
-use Rattle.letter.proofs.class_of.Reads as class-of-reads
-
-class-of-requires : tie.Need-class-of-requires
-class-of-requires c κs = search needs
 
 returns : tie.Need-returns
 returns c =
-    let s = c .before .before .before in
+    let s = c .before in
     let t : Tally = s .args .t in
-    let e : classOf (s .args .b) ≡ 0 = sym (c .before .class-of .ensures .0) ∙ c .if1 .taken in
+    let e : classOf (s .args .b) ≡ 0 = sym (s .pre .1) ∙ c .if1 .taken in
     (refl, (omega arith, sym (drops (length (s .args .line .now)) (keptIn (s .args .line .now) t) (s .args .b) e)))
 
 returns-2 : tie.Need-returns-2
 returns-2 c =
-    let s = c .before .before .before .before .before in
+    let s = c .before .before .before in
     let t : Tally = s .args .t in
-    let e : classOf (s .args .b) ≡ 2 = sym (c .before .before .before .class-of .ensures .0) ∙ c .before .if2 .taken in
-    (refl, (omega arith, slot-erases (s .args .line .now) t (s .pre) (s .args .b) e (t .count) (omega arith)))
+    let e : classOf (s .args .b) ≡ 2 = sym (s .pre .1) ∙ c .before .if2 .taken in
+    (refl, (omega arith, slot-erases (s .args .line .now) t (s .pre .0) (s .args .b) e (t .count) (omega arith)))
 
 returns-3 : tie.Need-returns-3
 returns-3 c =
-    let s = c .before .before .before .before .before in
+    let s = c .before .before .before in
     let t : Tally = s .args .t in
-    let e : classOf (s .args .b) ≡ 2 = sym (c .before .before .before .class-of .ensures .0) ∙ c .before .if2 .taken in
-    (refl, (omega arith, slot-erases (s .args .line .now) t (s .pre) (s .args .b) e (t .count - 1) refl))
+    let e : classOf (s .args .b) ≡ 2 = sym (s .pre .1) ∙ c .before .if2 .taken in
+    (refl, (omega arith, slot-erases (s .args .line .now) t (s .pre .0) (s .args .b) e (t .count - 1) refl))
 
 returns-4 : tie.Need-returns-4
 returns-4 c =
-    let s = c .before .before .before .before .before in
+    let s = c .before .before .before in
     let t : Tally = s .args .t in
-    let e : classOf (s .args .b) ≡ 3 = sym (c .before .before .before .class-of .ensures .0) ∙ c .if4 .taken in
-    (refl, (omega arith, slot-discards (s .args .line .now) t (s .pre) (s .args .b) e))
+    let e : classOf (s .args .b) ≡ 3 = sym (s .pre .1) ∙ c .if4 .taken in
+    (refl, (omega arith, slot-discards (s .args .line .now) t (s .pre .0) (s .args .b) e))
 
 slice-write-line : tie.Need-slice-write-line
 slice-write-line c = search needs
@@ -54,30 +50,29 @@ add-more c = search needs
 same-length : tie.Need-same-length
 same-length c = search needs
 
-keepable : (c : lts.Else4 (class-of-reads.Asked, class-of-reads.Learnt) reads.Pre reads.Post) → Keepable (c .before .before .before .before .before .args .b)
+keepable : (c : lts.Else4 reads.Pre reads.Post) → Keepable (c .before .before .before .args .b)
 keepable c =
-    let e = c .before .before .before .class-of .ensures .0 in
+    let e = c .before .before .before .pre .1 in
     record { drop = λ z. c .before .before .if1 .left (e ∙ z); erase = λ z. c .before .if2 .left (e ∙ z); discard = λ z. c .if4 .left (e ∙ z) }
 
 returns-5 : tie.Need-returns-5
 returns-5 c =
-    let s = c .before .before .before .before .before .before in
+    let s = c .before .before .before .before in
     let t : Tally = s .args .t in
     let o = keepable (c .before) in
-    (length-set (s .args .line .now) (t .count) (s .args .b), (omega arith, slot-keeps (s .args .line .now) t (s .pre) (s .args .b) o (c .if5 .taken)))
+    (length-set (s .args .line .now) (t .count) (s .args .b), (omega arith, slot-keeps (s .args .line .now) t (s .pre .0) (s .args .b) o (c .if5 .taken)))
 
 returns-6 : tie.Need-returns-6
 returns-6 c =
-    let s = c .before .before .before .before .before .before in
+    let s = c .before .before .before .before in
     let t : Tally = s .args .t in
     let o = keepable (c .before) in
-    (refl, (omega arith, slot-overflows (s .args .line .now) t (s .pre) (s .args .b) o (c .if5 .left)))
+    (refl, (omega arith, slot-overflows (s .args .line .now) t (s .pre .0) (s .args .b) o (c .if5 .left)))
 
 pub keep-byte-spec : {M : Type 1} → statement M
 keep-byte-spec =
     tie.close
     (tie.spec
-    class-of-requires
     returns
     returns-2
     returns-3

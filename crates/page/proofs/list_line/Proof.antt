@@ -1,9 +1,10 @@
 -- `list_line` meets its contract: digits, text, CR and LF, written one after another where all of them fit. Assumes nothing.
 use Prim.Native.Nat.{_≤_, _+_, _-_, ℕ}
-use mathlib.Core.Path.{_≡_, ap, _∙_}
+use mathlib.Core.Path.{_≡_, ap, sym, _∙_}
 use native.Mathlib.Omega.{arith}
 use lib.ListN.{length-set, length, drop}
 use borrow.Author.Needs.{needs}
+use borrow.Author.Tests.{leb-true, leb-false, not-true, not-false}
 use Rattle.nibl.specs.Calls.{listed}
 use Rattle.nibl.specs.Values.{digits}
 use Rattle.value.proofs.Writing.{writes-none}
@@ -33,30 +34,33 @@ add-n c = let k = known c in omega arith
 sub-n : tie.Need-sub-n
 sub-n c = let k = known c in omega (arith, k .0 .long)
 
+has-room-requires : tie.Need-has-room-requires
+has-room-requires c κs = search needs
+
 returns : tie.Need-returns
 returns c =
-    let r = recordAt (drop (c .before .before .before .before .before .args .at) (c .before .before .before .before .before .args .page .now)) in
-    writes-none (c .before .before .before .before .before .args .output .now) (listed r) (c .before .before .before .before .before .args .pos) (omega (arith, listed-length r))
-
-returns-2 : tie.Need-returns-2
-returns-2 c =
     let a = c .before .before .before .before .before .before .args in
     let k = known (c .before .before) in
     let r = recordAt (drop (a .at) (a .page .now)) in
     let line : length (digits (c .before .before .before .line-at .result)) ≡ length (digits (r .line)) = ap (λ (n : ℕ). length (digits n)) (c .before .before .before .line-at .ensures) in
-    writes-none (a .output .now) (listed r) (a .pos) (omega (arith, listed-length r, k .0 .long))
+    let full = leb-false (a .pos + (c .before .before .digit-count .result + a .size - 2)) (length (a .output .now)) (sym (c .before .has-room .ensures) ∙ not-true _ (c .if1 .taken)) in
+    writes-none (a .output .now) (listed r) (a .pos) (omega (arith, listed-length r, k .0 .long, full))
+
+-- all of it fits
+fits : (c : tie.Else1) → c .before .before .before .before .before .before .args .pos + (c .before .before .digit-count .result + c .before .before .before .before .before .before .args .size - 2) ≤ length (c .before .before .before .before .before .before .args .output .now)
+fits c = leb-true _ _ (sym (c .before .has-room .ensures) ∙ not-false _ (c .if1 .left))
 
 write-digits-requires : tie.Need-write-digits-requires
 write-digits-requires c κs = search needs
 
 add-a : tie.Need-add-a
-add-a c = search needs
+add-a c = let q = fits (c .before .before .before .before) in omega (arith, q)
 
 add-write-item : tie.Need-add-write-item
-add-write-item c = let k = known (c .before .before .before .before .before .before .before) in omega arith
+add-write-item c = let k = known (c .before .before .before .before .before .before .before) in let q = fits (c .before .before .before .before .before) in omega (arith, q)
 
 add-write-item-2 : tie.Need-add-write-item-2
-add-write-item-2 c = let k = known (c .before .before .before .before .before .before .before) in omega arith
+add-write-item-2 c = let k = known (c .before .before .before .before .before .before .before) in let q = fits (c .before .before .before .before .before) in omega (arith, q)
 
 sub-write-item : tie.Need-sub-write-item
 sub-write-item c = search needs
@@ -74,40 +78,40 @@ write-item-requires : tie.Need-write-item-requires
 write-item-requires c κs = search needs
 
 add-e : tie.Need-add-e
-add-e c = search needs
+add-e c = let q = fits (c .before .before .before .before .before .before .before .before .before) in omega (arith, q)
 
 sub-e : tie.Need-sub-e
 sub-e c = let k = known (c .before .before .before .before .before .before .before .before .before .before .before) in omega (arith, k .0 .long)
 
 slice-write-output : tie.Need-slice-write-output
 slice-write-output c =
-    let k = known (c .before .before .before .before .before .before .before .before .before .before .before) in
-    omega (arith, k .0 .long, c .before .output2 .given, c .before .before .before .before .before .before .output .given)
+    let k = known (c .before .before .before .before .before .before .before .before .before .before .before) in let q = fits (c .before .before .before .before .before .before .before .before .before) in
+    omega (arith, q, k .0 .long, c .before .output2 .given, c .before .before .before .before .before .before .output .given)
 
 add-output : tie.Need-add-output
-add-output c = search needs
+add-output c = let q = fits (c .before .before .before .before .before .before .before .before .before) in omega (arith, q)
 
 slice-write-output-2 : tie.Need-slice-write-output-2
 slice-write-output-2 c =
-    let k = known (c .before .before .before .before .before .before .before .before .before .before .before) in
-    simp length-set (omega (arith, k .0 .long, c .before .output2 .given, c .before .before .before .before .before .before .output .given))
+    let k = known (c .before .before .before .before .before .before .before .before .before .before .before) in let q = fits (c .before .before .before .before .before .before .before .before .before) in
+    simp length-set (omega (arith, q, k .0 .long, c .before .output2 .given, c .before .before .before .before .before .before .output .given))
 
-add-t12 : tie.Need-add-t12
-add-t12 c = search needs
+add-t11 : tie.Need-add-t11
+add-t11 c = let q = fits (c .before .before .before .before .before .before .before .before .before) in omega (arith, q)
 
 same-length : tie.Need-same-length
 same-length c = simp length-set (c .before .output2 .given ∙ c .before .before .before .before .before .before .output .given)
 
-returns-3 : tie.Need-returns-3
-returns-3 c =
+returns-2 : tie.Need-returns-2
+returns-2 c =
     let a = c .before .before .before .before .before .before .before .before .before .before .before .before .before .before .before .args in
-    let k = known (c .before .before .before .before .before .before .before .before .before .before .before) in
+    let k = known (c .before .before .before .before .before .before .before .before .before .before .before) in let q = fits (c .before .before .before .before .before .before .before .before .before) in
     let r = recordAt (drop (a .at) (a .page .now)) in
     let x = c .before .before .before .before .before .before .before .before .before .before .before .before .line-at .ensures in
     let n = k .1 .0 ∙ ap (λ (i : ℕ). length (digits i)) x in
     let u = rw x at (c .before .before .before .before .before .before .before .write-digits .ensures) in
     let v = rw (n, text-part (a .page .now) (a .at) (a .size) (k .0)) at (c .before .before .write-item .ensures) in
-    line-written r (a .pos + c .before .before .before .before .before .before .before .before .before .before .before .digit-count .result + a .size - 4) u v (omega (arith, k .0 .long)) (omega (arith, k .0 .long))
+    line-written r (a .pos + c .before .before .before .before .before .before .before .before .before .before .before .digit-count .result + a .size - 4) u v (omega (arith, q, k .0 .long)) (omega (arith, q, k .0 .long))
 
 pub list-line-spec : {M : Type 1} → statement M
 list-line-spec =
@@ -117,8 +121,8 @@ list-line-spec =
     digit-count-requires
     add-n
     sub-n
+    has-room-requires
     returns
-    returns-2
     write-digits-requires
     add-a
     add-write-item
@@ -133,6 +137,6 @@ list-line-spec =
     slice-write-output
     add-output
     slice-write-output-2
-    add-t12
+    add-t11
     same-length
-    returns-3)
+    returns-2)
