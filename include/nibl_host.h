@@ -57,6 +57,24 @@ static inline nibl_answer nibl_host_continue_run(const nibl_lent *lent, nibl_cal
     return nibl_host_make(nibl_continue_run, lent, call);
 }
 
+/* Saves the rule set to the output from a position on; the answer's outpos is the form's end. */
+static inline nibl_answer nibl_host_save(const nibl_lent *lent, nibl_size outpos) {
+    nibl_call call;
+    memset(&call, 0, sizeof call);
+    call.outpos = outpos;
+    return nibl_host_make(nibl_save, lent, call);
+}
+
+/* Loads a saved form, whole; what is lent as input is not looked at, and stays lent. */
+static inline nibl_answer nibl_host_load(const nibl_lent *lent, const uint8_t *form, nibl_size form_len) {
+    nibl_lent with = *lent;
+    nibl_call call;
+    memset(&call, 0, sizeof call);
+    with.input = form;
+    with.input_len = form_len;
+    return nibl_host_make(nibl_load, &with, call);
+}
+
 /* The numbers of a call at these positions with this budget; the sense byte is 0. */
 static inline nibl_call nibl_host_call(nibl_size inpos, nibl_size outpos, nibl_size budget) {
     nibl_call call;
@@ -89,6 +107,9 @@ static inline nibl_call nibl_host_call(nibl_size inpos, nibl_size outpos, nibl_s
     STOP(NIBL_BAD_PAGE, "the page is bad", "nothing was changed")                                                      \
     STOP(NIBL_BAD_RECORD, "the record does not fit the page", "nothing was changed")                                   \
     STOP(NIBL_END, "END", "nothing was run after it")                                                                  \
+    STOP(NIBL_OTHER_FORM, "no saved form, or one of another number", "nothing was changed")                            \
+    STOP(NIBL_BAD_FORM, "a damaged form: counts, lines or length wrong", "nothing was changed")                        \
+    STOP(NIBL_OTHER_MEMORY, "the form's memory has another length", "nothing was changed")                             \
     STOP(NIBL_BAD_TABLE, "the table does not describe the page", "nothing was changed")
 
 /* What a stop means. */

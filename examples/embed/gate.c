@@ -1,7 +1,8 @@
 /*
  * A host of the controller in one page: it lends a page with its table, a memory and a record, types four lines, one of
  * them wrongly, runs the program with a small budget, continues the pause until the run is over, and replies when INPUT
- * asks. Build and run it, from the repository's root:
+ * asks. Then it saves the rule set, loads it into a second controller, and lets that go on with it. Build and run it, from the
+ * repository's root:
  *
  *     cc -std=c11 -Wall -Wextra -Werror -Iinclude examples/embed/gate.c "$(tools/library)" -o gate && ./gate
  */
@@ -22,6 +23,15 @@ static const uint8_t input[] = "10 FOR C=1 TO 3:PRINT \"COW\",C;\r20 NEXT C:PRIM
 static nibl_lent lent = {.record = &record, .page = page, .page_len = sizeof page, .memory = memory,
                          .memory_len = sizeof memory, .input = input, .input_len = sizeof input - 4, .output = output,
                          .output_len = sizeof output, .table = table, .table_len = NIBL_TABLE_LEAST};
+
+/* A second controller, with a shorter page and no table; its memory is as long. What it holds before the load says nothing. */
+static uint8_t other_page[200], other_memory[sizeof memory], form[NIBL_SAVED_MOST];
+static nibl_record other_record;
+static const uint8_t other_input[] = "L=L+1:REM\rL=L+1\rLIST 20\r";
+
+static nibl_lent other = {.record = &other_record, .page = other_page, .page_len = sizeof other_page,
+                          .memory = other_memory, .memory_len = sizeof other_memory, .input = other_input,
+                          .input_len = sizeof other_input - 1, .output = output, .output_len = sizeof output};
 
 static void show(const char *what, nibl_call call, nibl_answer answer) {
     printf("%s: %d, %s, %d steps", what, answer.stop, nibl_host_stop_words(answer.stop), answer.steps);
@@ -65,5 +75,26 @@ int main(void) {
     }
     printf("C is %d, L is %d\n", (int16_t)record.vars['C' - 'A'], (int16_t)record.vars['L' - 'A']);
     printf("lines: %d, at %d and %d\n", table[0], table[1], table[2]); /* as every edit has kept them */
+
+    /* The form goes to an output of its own: a box stores it, or sends it. */
+    nibl_lent saving = lent;
+    saving.output = form;
+    saving.output_len = sizeof form;
+    const nibl_answer saved = nibl_host_save(&saving, 0);
+    printf("saved: %d, %d bytes\n", saved.stop, (int)saved.outpos);
+
+    /* A form that came damaged changes nothing; one that came whole brings program, variables and memory. */
+    answer = nibl_host_load(&other, form, saved.outpos - 1);
+    printf("loaded: %d, %s\n", answer.stop, nibl_host_stop_words(answer.stop));
+    answer = nibl_host_load(&other, form, saved.outpos);
+    printf("loaded: %d, %s\n", answer.stop, nibl_host_stop_words(answer.stop));
+    call = nibl_host_call(0, 0, 0);
+    for (int lines = 0; lines < 3; lines++) {
+        answer = nibl_host_take_line(&other, call);
+        show("there", call, answer);
+        call.inpos = answer.inpos;
+        call.outpos = answer.outpos;
+    }
+    printf("C is %d, L is %d\n", (int16_t)other_record.vars['C' - 'A'], (int16_t)other_record.vars['L' - 'A']);
     return answer.stop != NIBL_DONE;
 }

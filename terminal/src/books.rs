@@ -1,4 +1,4 @@
-//! Rule books at the desk: typed from a file, written to one, and whether the program is in one.
+//! Rule books at the desk: typed from a file, written to one, carried to another box, and whether the program is in a file.
 
 use std::collections::VecDeque;
 use std::io::Write;
@@ -7,6 +7,7 @@ use nibl::Stop;
 
 use crate::desk::{Dealer, Desk, Reply};
 use crate::files;
+use crate::forms::{form_of, refusal, Carried};
 use crate::page::Change;
 use crate::screen::SAID;
 use crate::seat::Seat;
@@ -53,10 +54,52 @@ pub fn save<W: Write>(desk: &Desk, seat: &mut Seat<W>, saved: &mut Saved, file: 
             format!("{lines}, {bytes} written to {file}")
         }),
     };
+    tell(seat, done);
+}
+
+/// Says what was done, or what was not.
+fn tell<W: Write>(seat: &mut Seat<W>, done: Result<String, String>) {
     match done {
         Ok(words) => seat.screen.say(&words, false),
         Err(fault) => seat.screen.say(&fault, true),
     }
+}
+
+/// Writes the rule set to a file in the form that another box loads, and asks before it writes over another file.
+pub fn export<W: Write>(desk: &mut Desk, seat: &mut Seat<W>, saved: &mut Saved, file: &str) {
+    let done = match form_of(&mut desk.controller) {
+        Err(stop) => Err(stop.to_string()),
+        Ok(form) if is_other(file, &form) && !overwrites(seat, file) => {
+            Err(format!("{file} was not written"))
+        }
+        Ok(form) => files::write(file, &form).map(|()| {
+            saved.listing = desk.listing().unwrap_or_default();
+            let carried = Carried::of(&form).map_or(String::new(), Carried::words);
+            let bytes = counted(form.len() as u64, "byte");
+            format!("{carried} written to {file}, {bytes}")
+        }),
+    };
+    tell(seat, done);
+}
+
+/// Loads a rule set that was exported, in the place of what is here.
+pub fn import<W: Write>(desk: &mut Desk, seat: &mut Seat<W>, saved: &mut Saved, file: &str) {
+    let done = files::read(file).and_then(|form| {
+        let was_paused = desk.controller.record.is_paused();
+        let stop = desk.controller.load(&form).stop;
+        if stop != Stop::Done {
+            return Err(refusal(stop, &form, desk.controller.memory.len()));
+        }
+        saved.listing = desk.listing().unwrap_or_default();
+        let carried = Carried::of(&form).map_or(String::new(), Carried::words);
+        let pause = if was_paused {
+            "; the pause has ended"
+        } else {
+            ""
+        };
+        Ok(format!("{carried} loaded from {file}{pause}"))
+    });
+    tell(seat, done);
 }
 
 /// Is there a file of this name that holds something else?

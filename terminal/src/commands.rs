@@ -9,6 +9,9 @@ pub enum Command {
     GoOn,
     Load(String),
     Save(String),
+    /// The rule set to a file, and from one.
+    Export(String),
+    Import(String),
     /// The lines from one number to another.
     List(u16, u16),
     Edit(u16),
@@ -33,6 +36,8 @@ A line of NIBL is typed as it is. A line that begins with a dot is for the desk:
 .               goes on with a paused run
 .load FILE      types a rule book line by line; shows lines that are refused
 .save FILE      writes what LIST gives; asks before it writes over a file
+.export FILE    writes program, variables and memory for another box to load
+.import FILE    loads what .export wrote, in the place of all three here
 .list A B       lists the lines from A to B, and ends no pause
 .edit N         lets line N be changed
 .find TEXT      lists the lines that have TEXT in them
@@ -83,6 +88,8 @@ fn command(name: &str, operands: &str) -> Result<Command, String> {
         ".find" => text(name, operands).map(Command::Find),
         ".load" => file(name, operands).map(Command::Load),
         ".save" => file(name, operands).map(Command::Save),
+        ".export" => file(name, operands).map(Command::Export),
+        ".import" => file(name, operands).map(Command::Import),
         ".sense" => byte(name, &words).map(Command::Sense),
         ".budget" => optional(name, &words, BUDGET_LIMIT).map(Command::Budget),
         ".memory" => memory(name, &words),
@@ -209,6 +216,14 @@ mod tests {
             read(".SAVE Gate.nib"),
             Command::Save("Gate.nib".to_string())
         );
+        assert_eq!(
+            read(".export gate.form"),
+            Command::Export("gate.form".to_string())
+        );
+        assert_eq!(
+            read(".import gate.form"),
+            Command::Import("gate.form".to_string())
+        );
         assert_eq!(read(".list"), Command::List(0, u16::MAX));
         assert_eq!(read(".list 10"), Command::List(10, u16::MAX));
         assert_eq!(read(".list 10 20"), Command::List(10, 20));
@@ -267,6 +282,8 @@ mod tests {
             ".",
             ".load FILE",
             ".save FILE",
+            ".export FILE",
+            ".import FILE",
             ".list A B",
             ".edit N",
             ".find TEXT",

@@ -16,7 +16,7 @@ pub const BUDGET_LIMIT: u64 = 1_000_000_000_000;
 /// The room for all that one reply writes.
 const OUTPUT: usize = 8192;
 /// Room for any listing: a page has at most 4,096 bytes, and no line is listed at twice its record's length.
-const LISTING: usize = 2 * PAGE;
+pub const LISTING: usize = 2 * PAGE;
 /// About a millisecond.
 const SLICE: u16 = 5000;
 const CR: u8 = 13;

@@ -4,7 +4,7 @@
 //! Reading order: [`keys`], [`history`], [`editor`], [`commands`], [`words`], [`page`] and [`files`] know no terminal; [`desk`] makes
 //! the calls, and [`show`] draws what it holds; [`raw`], [`keyboard`] and [`screen`] are the terminal; [`seat`], [`books`] and [`session`]
 //! put them together. [`check`] looks through a book: [`gather`] and [`reading`] say what its lines are, [`flow`] and [`bits`] what can come
-//! of them, [`warnings`] and [`why`] are its words.
+//! of them, [`warnings`] and [`why`] are its words. [`forms`] carries a rule set to another box.
 
 pub mod bits;
 pub mod books;
@@ -14,6 +14,7 @@ pub mod desk;
 pub mod editor;
 pub mod files;
 pub mod flow;
+pub mod forms;
 pub mod gather;
 pub mod history;
 pub mod keyboard;

@@ -2,7 +2,7 @@
 
 use std::io::Write;
 
-use crate::books::{is_refusal, load, save, Saved};
+use crate::books::{export, import, is_refusal, load, save, Saved};
 use crate::commands::{parse, Command, HELP};
 use crate::desk::{Desk, Reply};
 use crate::page;
@@ -81,6 +81,12 @@ impl<W: Write> Session<W> {
             }
             Command::Load(file) => load(&mut self.desk, &mut self.seat, &mut self.saved, &file),
             Command::Save(file) => save(&self.desk, &mut self.seat, &mut self.saved, &file),
+            Command::Export(file) => {
+                export(&mut self.desk, &mut self.seat, &mut self.saved, &file);
+            }
+            Command::Import(file) => {
+                import(&mut self.desk, &mut self.seat, &mut self.saved, &file);
+            }
             Command::List(first, last) => self.list(first, last),
             Command::Edit(line) => self.edit(line),
             Command::Find(text) => self.find(&text),
