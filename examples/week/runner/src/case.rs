@@ -26,6 +26,8 @@ pub struct Files {
     pub boxes: u8,
     /// When the change is made, as it was written.
     pub at: Option<String>,
+    /// Whether the picture has the lines that each visit went through.
+    pub shows_lines: bool,
 }
 
 /// The boxes of the example, and the moment at which its line 240 is retyped.
@@ -48,6 +50,7 @@ impl Files {
             washing: there("washing.csv"),
             boxes: BOXES,
             at: None,
+            shows_lines: true,
         }
     }
 }
@@ -76,7 +79,8 @@ pub struct Case {
     pub boxes: u8,
     pub changed: u16,
     /// The date of the Monday, if the visits have dates.
-    pub monday: Option<String>,
+    pub date: Option<String>,
+    pub shows_lines: bool,
 }
 
 impl Case {
@@ -103,7 +107,8 @@ impl Case {
             washes: washes.transpose()?.unwrap_or_default(),
             boxes: files.boxes,
             changed: moment(files, week)?,
-            monday: week.monday.map(date),
+            date: week.monday.map(date),
+            shows_lines: files.shows_lines,
             herd,
         })
     }
