@@ -1,4 +1,4 @@
-//! Starts a dealer's session at the terminal, checks rule books, turns one into a saved form and back, or prints the table of stops.
+//! Starts a dealer's session at the terminal, checks rule books, or turns one into a saved form and back.
 
 use std::env;
 use std::io::{stdin, stdout, IsTerminal, Write};
@@ -14,7 +14,7 @@ use nibl_terminal::screen::{Abilities, Screen};
 use nibl_terminal::seat::Seat;
 use nibl_terminal::session::Session;
 use nibl_terminal::warnings::{table, Warning};
-use nibl_terminal::words::{counted, stops};
+use nibl_terminal::words::counted;
 
 /// The status where a book has an error, and where something could not be done at all.
 const WRONG: u8 = 1;
@@ -26,12 +26,11 @@ fn main() -> ExitCode {
     let ended = match words.as_slice() {
         [] => work(&[]).map(|()| ExitCode::SUCCESS),
         ["-i", files @ ..] => work(files).map(|()| ExitCode::SUCCESS),
-        ["--stops"] => put(&stops()).map(|()| ExitCode::SUCCESS),
         ["--check", rest @ ..] => check_books(rest),
         ["--export", rest @ ..] => export_book(rest),
         ["--import", rest @ ..] => import_form(rest),
         _ => Err(
-            "usage: nibl-terminal [-i FILE.. | --stops | --check FILE.. | --export .. | --import ..]"
+            "usage: nibl-terminal [-i FILE.. | --check FILE.. | --export .. | --import ..]"
                 .to_string(),
         ),
     };

@@ -11,3 +11,8 @@ pub mod TableRows
 pub mod Forms
 pub mod Carry
 pub mod Carrying
+pub mod AlikeStatements
+pub mod AlikeRuns
+pub mod Seen
+pub mod BoxRuns
+pub mod OneBox

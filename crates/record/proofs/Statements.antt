@@ -97,7 +97,7 @@ module _ (e : Env) where
   item-goes : (i : Item) (w : World) → Fits (e .page) w → Goes (e .page) (putItem e i w)
   unfolding putItem
   item-goes (text bs) w h = put-goes (e .page) bs w h
-  item-goes (stored a) w h = given-goes (e .page) (bind (eval e w a) (stringAt (w .memory))) w _ h (λ bs. put-goes (e .page) bs w h)
+  item-goes (stored a) w h = given-goes (e .page) (bind (eval e w a) (stringAt (e .sight .access) (w .memory))) w _ h (λ bs. put-goes (e .page) bs w h)
   item-goes (value a) w h = given-goes (e .page) (eval e w a) w _ h (λ x. put-goes (e .page) (printed x) w h)
 
   items-go : (items : List Item) (w : World) → Fits (e .page) w → Goes (e .page) (putItems e items w)
