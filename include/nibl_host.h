@@ -108,7 +108,7 @@ static inline nibl_call nibl_host_call(nibl_size inpos, nibl_size outpos, nibl_s
     STOP(NIBL_BAD_RECORD, "the record does not fit the page", "nothing was changed")                                   \
     STOP(NIBL_END, "END", "nothing was run after it")                                                                  \
     STOP(NIBL_OTHER_FORM, "no saved form, or one of another number", "nothing was changed")                            \
-    STOP(NIBL_BAD_FORM, "a damaged form: counts, lines or length wrong", "nothing was changed")                        \
+    STOP(NIBL_BAD_FORM, "a damaged form: counts, lines or length", "nothing was changed")                              \
     STOP(NIBL_OTHER_MEMORY, "the form's memory has another length", "nothing was changed")                             \
     STOP(NIBL_BAD_TABLE, "the table does not describe the page", "nothing was changed")
 

@@ -250,6 +250,28 @@ static void asks(void) {
     HOLDS(record.vars[0] == 7);
 }
 
+/* A rule set carried, out of the midst of a run: what is open is not in it, and a damaged form changes nothing. */
+static void carries(void) {
+    static uint8_t form[NIBL_SAVED_MOST];
+    open_all();
+    memory[MEMORY - 1] = 7;
+    const nibl_record before = record;
+    nibl_lent saving = lent;
+    saving.output = form;
+    saving.output_len = sizeof form;
+    const nibl_answer saved = nibl_host_save(&saving, 3);
+    HOLDS(saved.stop == NIBL_DONE && nibl_host_equal_records(&before, &record));
+    start();
+    record.flags = 2;
+    HOLDS(nibl_host_load(&lent, form + 3, saved.outpos - 4).stop == NIBL_BAD_FORM && table[0] == 0);
+    HOLDS(nibl_host_load(&lent, form + 2, saved.outpos - 2).stop == NIBL_OTHER_FORM && memory[MEMORY - 1] == 0);
+    HOLDS(nibl_host_load(&lent, form + 3, saved.outpos - 3).stop == NIBL_DONE);
+    HOLDS(memcmp(record.vars, before.vars, sizeof record.vars) == 0 && memory[MEMORY - 1] == 7 && table[0] == 2);
+    HOLDS(record.flags == 2 && record.paused == NIBL_NOWHERE && record.dos.depth == 0);
+    lent.memory_len--;
+    HOLDS(nibl_host_load(&lent, form + 3, saved.outpos - 3).stop == NIBL_OTHER_MEMORY);
+}
+
 int main(void) {
     stops();
     positions();
@@ -259,5 +281,6 @@ int main(void) {
     tables();
     pages();
     asks();
+    carries();
     return 0;
 }

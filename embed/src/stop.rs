@@ -145,7 +145,7 @@ const ROWS: [(Stop, &str, &str); 24] = [
     ),
     (
         Stop::BadForm,
-        "a damaged form: counts, lines or length wrong",
+        "a damaged form: counts, lines or length",
         "nothing was changed",
     ),
     (

@@ -86,6 +86,7 @@ fn the_named_numbers_are_the_same() {
         assert_eq!(header(name), usize::from(number), "{name}");
     }
     assert_eq!(header("NIBL_TABLE_LEAST"), nibl::TABLE_LEAST);
+    assert_eq!(header("NIBL_SAVED_MOST"), nibl::SAVED_MOST);
 }
 
 #[test]
@@ -129,6 +130,16 @@ fn a_table_has_a_least_length_and_no_most() {
     };
     assert_eq!([0, 1, least - 1].map(stop), [Stop::OutOfRange; 3]);
     assert_eq!([least, least + 1, 100_000].map(stop), [Stop::Done; 3]);
+}
+
+/// A form is as long as the memory and the program are: here of an empty page, whose mark is not in it.
+#[test]
+fn the_longest_form_is_of_a_full_page_and_the_longest_memory() {
+    let (page, mark) = (header("NIBL_PAGE_MOST"), header("NIBL_PAGE_LEAST"));
+    let mut gate = Controller::owned(page, header("NIBL_MEMORY_MOST"));
+    let saved = gate.save(&mut [0; nibl::SAVED_MOST], 0);
+    assert_eq!(saved.stop, Stop::Done);
+    assert_eq!(saved.outpos + page - mark, header("NIBL_SAVED_MOST"));
 }
 
 #[test]

@@ -4,6 +4,7 @@ use model::case::{Call, Case};
 use model::column::is_front;
 use model::page::read_page;
 use model::random::cases::case;
+use model::random::forms::{carrying, form_of};
 use model::random::lines::{kept, verdict};
 use model::random::pages::{program, render};
 use model::random::sessions::session;
@@ -75,8 +76,78 @@ fn every_call_keeps_the_laws() {
     });
     for stop in Stop::ALL {
         let times = seen[usize::from(stop.number())];
-        assert!(times >= ROUNDS / 500, "{stop:?} occurs {times} times");
+        let of_a_load = OF_A_LOAD.contains(&stop);
+        assert!(
+            of_a_load || times >= ROUNDS / 500,
+            "{stop:?} occurs {times} times"
+        );
     }
+}
+
+/// What only a load answers.
+const OF_A_LOAD: [Stop; 3] = [Stop::OtherForm, Stop::BadForm, Stop::OtherMemory];
+
+#[test]
+fn saves_and_loads_keep_the_laws() {
+    let mut random = Random::new(5);
+    let mut seen = [0usize; 27];
+    for round in 0..ROUNDS / 4 {
+        let before = carrying(&mut random, [Size::Small, Size::Full][round % 2]);
+        let mut after = before.clone();
+        let answer = after.run();
+        seen[usize::from(answer.stop.number())] += 1;
+        assert_eq!(answer.input_position, before.input_position);
+        assert_eq!((answer.line, answer.steps, answer.column), (None, 0, 0));
+        match (answer.stop, before.call) {
+            (Stop::Done, Call::Save) => a_save_writes_its_form_alone(&before, &answer, &after),
+            (Stop::Done, _) => a_load_leaves_a_sound_box(&before, &answer, &after),
+            _ => {
+                assert_eq!(before, after);
+                assert_eq!(answer.output_position, before.output_position);
+            }
+        }
+    }
+    for stop in [
+        Stop::Done,
+        Stop::OutOfRange,
+        Stop::PageFull,
+        Stop::OutputFull,
+        Stop::BadPage,
+        Stop::BadRecord,
+    ]
+    .into_iter()
+    .chain(OF_A_LOAD)
+    {
+        let times = seen[usize::from(stop.number())];
+        assert!(times >= ROUNDS / 1000, "{stop:?} occurs {times} times");
+    }
+}
+
+fn a_save_writes_its_form_alone(before: &Case, answer: &Answer, after: &Case) {
+    let written = before.output_position as usize..answer.output_position as usize;
+    let expected = Case {
+        output: after.output.clone(),
+        ..before.clone()
+    };
+    assert_eq!(&expected, after);
+    assert_eq!(
+        before.output[..written.start],
+        after.output[..written.start]
+    );
+    assert_eq!(before.output[written.end..], after.output[written.end..]);
+    assert_eq!(after.output[written.start], 1);
+}
+
+/// And the box saves to the bytes that it was given.
+fn a_load_leaves_a_sound_box(before: &Case, answer: &Answer, after: &Case) {
+    assert!(is_sound(after));
+    assert_eq!(answer.output_position, before.output_position);
+    assert_eq!(before.output, after.output);
+    assert_eq!(before.page.len(), after.page.len());
+    let used = used(&after.page).expect("a sound page");
+    assert_eq!(before.page[used..], after.page[used..]);
+    assert_eq!(after.record.paused, None);
+    assert_eq!(form_of(after), before.slice());
 }
 
 fn refusals_change_nothing(before: &Case, answer: &Answer, after: &Case) {

@@ -234,7 +234,7 @@ mod tests {
         let nothing = "22: no saved form, or one of another number; nothing was changed";
         assert_eq!(fault(b""), nothing);
         assert_eq!(fault(b"10 END\r\n"), nothing);
-        let damaged = "23: a damaged form: counts, lines or length wrong; nothing was changed";
+        let damaged = "23: a damaged form: counts, lines or length; nothing was changed";
         assert_eq!(fault(&form()[..80]), damaged);
         assert_eq!(fault(&[1]), damaged);
         let wide = [&form()[..54], &[0, 0, 19, 136], &[0; 5000]].concat();

@@ -1,6 +1,6 @@
 //! A gate: the proved controller with a rule book typed into its page, asked about one visit at a time.
 
-use nibl::{Answer, Call, Controller, Stop};
+use nibl::{Answer, Call, Controller, Stop, SAVED_MOST};
 
 use crate::typed::Typed;
 
@@ -102,6 +102,23 @@ impl Gate {
             }
         }
         Ok(())
+    }
+
+    /// A gate of another page, into which what this one saves is loaded.
+    pub fn carried(&mut self) -> Result<Gate, String> {
+        let mut form = [0; SAVED_MOST];
+        let saved = self.controller.save(&mut form, 0);
+        let mut gate = Gate {
+            name: format!("the saved form of {}", self.name),
+            controller: Controller::owned(PAGE, MEMORY).with_table(),
+            output: vec![0; OUTPUT],
+        };
+        let loaded = gate.controller.load(&form[..saved.outpos]);
+        match (saved.stop, loaded.stop) {
+            (Stop::Done, Stop::Done) => Ok(gate),
+            (Stop::Done, stop) => Err(format!("{} is not loaded: {stop}", gate.name)),
+            (stop, _) => Err(format!("{} is not saved: {stop}", self.name)),
+        }
     }
 
     pub fn page(&self) -> &[u8] {

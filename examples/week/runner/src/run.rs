@@ -19,6 +19,8 @@ pub struct Run<'a> {
     first: Told,
     /// The first week by listings.
     listed: Told,
+    /// The first week by saved forms.
+    carried: Told,
     second: Option<SecondTold>,
     left_page: Option<Vec<u8>>,
 }
@@ -38,6 +40,7 @@ impl<'a> Run<'a> {
         let mut books = books(case)?;
         let first = Told::of(weeks.first, case.changed, books.as_mut(), By::First)?;
         let listed = Told::of(weeks.listed, case.changed, books.as_mut(), By::First)?;
+        let carried = Told::of(weeks.carried, case.changed, books.as_mut(), By::First)?;
         let second = match (weeks.second, books) {
             (Some(week), Some(mut books)) => Some(SecondTold {
                 lived: Told::of(week.lived, case.changed, Some(&mut books), By::Second)?,
@@ -50,6 +53,7 @@ impl<'a> Run<'a> {
             case,
             first,
             listed,
+            carried,
             second,
             left_page: left_page(case, &changed(case)?),
         })
@@ -63,6 +67,7 @@ impl<'a> Run<'a> {
             table("report.csv", report::report(&self.first, rules)),
             table("sums.csv", report::sums(&sums(self.case, &self.first))),
             table("listed.csv", report::report(&self.listed, rules)),
+            table("carried.csv", report::report(&self.carried, rules)),
             ("left.page", self.left_page.clone()),
         ];
         files.extend(self.second_files());
@@ -145,6 +150,7 @@ impl<'a> Run<'a> {
             remarked.extend(remarks(&second_name, &second.lived.outcomes));
         }
         text += &summary::listed(&self.first.outcomes, &self.listed.outcomes);
+        text += &summary::carried(&self.first.outcomes, &self.carried.outcomes);
         text.extend(self.left_page.iter().map(|page| refusal(page) + "\n"));
         text.extend(remarked.into_iter().map(|remark| remark + "\n"));
         Ok(text)

@@ -181,12 +181,21 @@ pub fn same(first: &[Outcome], second: &[Outcome]) -> String {
 
 /// The listing typed back.
 pub fn listed(first: &[Outcome], listed: &[Outcome]) -> String {
-    let differing = first
-        .iter()
-        .zip(listed)
-        .filter(|(one, other)| one.decision != other.decision)
-        .count();
+    let differing = differing(first, listed);
     format!("With the listing typed back into an empty page {differing} decisions differ.\n")
+}
+
+/// The saved form loaded.
+pub fn carried(first: &[Outcome], carried: &[Outcome]) -> String {
+    let differing = differing(first, carried);
+    format!("With the saved form loaded into another gate {differing} decisions differ.\n")
+}
+
+fn differing(first: &[Outcome], other: &[Outcome]) -> usize {
+    let pairs = first.iter().zip(other);
+    pairs
+        .filter(|(one, other)| one.decision != other.decision)
+        .count()
 }
 
 fn line(text: &mut String, words: std::fmt::Arguments) {

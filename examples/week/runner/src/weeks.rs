@@ -13,6 +13,8 @@ pub struct Weeks {
     pub first: Vec<Outcome>,
     /// What LIST writes of the rule book, and again after the change, each typed into an empty page.
     pub listed: Vec<Outcome>,
+    /// Every gate loaded with what another has saved, on Monday and after the change.
+    pub carried: Vec<Outcome>,
     pub second: Option<SecondWeek>,
 }
 
@@ -29,7 +31,7 @@ impl Weeks {
         let again = case.second.as_ref().map_or(0, |_| {
             case.visits.len() + case.lived.as_ref().map_or(0, Vec::len)
         });
-        let mut progress = Progress::of(2 * case.visits.len() + again);
+        let mut progress = Progress::of(3 * case.visits.len() + again);
         let mut week =
             |visits: &[Visit], gate: Gate, change: &dyn Fn(&mut Gate) -> Result<(), String>| {
                 run_week(case.farm(), visits, gate, change, &mut progress)
@@ -38,6 +40,11 @@ impl Weeks {
         let listed = week(&case.visits, typed_back(&mut case.monday()?)?, &|gate| {
             case.change(gate)?;
             *gate = typed_back(gate)?;
+            Ok(())
+        })?;
+        let carried = week(&case.visits, case.monday()?.carried()?, &|gate| {
+            case.change(gate)?;
+            *gate = gate.carried()?;
             Ok(())
         })?;
         let mut by = |second: &Second, visits: &[Visit]| {
@@ -54,6 +61,7 @@ impl Weeks {
         Ok(Weeks {
             first,
             listed,
+            carried,
             second: second.transpose()?,
         })
     }
@@ -66,7 +74,7 @@ impl Weeks {
             .second
             .as_ref()
             .map_or(0, |week| week.same.len() + week.lived.len());
-        self.first.len() + self.listed.len() + second
+        self.first.len() + self.listed.len() + self.carried.len() + second
     }
 }
 
