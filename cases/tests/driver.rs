@@ -66,8 +66,8 @@ fn cases_of_the_landed_item_alone_are_answered() {
     let of = |upto: &str| line.replacen('{', &format!("{{\"upto\":{upto},"), 1);
     let answered = by_library(&line);
     assert!(answered.starts_with("{\"stop\":"), "{answered}");
-    assert_eq!(by_library(&of("4")), answered);
-    for item in (0..=13).filter(|&item| item != 4) {
+    assert_eq!(by_library(&of("5")), answered);
+    for item in (0..=13).filter(|&item| item != 5) {
         assert_eq!(by_library(&of(&item.to_string())), SKIP, "{item}");
     }
     for upto in ["14", "-1", "null", "\"1\""] {
@@ -79,15 +79,52 @@ fn cases_of_the_landed_item_alone_are_answered() {
 #[test]
 fn what_later_items_add_is_absent_or_null() {
     let line = case(&mut Random::new(2), Size::Small).write();
-    for field in ["tables", "saved", "ranges", "form", "lists", "room"] {
+    for field in ["tables", "ranges", "form", "lists", "room"] {
         let with = |value: &str| line.replacen('{', &format!("{{\"{field}\":{value},"), 1);
         assert_eq!(by_library(&with("null")), by_library(&line), "{field}");
         let outcome = by_library(&with("[]"));
         assert!(outcome.starts_with("{\"error\":"), "{field}: {outcome}");
     }
-    for call in ["save", "load", "to_keywords", "to_text", "prepare"] {
+    for call in ["to_keywords", "to_text", "prepare"] {
         let outcome = by_library(&format!("{{\"call\":\"{call}\",\"page\":[255,255]}}"));
         assert!(outcome.starts_with("{\"error\":"), "{call}: {outcome}");
+    }
+}
+
+#[test]
+fn a_form_is_saved_and_loaded() {
+    let both = |line: &str| {
+        let outcome = by_library(line);
+        assert_eq!(outcome, drive(line.as_bytes()));
+        outcome
+    };
+    let saved =
+        both(r#"{"call":"save","page":"\u0000\n\u0008 END\r\u00ff\u00ff","out":[],"mem":[7]}"#);
+    assert!(saved.starts_with("{\"stop\":17,"), "{saved}");
+    let form = format!("[1,26,{}0,1,0,10,8,32,69,78,68,13,0,1,9]", "0,".repeat(52));
+    let load = |form: &str| {
+        both(&format!(
+            r#"{{"call":"load","page":[1,1,1,1,1,1,1,1,1,1,5],"mem":[7],"saved":{form}}}"#
+        ))
+    };
+    let loaded = load(&form);
+    assert!(loaded.starts_with("{\"stop\":0,"), "{loaded}");
+    let page = "\"page\":[0,10,8,32,69,78,68,13,255,255,5]";
+    assert!(
+        loaded.contains(page) && loaded.contains("\"mem\":[9]"),
+        "{loaded}"
+    );
+    for (wrong, stop) in [
+        ("[]", 22),
+        ("[2]", 22),
+        ("[1]", 23),
+        (&form.replace("0,1,9]", "0,2,9,9]")[..], 24),
+    ] {
+        let refused = load(wrong);
+        assert!(
+            refused.starts_with(&format!("{{\"stop\":{stop},")),
+            "{refused}"
+        );
     }
 }
 
@@ -103,7 +140,7 @@ fn what_a_case_need_not_say() {
 fn a_table_goes_in_and_comes_back_packed() {
     let left = |line: &str, table: &str| {
         let line = format!(
-            r#"{{"upto":4,"call":"line","page":"\u0000\n\u0008 END\r\u00ff\u00ff........","inp":"{line}\r","table":{table}}}"#
+            r#"{{"upto":5,"call":"line","page":"\u0000\n\u0008 END\r\u00ff\u00ff........","inp":"{line}\r","table":{table}}}"#
         );
         let outcome = by_library(&line);
         assert_eq!(outcome, drive(line.as_bytes()));

@@ -197,7 +197,7 @@ mod tests {
         let memory = memory(Some(4), &[7]).expect("a memory");
         let exported = export(BOOK, memory).expect("a form");
         assert_eq!(exported.left_out, [3]);
-        assert_eq!(exported.form.len(), 56 + 24 + 4);
+        assert_eq!(exported.form.len(), 56 + 20 + 2 + 4);
         assert_eq!(
             Carried::of(&exported.form).expect("counts").words(),
             "2 lines, the variables and 4 bytes of memory"
