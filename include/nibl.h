@@ -108,8 +108,8 @@ typedef struct {
 
 /*
  * The session record: what the controller keeps between calls. A fresh one is all zeros. Every bit pattern is a record;
- * one that does not fit the page is refused with NIBL_BAD_RECORD. Compare records field by field: the bytes between the
- * fields are not kept.
+ * one that does not fit the page is refused with NIBL_BAD_RECORD. Two are to be compared by nibl_host_equal_records of
+ * nibl_host.h: the bytes between the fields are not kept, and what stands in a stack past its depth says nothing.
  */
 typedef struct {
     uint16_t vars[NIBL_VARIABLES]; /* A to Z: 16 bits, read as signed */
@@ -148,7 +148,7 @@ typedef struct {
  * begins with 0.
  *
  * Calls keep it true: when a line is stored or deleted, and by NEW, they write the count, and the positions from that line
- * on. A host that changes the page itself, or restores one, makes the table anew: make_table in examples/embed/gate.c
+ * on. A host that changes the page itself, or restores one, makes the table anew: nibl_host_make_table of nibl_host.h
  * does. A table that does not describe the page is refused with NIBL_BAD_TABLE, one that is too short with
  * NIBL_OUT_OF_RANGE. A call answers the same with a true table and with none. To lend none: NULL, 0, and 0 for tabled.
  */
@@ -178,12 +178,13 @@ void nibl_continue_run(nibl_record *record, uint8_t *page, nibl_size page_len, u
 #ifdef __cplusplus
 #define NIBL_HOLDS(what) static_assert(what, "the library was compiled for another layout of " #what)
 #define NIBL_TYPE(type, size, align) NIBL_HOLDS(sizeof(type) == size && alignof(type) == align);
+#define NIBL_FIELD(type, field, offset, size) NIBL_HOLDS(offsetof(type, field) == offset && sizeof(type::field) == size);
 #else
 #define NIBL_HOLDS(what) _Static_assert(what, "the library was compiled for another layout of " #what)
 #define NIBL_TYPE(type, size, align) NIBL_HOLDS(sizeof(type) == size && _Alignof(type) == align);
-#endif
 #define NIBL_FIELD(type, field, offset, size)                                                                          \
     NIBL_HOLDS(offsetof(type, field) == offset && sizeof(((type *)0)->field) == size);
+#endif
 #include "nibl.layout"
 #undef NIBL_FIELD
 #undef NIBL_TYPE

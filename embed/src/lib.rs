@@ -58,6 +58,7 @@ mod gate;
 mod layout;
 mod record;
 mod stop;
+mod stored;
 mod table;
 
 /// The examples of the page for hosts.
@@ -70,4 +71,5 @@ pub use controller::{empty_page, Controller};
 pub use gate::{continue_run, take_line, version, Lent};
 pub use record::{ForEntry, ForStack, PlaceStack, Record, MARK, NOWHERE, START};
 pub use stop::Stop;
+pub use stored::{RECORD_BYTES, RECORD_FORM};
 pub use table::{empty_table, table_of, TABLE_LEAST};

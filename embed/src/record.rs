@@ -9,9 +9,9 @@ pub const NOWHERE: u16 = 0;
 /// A pause at the program's start. One after the place p is p + 2.
 pub const START: u16 = 1;
 
-/// The stack of GOSUB, and that of DO.
+/// The stack of GOSUB, and that of DO. Two are equal where what is in use is: no call looks at the other slots.
 #[repr(C)]
-#[derive(Clone, Copy, Debug, Default, PartialEq, Eq)]
+#[derive(Clone, Copy, Debug, Default)]
 pub struct PlaceStack {
     /// So many slots are in use, the oldest first.
     pub depth: u64,
@@ -25,6 +25,14 @@ impl PlaceStack {
         in_use(self.depth, &self.places)
     }
 }
+
+impl PartialEq for PlaceStack {
+    fn eq(&self, other: &PlaceStack) -> bool {
+        self.depth == other.depth && self.open() == other.open()
+    }
+}
+
+impl Eq for PlaceStack {}
 
 /// A FOR that is open.
 #[repr(C)]
@@ -40,9 +48,9 @@ pub struct ForEntry {
     pub place: u16,
 }
 
-/// The stack of FOR.
+/// The stack of FOR. Two are equal where what is in use is: no call looks at the other slots.
 #[repr(C)]
-#[derive(Clone, Copy, Debug, Default, PartialEq, Eq)]
+#[derive(Clone, Copy, Debug, Default)]
 pub struct ForStack {
     /// So many slots are in use, the oldest first.
     pub depth: u64,
@@ -57,13 +65,22 @@ impl ForStack {
     }
 }
 
+impl PartialEq for ForStack {
+    fn eq(&self, other: &ForStack) -> bool {
+        self.depth == other.depth && self.open() == other.open()
+    }
+}
+
+impl Eq for ForStack {}
+
 fn in_use<T>(depth: u64, slots: &[T]) -> &[T] {
     let depth = usize::try_from(depth).unwrap_or(slots.len());
     &slots[..depth.min(slots.len())]
 }
 
 /// What the controller keeps between calls. Every bit pattern is a record; one that does not fit the page is refused
-/// with [`Stop::BadRecord`](crate::Stop::BadRecord), and stays as it is.
+/// with [`Stop::BadRecord`](crate::Stop::BadRecord), and stays as it is. Two are equal where they say the same: what stands in
+/// a stack past its depth does not count.
 #[repr(C)]
 #[derive(Clone, Copy, Debug, Default, PartialEq, Eq)]
 pub struct Record {

@@ -1,7 +1,8 @@
 #!/usr/bin/env python3
 """seeds.py [FIRST LAST]: lives the two weeks of generate.py with each seed from FIRST to LAST (1 to 40), and says in how many of them
 the complaint can be seen from Thursday noon on: with the leftover line more slow milkings, fewer litres each, and fresh cows that stood
-behind one let in early. Exits 0 only if all three signs are there in at least 7 of 8 seeds. It is beside the tests."""
+behind one let in early. Exits 0 only if all three signs are there in at least 7 of 8 seeds and, for the seeds 1 to 40, README.md has the
+figures. It is beside the tests."""
 import statistics
 import sys
 import tempfile
@@ -40,7 +41,12 @@ def main(first, last):
     signs = sum(row[0] > 0 and row[1] < 0 and row[3] > 0 for row in rows.values())
     forty = sum(40 in row[4] for row in rows.values())
     print(f"All three signs in {signs} of {len(rows)} seeds; cow 118 early in {sum(bool(row[4]) for row in rows.values())}, by forty minutes in {forty}")
-    return 8 * signs >= 7 * len(rows)
+    told = [f"| slow milkings more | {means[0]:.1f} |", f"| litres each | {-means[1]:.2f} less |", f"| visits let in early | {means[2]:.1f} |",
+            f"| minutes that fresh cows stood behind them | {means[3]:.0f} |", f"are there in {signs} of the 40", f"by forty minutes in {forty}."]
+    readme = (pathlib.Path(__file__).resolve().parent / "README.md").read_text()
+    missing = [words for words in told if words not in readme] if (first, last) == (1, 40) else []
+    print(*(f"README.md does not say: {words}" for words in missing), sep="\n", end="")
+    return 8 * signs >= 7 * len(rows) and not missing
 
 
 if __name__ == "__main__":

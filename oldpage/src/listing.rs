@@ -148,13 +148,13 @@ mod tests {
             |at: usize, byte: u8| fault(&[&good[..at], &[byte][..], &good[at + 1..]].concat());
         assert_eq!(
             with(7, 10),
-            "at 7: line 10 ends in byte 10, and not in CR (13)"
+            "at 7: line 10: it ends in byte 10, and not in CR (13)"
         );
-        assert_eq!(with(4, b'_'), "at 4: byte 95 cannot stand in line 10");
         assert_eq!(
-            with(3, b'1'),
-            "at 3: the text of line 10 begins with a digit"
+            with(4, b'_'),
+            "at 4: line 10: byte 95 cannot stand in a line"
         );
+        assert_eq!(with(3, b'1'), "at 3: line 10: its text begins with a digit");
         assert_eq!(with(9, 5), "at 8: line 5 stands behind line 10");
         assert_eq!(
             with(13, b'M'),

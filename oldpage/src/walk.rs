@@ -72,49 +72,46 @@ pub fn lines(page: &[u8]) -> Result<Vec<Line>, Fault> {
 
 fn line(page: &[u8], at: usize, number: u16, len: usize) -> Result<Line, Fault> {
     if number > NUMBER_MOST {
-        return fault(
-            at,
-            format!("{number} is no line number: the highest is {NUMBER_MOST}"),
-        );
+        let what = format!("{number} is no line number: the highest is {NUMBER_MOST}");
+        return fault(at, what);
     }
     let Some(record) = page.get(at..at + len).filter(|record| record.len() > 4) else {
-        return fault(
-            at + 2,
-            format!("{len} cannot be the length of line {number}"),
-        );
+        let what = format!("{len} cannot be the length of line {number}");
+        return fault(at + 2, what);
     };
-    let (text, end) = (&record[3..len - 1], at + len - 1);
-    if let Some(place) = text
-        .iter()
-        .position(|byte| !(32..127).contains(byte) || *byte == ERASES)
-    {
-        return fault(
-            at + 3 + place,
-            format!("byte {} cannot stand in line {number}", text[place]),
-        );
-    }
-    if page[end] != CR {
-        return fault(
-            end,
-            format!(
-                "line {number} ends in byte {}, and not in CR (13)",
-                page[end]
-            ),
-        );
-    }
-    if text[0].is_ascii_digit() {
-        return fault(
-            at + 3,
-            format!("the text of line {number} begins with a digit"),
-        );
-    }
-    let text: String = text.iter().map(|byte| char::from(*byte)).collect();
+    let text = text(record).map_err(|(place, what)| Fault {
+        at: at + place,
+        what: format!("line {number}: {what}"),
+    })?;
     let line = Line { at, number, text };
     match line.typed().len() {
-        kept if kept > LINE_MOST => fault(
-            at,
-            format!("line {number} has {kept} bytes, and {LINE_MOST} are the most"),
-        ),
+        kept if kept > LINE_MOST => {
+            let what = format!("line {number} has {kept} bytes, and {LINE_MOST} are the most");
+            fault(at, what)
+        }
         _ => Ok(line),
+    }
+}
+
+/// The text of a record, or what is wrong with it and at which of its bytes.
+fn text(record: &[u8]) -> Result<String, (usize, String)> {
+    let end = record.len() - 1;
+    let text = &record[3..end];
+    let is_text = |byte: &u8| (32..127).contains(byte) && *byte != ERASES;
+    if let Some(place) = text.iter().position(|byte| !is_text(byte)) {
+        return Err((
+            3 + place,
+            format!("byte {} cannot stand in a line", text[place]),
+        ));
+    }
+    if record[end] != CR {
+        return Err((
+            end,
+            format!("it ends in byte {}, and not in CR (13)", record[end]),
+        ));
+    }
+    match text[0].is_ascii_digit() {
+        true => Err((3, "its text begins with a digit".to_string())),
+        false => Ok(text.iter().map(|byte| char::from(*byte)).collect()),
     }
 }

@@ -1,6 +1,7 @@
 //! The desk's own commands: lines that begin with a dot, which no line of NIBL does.
 
 use crate::desk::BUDGET_LIMIT;
+use crate::reading::NUMBER_MOST;
 use crate::words::grouped;
 
 #[derive(Clone, Debug, PartialEq, Eq)]
@@ -8,6 +9,10 @@ pub enum Command {
     GoOn,
     Load(String),
     Save(String),
+    /// The lines from one number to another.
+    List(u16, u16),
+    Edit(u16),
+    Find(String),
     Show,
     Sense(Option<u8>),
     Budget(Option<u64>),
@@ -19,6 +24,7 @@ pub enum Command {
     MemorySet(usize, Vec<u8>),
     Help,
     Stops,
+    Quit,
 }
 
 pub const HELP: &str = "\
@@ -26,23 +32,28 @@ A line of NIBL is typed as it is. A line that begins with a dot is for the desk:
 
 .               goes on with a paused run
 .load FILE      types a rule book line by line; shows lines that are refused
-.save FILE      writes what LIST gives
+.save FILE      writes what LIST gives; asks before it writes over a file
+.list A B       lists the lines from A to B, and ends no pause
+.edit N         lets line N be changed
+.find TEXT      lists the lines that have TEXT in them
 .show           draws variables, flags, stacks, pause and used bytes
 .sense N        sets the sense byte, 0 to 255; STAT reads its bits 16 and 32
 .budget N       sets how many steps are run for one reply
 .memory A N ..  sets the memory's bytes from address A on
 .stops          says what the stop numbers mean
 .help           says this
+.quit           ends, as Ctrl-D does
 
 .sense, .budget and .memory without N show what is set; .memory alone shows all
-that is not 0. Names may be in capitals. Numbers are decimal, or hex behind #.
+that is not 0. .list A goes on to the end, .list alone has all. Names may be in
+capitals. Numbers are decimal, or hex behind #.
 
 Up, Down                earlier lines, and back
 Left, Right, Home, End  move in the line, as Ctrl-A and Ctrl-E do
-Backspace, Delete       take a character away
+Backspace, _, Delete    take a character away
 Ctrl-U, Ctrl-K, Ctrl-W  take away all before the cursor, all behind it, a word
 Ctrl-C                  ends a run, which is then paused; a wait; a line
-Ctrl-D                  on an empty line: ends all
+Ctrl-D                  on an empty line: ends a wait; else all
 ";
 
 /// The command that a line is, or what is wrong with it; none if the line is the controller's.
@@ -66,6 +77,10 @@ fn command(name: &str, operands: &str) -> Result<Command, String> {
         ".show" => plain(Command::Show),
         ".help" => plain(Command::Help),
         ".stops" => plain(Command::Stops),
+        ".quit" => plain(Command::Quit),
+        ".list" => list(name, &words),
+        ".edit" => line(name, &words),
+        ".find" => text(name, operands).map(Command::Find),
         ".load" => file(name, operands).map(Command::Load),
         ".save" => file(name, operands).map(Command::Save),
         ".sense" => byte(name, &words).map(Command::Sense),
@@ -80,6 +95,36 @@ fn file(name: &str, operands: &str) -> Result<String, String> {
         "" => Err(format!("{name} needs the name of a file")),
         file => Ok(file.to_string()),
     }
+}
+
+fn text(name: &str, operands: &str) -> Result<String, String> {
+    match operands {
+        "" => Err(format!("{name} needs a text to look for")),
+        text => Ok(text.to_string()),
+    }
+}
+
+fn list(name: &str, words: &[&str]) -> Result<Command, String> {
+    match words {
+        [] => Ok(Command::List(0, u16::MAX)),
+        [first] => Ok(Command::List(line_number(name, first)?, u16::MAX)),
+        [first, last] => Ok(Command::List(
+            line_number(name, first)?,
+            line_number(name, last)?,
+        )),
+        _ => Err(format!("{name} takes two line numbers")),
+    }
+}
+
+fn line(name: &str, words: &[&str]) -> Result<Command, String> {
+    match words {
+        [word] => line_number(name, word).map(Command::Edit),
+        _ => Err(format!("{name} takes one line number")),
+    }
+}
+
+fn line_number(name: &str, word: &str) -> Result<u16, String> {
+    number(name, word, u64::from(NUMBER_MOST)).map(|number| number as u16) // at most 32,767
 }
 
 fn byte(name: &str, words: &[&str]) -> Result<Option<u8>, String> {
@@ -164,6 +209,12 @@ mod tests {
             read(".SAVE Gate.nib"),
             Command::Save("Gate.nib".to_string())
         );
+        assert_eq!(read(".list"), Command::List(0, u16::MAX));
+        assert_eq!(read(".list 10"), Command::List(10, u16::MAX));
+        assert_eq!(read(".list 10 20"), Command::List(10, 20));
+        assert_eq!(read(".edit 240"), Command::Edit(240));
+        assert_eq!(read(".find L-40 "), Command::Find("L-40".to_string()));
+        assert_eq!(read(".quit"), Command::Quit);
         assert_eq!(read(".sense"), Command::Sense(None));
         assert_eq!(read(".sense #30"), Command::Sense(Some(48)));
         assert_eq!(read(".budget"), Command::Budget(None));
@@ -181,6 +232,13 @@ mod tests {
         assert_eq!(fault(".laod x"), ".laod is no command; .help lists them");
         assert_eq!(fault(".show me"), ".show takes nothing behind it");
         assert_eq!(fault(".load"), ".load needs the name of a file");
+        assert_eq!(fault(".find"), ".find needs a text to look for");
+        assert_eq!(fault(".edit"), ".edit takes one line number");
+        assert_eq!(fault(".list 1 2 3"), ".list takes two line numbers");
+        assert_eq!(
+            fault(".edit 32768"),
+            ".edit needs a number from 0 to 32,767, and 32768 is none"
+        );
         assert_eq!(
             fault(".sense 256"),
             ".sense needs a number from 0 to 255, and 256 is none"
@@ -209,17 +267,22 @@ mod tests {
             ".",
             ".load FILE",
             ".save FILE",
+            ".list A B",
+            ".edit N",
+            ".find TEXT",
             ".show",
             ".sense N",
             ".budget N",
             ".memory A N ..",
             ".stops",
             ".help",
+            ".quit",
         ];
         assert_eq!(named[..wanted.len()], wanted);
         for line in wanted {
             let numbers = line
                 .replace(" A", " 1")
+                .replace(" B", " 2")
                 .replace(" N", " 2")
                 .replace(" ..", " 3");
             assert!(parse(&numbers).is_some_and(|command| command.is_ok()));

@@ -2,7 +2,12 @@
 
 use nibl::{Answer, Call, Controller, Stop};
 
-use crate::page::{change, Change};
+use crate::gather::Kept;
+use crate::page::{self, change, Change};
+use crate::reading::read;
+use crate::show;
+use crate::target::missing;
+use crate::why;
 
 pub const PAGE: usize = 4096;
 pub const MEMORY: usize = 1024;
@@ -39,7 +44,7 @@ pub enum Cause {
 }
 
 /// What came of a typed line, or of going on.
-#[derive(Clone, Copy, Debug, PartialEq, Eq)]
+#[derive(Clone, Debug, PartialEq, Eq)]
 pub struct Reply {
     pub stop: Stop,
     pub line: Option<u16>,
@@ -50,6 +55,25 @@ pub struct Reply {
     pub change: Change,
     /// The typed line ended a pause.
     pub ended_pause: bool,
+    /// What more can be said of it.
+    pub more: More,
+}
+
+/// What the answer alone does not say.
+#[derive(Clone, Debug, Default, PartialEq, Eq)]
+pub struct More {
+    /// The line that was replaced or deleted, as it was.
+    pub was: Option<String>,
+    /// Why the line has no reading.
+    pub why: Option<String>,
+    /// By how many bytes it is over-long.
+    pub over: usize,
+    /// The typed line has no number, so nothing of it would have been stored.
+    pub immediate: bool,
+    /// The line that a jump did not find.
+    pub missing: Option<i16>,
+    /// Where a pause stands.
+    pub pause: Option<String>,
 }
 
 impl Reply {
@@ -127,9 +151,13 @@ impl Desk {
     pub fn take_line(&mut self, line: &[u8], dealer: &mut impl Dealer) -> Reply {
         let before = self.controller.page.clone();
         let was_paused = self.controller.record.is_paused();
+        let kept = Kept::of(line);
         let mut reply = self.run(Entry::TypedLine, [line, &[CR]].concat(), dealer);
-        reply.change = change(&before, &self.controller.page);
         reply.ended_pause = was_paused && !self.controller.record.is_paused();
+        if let (Stop::Done, Some(typed)) = (reply.stop, read(&kept.bytes)) {
+            reply.change = change(&typed, &before, &self.controller.page);
+        }
+        self.explain(&mut reply, &kept, &before);
         reply
     }
 
@@ -140,7 +168,33 @@ impl Desk {
         if !was_paused {
             reply.cause = Cause::NothingPaused;
         }
+        self.explain(&mut reply, &Kept::default(), &[]);
         reply
+    }
+
+    /// Says more of a reply to a line, as it was kept, and of the page before it.
+    fn explain(&self, reply: &mut Reply, kept: &Kept, before: &[u8]) {
+        let first = kept.bytes.iter().find(|byte| **byte != b' ');
+        reply.more.immediate = first.is_some_and(|byte| !byte.is_ascii_digit());
+        match (reply.stop, reply.change) {
+            (_, Change::Replaced(line) | Change::Deleted(line)) => {
+                let all = page::lines(before).into_iter();
+                let old = all.into_iter().find(|old| old.number == line);
+                reply.more.was = old.map(|old| page::listed(before, &old));
+            }
+            (Stop::NoReading, _) => {
+                reply.more.over = kept.over;
+                reply.more.why = why::no_reading(&kept.bytes, kept.over, reply.column);
+            }
+            (Stop::NoSuchLine, _) => {
+                reply.more.missing = missing(&self.controller, reply.line, &kept.bytes);
+            }
+            (Stop::Paused, _) => {
+                let paused = self.controller.record.paused;
+                reply.more.pause = Some(show::pause_place(paused, &self.controller.page));
+            }
+            _ => {}
+        }
     }
 
     /// What LIST writes. It is asked of a copy: a typed LIST would end a pause.
@@ -179,6 +233,7 @@ impl Desk {
                 },
                 change: Change::Nothing,
                 ended_pause: false,
+                more: More::default(),
             };
         }
     }

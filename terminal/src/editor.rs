@@ -30,12 +30,22 @@ pub struct Row {
 }
 
 impl Editor {
+    /// One that begins with a text.
+    pub fn holding(text: &str) -> Editor {
+        let mut editor = Editor::default();
+        editor.replace(text.chars().collect());
+        editor
+    }
+
     pub fn text(&self) -> String {
         self.text.iter().collect()
     }
 
     pub fn press(&mut self, key: Key, history: &History) -> Pressed {
         match key {
+            Key::Char('_') if !self.is_for_the_desk() => {
+                self.drop_from(self.cursor.saturating_sub(1))
+            }
             Key::Char(c) => {
                 self.text.insert(self.cursor, c);
                 self.cursor += 1;
@@ -75,6 +85,12 @@ impl Editor {
             text: shown.into_iter().collect(),
             cursor: self.cursor - begin,
         }
+    }
+
+    /// A line that begins with a dot is no line of the controller's: there `_` takes nothing back, and may stand in a file's name.
+    fn is_for_the_desk(&self) -> bool {
+        let first = self.text.iter().find(|c| **c != ' ');
+        first == Some(&'.')
     }
 
     /// Takes away what stands between a position and the cursor.
@@ -187,6 +203,21 @@ mod tests {
         assert_eq!(edited("10 GOTO  20 ", &[DropWord]), "10 GOTO  |");
         assert_eq!(edited("10 GOTO  20 ", &[DropWord, DropWord]), "10 |");
         assert_eq!(edited("10", &[DropWord, DropWord]), "|");
+    }
+
+    #[test]
+    fn an_underline_takes_back_what_stands_before_it_as_typing_does() {
+        assert_eq!(edited("PRIM_NT", &[]), "PRINT|");
+        assert_eq!(edited("PRIMT", &[Left, Char('_')]), "PRI|T");
+        assert_eq!(edited("_", &[]), "|");
+        assert_eq!(edited(".load my_rules.nib", &[]), ".load my_rules.nib|");
+    }
+
+    #[test]
+    fn a_line_may_be_there_to_be_changed() {
+        let mut editor = Editor::holding("20 END");
+        editor.press(Backspace, &History::default());
+        assert_eq!(editor.text(), "20 EN");
     }
 
     #[test]

@@ -8,7 +8,7 @@ use nibl_terminal::check::{check, total};
 use nibl_terminal::files;
 use nibl_terminal::keyboard::Keyboard;
 use nibl_terminal::raw::Raw;
-use nibl_terminal::screen::Screen;
+use nibl_terminal::screen::{Abilities, Screen};
 use nibl_terminal::seat::Seat;
 use nibl_terminal::session::Session;
 use nibl_terminal::warnings::{table, Warning};
@@ -22,10 +22,11 @@ fn main() -> ExitCode {
     let words: Vec<String> = env::args().skip(1).collect();
     let words: Vec<&str> = words.iter().map(String::as_str).collect();
     let ended = match words.as_slice() {
-        [] => work().map(|()| ExitCode::SUCCESS),
+        [] => work(&[]).map(|()| ExitCode::SUCCESS),
+        ["-i", files @ ..] => work(files).map(|()| ExitCode::SUCCESS),
         ["--stops"] => put(&stops()).map(|()| ExitCode::SUCCESS),
         ["--check", rest @ ..] => check_books(rest),
-        _ => Err("usage: nibl-terminal [--stops | --check FILE..]".to_string()),
+        _ => Err("usage: nibl-terminal [-i FILE.. | --stops | --check FILE..]".to_string()),
     };
     ended.unwrap_or_else(|fault| {
         eprintln!("nibl: {fault}");
@@ -89,20 +90,26 @@ fn asked<'a>(words: &[&'a str]) -> Result<(Vec<Warning>, Vec<&'a str>), String> 
     }
 }
 
-fn work() -> Result<(), String> {
+fn work(files: &[&str]) -> Result<(), String> {
     if !stdin().is_terminal() {
         return Err("standard input is no terminal".to_string());
     }
     let _raw =
         Raw::enter().map_err(|error| format!("the terminal cannot be set by stty: {error}"))?;
-    let screen = Screen::new(stdout(), is_able());
+    let screen = Screen::new(stdout(), abilities());
     let keyboard = Keyboard::of(stdin());
-    Session::new(Seat::new(screen, keyboard)).run();
+    Session::new(Seat::new(screen, keyboard)).run(files);
     Ok(())
 }
 
-/// Does what is written go to a terminal that knows bold?
-fn is_able() -> bool {
-    let plain = env::var("TERM").map_or(true, |name| name.is_empty() || name == "dumb");
-    stdout().is_terminal() && !plain
+/// What the terminal says that it can show: styles by its kind, and more than ASCII by the locale.
+fn abilities() -> Abilities {
+    let named = |name: &str| env::var(name).ok().filter(|value| !value.is_empty());
+    let plain = named("TERM").map_or(true, |name| name == "dumb");
+    let locale = ["LC_ALL", "LC_CTYPE", "LANG"].into_iter().find_map(named);
+    let charset = locale.unwrap_or_default().to_ascii_lowercase();
+    Abilities {
+        styles: stdout().is_terminal() && !plain,
+        signs: charset.contains("utf-8") || charset.contains("utf8"),
+    }
 }

@@ -1,16 +1,20 @@
 //! What a host can read off a page of the controller: its lines, and where a place lies.
 
-use std::collections::BTreeMap;
+use crate::reading::Typed;
 
-/// What an edit did to the program.
+/// What a line that was obeyed did to the program.
 #[derive(Clone, Copy, Debug, PartialEq, Eq)]
 pub enum Change {
     Nothing,
     Stored(u16),
     Replaced(u16),
+    /// Replaced by itself.
+    Kept(u16),
     Deleted(u16),
-    /// NEW, and there was something.
-    Emptied,
+    /// There was no line to delete.
+    Absent(u16),
+    /// NEW; or a command, and there is no program.
+    Empty,
 }
 
 /// One record: its line number, and where its text begins and ends. At the end stands its CR.
@@ -51,31 +55,37 @@ pub fn line_at(page: &[u8], position: usize) -> Option<Line> {
     lines(page).into_iter().find(holds)
 }
 
-pub fn change(before: &[u8], after: &[u8]) -> Change {
-    let (old, new) = (texts(before), texts(after));
-    if new.is_empty() && old.len() > 1 {
-        return Change::Emptied;
-    }
-    let gone = old.keys().find(|number| !new.contains_key(number));
-    let other = new
-        .iter()
-        .find(|(number, text)| old.get(number) != Some(text));
-    match (gone, other) {
-        (Some(number), _) => Change::Deleted(*number),
-        (None, None) => Change::Nothing,
-        (None, Some((number, _))) if old.contains_key(number) => Change::Replaced(*number),
-        (None, Some((number, _))) => Change::Stored(*number),
-    }
+/// The text of a line, if it is there.
+pub fn text(page: &[u8], number: u16) -> Option<&[u8]> {
+    let line = lines(page).into_iter().find(|line| line.number == number)?;
+    Some(&page[line.begin..line.end])
 }
 
-fn texts(page: &[u8]) -> BTreeMap<u16, &[u8]> {
-    let text = |line: Line| (line.number, &page[line.begin..line.end]);
-    lines(page).into_iter().map(text).collect()
+/// A line as LIST writes it, without its end.
+pub fn listed(page: &[u8], line: &Line) -> String {
+    let text = String::from_utf8_lossy(&page[line.begin..line.end]);
+    format!("{}{text}", line.number)
+}
+
+/// What came of a typed line on this page, which became the other.
+pub fn change(typed: &Typed, before: &[u8], after: &[u8]) -> Change {
+    match typed {
+        Typed::Store(line, _) => match text(before, *line) {
+            None => Change::Stored(*line),
+            Some(was) if text(after, *line) == Some(was) => Change::Kept(*line),
+            Some(_) => Change::Replaced(*line),
+        },
+        Typed::Delete(line) if text(before, *line).is_none() => Change::Absent(*line),
+        Typed::Delete(line) => Change::Deleted(*line),
+        Typed::Command("NEW" | "LIST" | "RUN") if lines(after).is_empty() => Change::Empty,
+        Typed::Command(_) | Typed::Statement(_) | Typed::Blank => Change::Nothing,
+    }
 }
 
 #[cfg(test)]
 mod tests {
     use super::*;
+    use crate::reading::read;
 
     /// A page of 64 bytes with these lines.
     fn page(lines: &[(u16, &str)]) -> Vec<u8> {
@@ -120,16 +130,19 @@ mod tests {
 
     #[test]
     fn changes_are_told_apart() {
-        let one = page(&[(10, " END")]);
-        let two = page(&[(10, " END"), (20, " END")]);
+        let (none, one) = (page(&[]), page(&[(10, " END")]));
         let other = page(&[(10, " A=1")]);
-        let none = page(&[]);
-        assert_eq!(change(&one, &one), Change::Nothing);
-        assert_eq!(change(&one, &two), Change::Stored(20));
-        assert_eq!(change(&none, &one), Change::Stored(10));
-        assert_eq!(change(&one, &other), Change::Replaced(10));
-        assert_eq!(change(&two, &one), Change::Deleted(20));
-        assert_eq!(change(&one, &none), Change::Deleted(10));
-        assert_eq!(change(&two, &none), Change::Emptied);
+        let told = |line: &str, before: &[u8], after: &[u8]| {
+            change(&read(line.as_bytes()).expect("a reading"), before, after)
+        };
+        assert_eq!(told("10 END", &none, &one), Change::Stored(10));
+        assert_eq!(told("10 A=1", &one, &other), Change::Replaced(10));
+        assert_eq!(told("10 END", &one, &one), Change::Kept(10));
+        assert_eq!(told("10", &one, &none), Change::Deleted(10));
+        assert_eq!(told("20", &one, &one), Change::Absent(20));
+        assert_eq!(told("NEW", &one, &none), Change::Empty);
+        assert_eq!(told("LIST", &none, &none), Change::Empty);
+        assert_eq!(told("RUN", &one, &one), Change::Nothing);
+        assert_eq!(told("A=1", &none, &none), Change::Nothing);
     }
 }

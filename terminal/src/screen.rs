@@ -4,22 +4,40 @@ use std::io::Write;
 
 use crate::editor::{shape, Row};
 
-/// Stands before every line that the dealer types. It is none of the characters that program output is shown in.
+/// Stands before every line that the dealer types. It is none of the characters that program output is shown in, where the terminal
+/// has it.
 pub const PROMPT: &str = "» ";
 /// Stands before what the desk says of a line.
 pub const SAID: &str = "« ";
 /// Stands below the first byte of a line that is wrong.
 const POINTER: &str = "^";
+/// What stands for the desk's own signs where the terminal has ASCII alone. Each takes one column, as the sign does.
+const ASCII: [(char, char); 6] = [
+    ('»', '>'),
+    ('«', '<'),
+    ('›', '>'),
+    ('‹', '<'),
+    ('…', '~'),
+    ('·', '.'),
+];
 const BOLD: &str = "\x1b[1m";
 const DIM: &str = "\x1b[2m";
 const PLAIN: &str = "\x1b[0m";
 const PASTE_MARKS_ON: &str = "\x1b[?2004h";
 const PASTE_MARKS_OFF: &str = "\x1b[?2004l";
 
+/// What a terminal can show.
+#[derive(Clone, Copy, Debug, Default)]
+pub struct Abilities {
+    /// Bold, and the marks of a paste.
+    pub styles: bool,
+    /// More than ASCII.
+    pub signs: bool,
+}
+
 pub struct Screen<W: Write> {
     out: W,
-    /// Does the terminal know bold and the marks of a paste?
-    able: bool,
+    able: Abilities,
     /// Is the cursor at the front of a line?
     fresh: bool,
     /// How many columns the line being typed took when it was last drawn.
@@ -29,7 +47,7 @@ pub struct Screen<W: Write> {
 }
 
 impl<W: Write> Screen<W> {
-    pub fn new(out: W, able: bool) -> Screen<W> {
+    pub fn new(out: W, able: Abilities) -> Screen<W> {
         let mut screen = Screen {
             out,
             able,
@@ -37,7 +55,7 @@ impl<W: Write> Screen<W> {
             drawn: 0,
             broken: false,
         };
-        if able {
+        if able.styles {
             screen.put(PASTE_MARKS_ON);
         }
         screen
@@ -63,11 +81,20 @@ impl<W: Write> Screen<W> {
         self.put(&format!("{styled}\r\n"));
     }
 
-    /// Points at a column of the row above.
-    pub fn point(&mut self, column: usize) {
+    /// Points at a column of the row above, and says something of it.
+    pub fn point(&mut self, column: usize, words: &str) {
         self.fresh_line();
-        let styled = self.styled(BOLD, POINTER);
+        let words: String = words.chars().map(shape).collect();
+        let styled = self.styled(BOLD, format!("{POINTER} {words}").trim_end());
         self.put(&format!("{}{styled}\r\n", " ".repeat(column)));
+    }
+
+    /// Begins the row anew, below: the window was made so narrow that what is drawn goes on in the next row.
+    pub fn leave_row(&mut self, width: usize) {
+        if self.drawn >= width {
+            self.put("\r\n");
+            self.drawn = 0;
+        }
     }
 
     /// Several lines that the dealer asked for.
@@ -105,13 +132,17 @@ impl<W: Write> Screen<W> {
     }
 
     fn styled(&self, style: &str, text: &str) -> String {
-        match self.able {
+        match self.able.styles {
             true => format!("{style}{text}{PLAIN}"),
             false => text.to_string(),
         }
     }
 
     fn put(&mut self, text: &str) {
+        let text = match self.able.signs {
+            true => text.to_string(),
+            false => text.chars().map(ascii).collect(),
+        };
         let written = self
             .out
             .write_all(text.as_bytes())
@@ -122,9 +153,19 @@ impl<W: Write> Screen<W> {
 
 impl<W: Write> Drop for Screen<W> {
     fn drop(&mut self) {
-        if self.able {
+        if self.able.styles {
             self.put(PASTE_MARKS_OFF);
         }
+    }
+}
+
+/// A character as ASCII has it.
+fn ascii(c: char) -> char {
+    let known = ASCII.iter().find(|(sign, _)| *sign == c);
+    match known {
+        Some((_, plain)) => *plain,
+        None if c.is_ascii() => c,
+        None => '?',
     }
 }
 
@@ -155,10 +196,19 @@ fn visible(output: &[u8]) -> String {
 mod tests {
     use super::*;
 
-    fn shown(work: impl FnOnce(&mut Screen<&mut Vec<u8>>)) -> String {
+    const SIGNS: Abilities = Abilities {
+        styles: false,
+        signs: true,
+    };
+
+    fn shown_by(able: Abilities, work: impl FnOnce(&mut Screen<&mut Vec<u8>>)) -> String {
         let mut bytes = Vec::new();
-        work(&mut Screen::new(&mut bytes, false));
+        work(&mut Screen::new(&mut bytes, able));
         String::from_utf8(bytes).expect("UTF-8")
+    }
+
+    fn shown(work: impl FnOnce(&mut Screen<&mut Vec<u8>>)) -> String {
+        shown_by(SIGNS, work)
     }
 
     #[test]
@@ -191,8 +241,8 @@ mod tests {
 
     #[test]
     fn the_pointer_stands_in_its_column() {
-        assert_eq!(shown(|screen| screen.point(3)), "   ^\r\n");
-        assert_eq!(shown(|screen| screen.point(0)), "^\r\n");
+        assert_eq!(shown(|screen| screen.point(3, "")), "   ^\r\n");
+        assert_eq!(shown(|screen| screen.point(0, "END?")), "^ END?\r\n");
     }
 
     #[test]
@@ -219,10 +269,41 @@ mod tests {
 
     #[test]
     fn styles_only_where_they_are_known() {
-        let mut bytes = Vec::new();
-        Screen::new(&mut bytes, true).say("0: done", true);
-        let text = String::from_utf8(bytes).expect("UTF-8");
+        let able = Abilities {
+            styles: true,
+            signs: true,
+        };
+        let text = shown_by(able, |screen| screen.say("0: done", true));
         assert_eq!(text, "\x1b[?2004h\x1b[1m« 0: done\x1b[0m\r\n\x1b[?2004l");
         assert_eq!(shown(|screen| screen.say("A\x1bB", true)), "« A␛B\r\n");
+    }
+
+    #[test]
+    fn where_there_is_ascii_alone_every_sign_has_a_form() {
+        let row = Row {
+            text: "…A\u{2409}".to_string(),
+            cursor: 0,
+        };
+        let text = shown_by(Abilities::default(), |screen| {
+            screen.program(b"\x1b");
+            screen.say("0: done ä", false);
+            screen.draw(PROMPT, &row);
+        });
+        assert_eq!(text, "<1B>\r\n< 0: done ?\r\n\r> ~A?\r> ");
+    }
+
+    #[test]
+    fn a_row_that_no_longer_fits_is_begun_anew() {
+        let row = |text: &str| Row {
+            text: text.to_string(),
+            cursor: 0,
+        };
+        let text = shown(|screen| {
+            screen.draw(PROMPT, &row("123456"));
+            screen.leave_row(9);
+            screen.leave_row(8);
+            screen.draw(PROMPT, &row("12345…"));
+        });
+        assert_eq!(text, "\r» 123456\r» \r\n\r» 12345…\r» ");
     }
 }

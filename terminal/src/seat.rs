@@ -25,8 +25,6 @@ pub struct Seat<W: Write> {
     keyboard: Keyboard,
     typed: History,
     replies: History,
-    /// The dealer has left.
-    closed: bool,
 }
 
 impl<W: Write> Seat<W> {
@@ -36,46 +34,64 @@ impl<W: Write> Seat<W> {
             keyboard,
             typed: History::default(),
             replies: History::default(),
-            closed: false,
         }
     }
 
-    /// Waits for a typed line.
-    pub fn line(&mut self) -> Asked {
-        ask(
-            &mut self.screen,
-            &mut self.keyboard,
-            &mut self.typed,
-            PROMPT,
-        )
+    /// Waits for a typed line; some text may stand there already.
+    pub fn line(&mut self, text: &str) -> Asked {
+        let (screen, keyboard) = (&mut self.screen, &mut self.keyboard);
+        ask(screen, keyboard, &mut self.typed, PROMPT, text)
     }
 
-    /// Points at the spot of a refused line that stands in the row above, behind some text.
+    /// Asks a question that is answered by y, or by anything else.
+    pub fn agrees(&mut self, question: &str) -> bool {
+        let prompt = format!("{question} y or n {PROMPT}");
+        let (screen, keyboard) = (&mut self.screen, &mut self.keyboard);
+        let answer = ask(screen, keyboard, &mut History::default(), &prompt, "");
+        matches!(answer, Asked::Line(line) if line.trim().eq_ignore_ascii_case("y"))
+    }
+
+    /// Points at the spot of a refused line that stands in the row above, behind some text, and says why it is one. What has no room
+    /// there stands in a row of its own.
     pub fn point(&mut self, before: &str, line: &[u8], reply: &Reply) {
         if reply.stop != Stop::NoReading {
             return;
         }
-        if let Some(at) = spot(line, reply.column, before.chars().count(), raw::width()) {
-            self.screen.point(at);
+        let why = match reply.more.over {
+            0 => reply.more.why.as_deref().unwrap_or(""),
+            _ => "", // the reply says it
+        };
+        let width = raw::width();
+        let at = spot(line, reply.column, before.chars().count(), width);
+        let beside = at.filter(|at| at + 2 + why.chars().count() < width);
+        if let Some(at) = at {
+            self.screen.point(at, beside.map_or("", |_| why));
+        }
+        if beside.is_none() && !why.is_empty() {
+            self.screen.say(why, true);
         }
     }
 
+    /// Is nobody there any more?
     pub fn has_left(&self) -> bool {
-        self.closed || self.screen.is_broken()
+        self.keyboard.is_gone() || self.screen.is_broken()
     }
 }
 
-/// Lets a line be typed behind a prompt.
+/// Lets a line be typed behind a prompt. The window may be made wider or narrower meanwhile.
 fn ask<W: Write>(
     screen: &mut Screen<W>,
     keyboard: &mut Keyboard,
     history: &mut History,
     prompt: &str,
+    text: &str,
 ) -> Asked {
-    let room = raw::width().saturating_sub(prompt.chars().count() + 1); // the last column stays free: terminals differ there
-    let mut editor = Editor::default();
+    let mut editor = Editor::holding(text);
     loop {
         if !keyboard.has_more() {
+            let width = raw::width();
+            screen.leave_row(width);
+            let room = width.saturating_sub(prompt.chars().count() + 1); // the last column stays free: terminals differ there
             screen.draw(prompt, &editor.row(room));
         }
         let pressed = editor.press(keyboard.key(), history);
@@ -101,22 +117,14 @@ impl<W: Write> Dealer for Seat<W> {
 
     fn reply(&mut self, line: u16) -> Option<Vec<u8>> {
         let prompt = format!("line {line} asks {PROMPT}");
-        match ask(
-            &mut self.screen,
-            &mut self.keyboard,
-            &mut self.replies,
-            &prompt,
-        ) {
+        let (screen, keyboard) = (&mut self.screen, &mut self.keyboard);
+        match ask(screen, keyboard, &mut self.replies, &prompt, "") {
             Asked::Line(reply) => Some(reply.into_bytes()),
-            Asked::Interrupted => None,
-            Asked::Closed => {
-                self.closed = true;
-                None
-            }
+            Asked::Interrupted | Asked::Closed => None,
         }
     }
 
     fn interrupts(&mut self) -> bool {
-        self.keyboard.interrupted() || self.keyboard.is_gone() || self.screen.is_broken()
+        self.keyboard.interrupted() || self.has_left()
     }
 }

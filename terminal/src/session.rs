@@ -1,14 +1,12 @@
 //! A dealer's session: typed lines go to the controller, lines with a dot to the desk itself.
 
-use std::collections::VecDeque;
 use std::io::Write;
 
-use nibl::Stop;
-
+use crate::books::{is_refusal, load, save, Saved};
 use crate::commands::{parse, Command, HELP};
-use crate::desk::{Dealer, Desk, Reply};
-use crate::files;
-use crate::screen::{PROMPT, SAID};
+use crate::desk::{Desk, Reply};
+use crate::page;
+use crate::screen::PROMPT;
 use crate::seat::{Asked, Seat};
 use crate::show;
 use crate::words::{counted, grouped, sentence, stops};
@@ -16,6 +14,11 @@ use crate::words::{counted, grouped, sentence, stops};
 pub struct Session<W: Write> {
     desk: Desk,
     seat: Seat<W>,
+    saved: Saved,
+    /// What stands behind the next prompt already.
+    draft: String,
+    /// The dealer has said that it ends.
+    ended: bool,
 }
 
 impl<W: Write> Session<W> {
@@ -23,22 +26,31 @@ impl<W: Write> Session<W> {
         Session {
             desk: Desk::default(),
             seat,
+            saved: Saved::default(),
+            draft: String::new(),
+            ended: false,
         }
     }
 
-    /// Until the dealer leaves.
-    pub fn run(&mut self) {
-        self.seat.screen.say(&self.lent(), false);
-        self.seat
-            .screen
-            .say(".help says what can be done; Ctrl-D ends", false);
-        while !self.seat.has_left() {
-            match self.seat.line() {
+    /// Types some files, and then what the dealer types, until the dealer leaves.
+    pub fn run(&mut self, files: &[&str]) {
+        self.say(&self.lent());
+        self.say(".help says what can be done; .quit ends");
+        for file in files {
+            load(&mut self.desk, &mut self.seat, &mut self.saved, file);
+        }
+        while !self.ended && !self.seat.has_left() {
+            let draft = std::mem::take(&mut self.draft);
+            match self.seat.line(&draft) {
                 Asked::Line(line) => self.obey(&line),
                 Asked::Interrupted => {}
-                Asked::Closed => return,
+                Asked::Closed => self.quit(),
             }
         }
+    }
+
+    fn say(&mut self, words: &str) {
+        self.seat.screen.say(words, false);
     }
 
     fn obey(&mut self, line: &str) {
@@ -56,6 +68,9 @@ impl<W: Write> Session<W> {
     fn answer(&mut self, reply: &Reply) {
         let stands_out = is_refusal(reply.stop);
         self.seat.screen.say(&sentence(reply), stands_out);
+        if let Some(was) = &reply.more.was {
+            self.say(&format!("it was {was}"));
+        }
     }
 
     fn command(&mut self, command: Command) {
@@ -64,19 +79,72 @@ impl<W: Write> Session<W> {
                 let reply = self.desk.go_on(&mut self.seat);
                 self.answer(&reply);
             }
-            Command::Load(file) => self.load(&file),
-            Command::Save(file) => self.save(&file),
+            Command::Load(file) => load(&mut self.desk, &mut self.seat, &mut self.saved, &file),
+            Command::Save(file) => save(&self.desk, &mut self.seat, &mut self.saved, &file),
+            Command::List(first, last) => self.list(first, last),
+            Command::Edit(line) => self.edit(line),
+            Command::Find(text) => self.find(&text),
             Command::Show => self.seat.screen.tell(&show::state(&self.desk)),
             Command::Help => self.seat.screen.tell(HELP),
             Command::Stops => self.seat.screen.tell(&stops()),
+            Command::Quit => self.quit(),
             Command::Sense(value) => self.sense(value),
             Command::Budget(value) => self.budget(value),
-            Command::Memory => self
-                .seat
-                .screen
-                .tell(&show::memory(&self.desk.controller.memory)),
+            Command::Memory => {
+                let rows = show::memory(&self.desk.controller.memory);
+                self.seat.screen.tell(&rows);
+            }
             Command::MemoryAt(address) => self.memory(address),
             Command::MemorySet(address, values) => self.store(address, &values),
+        }
+    }
+
+    /// Ends, but not with a program that is in no file, unless the dealer has been told.
+    fn quit(&mut self) {
+        self.ended = self.seat.has_left() || !self.saved.is_to_be_told(&self.desk);
+        if !self.ended {
+            let words = "the program is in no file: .save FILE writes it; .quit or Ctrl-D ends";
+            self.seat.screen.say(words, true);
+        }
+    }
+
+    /// Lines as LIST writes them. The run that is paused stays paused.
+    fn list(&mut self, first: u16, last: u16) {
+        let rows = self.rows(|line, _| (first..=last).contains(&line));
+        match rows.is_empty() {
+            true => self.say("there is no such line"),
+            false => self.seat.screen.tell(&rows.concat()),
+        }
+    }
+
+    fn find(&mut self, text: &str) {
+        let wanted = text.to_ascii_uppercase();
+        let rows = self.rows(|_, row| row.to_ascii_uppercase().contains(&wanted));
+        match rows.is_empty() {
+            true => self.say(&format!("no line has {text}")),
+            false => self.seat.screen.tell(&rows.concat()),
+        }
+    }
+
+    /// The listed lines of which something holds.
+    fn rows(&self, holds: impl Fn(u16, &str) -> bool) -> Vec<String> {
+        let page = &self.desk.controller.page;
+        let listed = |line: &page::Line| (line.number, page::listed(page, line));
+        page::lines(page)
+            .iter()
+            .map(listed)
+            .filter(|(number, row)| holds(*number, row))
+            .map(|(_, row)| row + "\n")
+            .collect()
+    }
+
+    fn edit(&mut self, line: u16) {
+        match self.rows(|number, _| number == line).pop() {
+            Some(row) => self.draft = row.trim_end_matches('\n').to_string(),
+            None => self
+                .seat
+                .screen
+                .say(&format!("there is no line {line}"), true),
         }
     }
 
@@ -130,110 +198,5 @@ impl<W: Write> Session<W> {
         self.seat
             .screen
             .say(&format!("the memory goes from 0 to {last}"), true);
-    }
-
-    fn save(&mut self, file: &str) {
-        let done = match self.desk.listing() {
-            Err(stop) => Err(stop.to_string()),
-            Ok(listing) if listing.is_empty() => {
-                Err(format!("there is no program; {file} was not written"))
-            }
-            Ok(listing) => files::write(file, &listing).map(|()| {
-                let lines = counted(files::lines(&listing).len() as u64, "line");
-                format!(
-                    "{lines}, {} written to {file}",
-                    counted(listing.len() as u64, "byte")
-                )
-            }),
-        };
-        match done {
-            Ok(words) => self.seat.screen.say(&words, false),
-            Err(fault) => self.seat.screen.say(&fault, true),
-        }
-    }
-
-    fn load(&mut self, file: &str) {
-        let bytes = match files::read(file) {
-            Ok(bytes) => bytes,
-            Err(fault) => return self.seat.screen.say(&fault, true),
-        };
-        let nuls = bytes.iter().filter(|byte| **byte == 0).count() as u64;
-        if nuls > 0 {
-            let nuls = counted(nuls, "NUL byte");
-            self.seat
-                .screen
-                .say(&format!("{file} has {nuls}; typing drops each"), true);
-        }
-        self.type_book(file, numbered(&bytes));
-    }
-
-    /// Types a file's lines. Those that were refused are shown with their numbers.
-    fn type_book(&mut self, file: &str, rest: VecDeque<(usize, &[u8])>) {
-        let mut book = Book {
-            seat: &mut self.seat,
-            rest,
-        };
-        let (mut typed, mut refused) = (0, 0);
-        while let Some((number, line)) = book.rest.pop_front() {
-            let reply = self.desk.take_line(line, &mut book);
-            typed += 1;
-            if is_refusal(reply.stop) {
-                refused += 1;
-                book.refused(file, number, line, &reply);
-            }
-            if reply.was_cut_short() || book.seat.has_left() || book.interrupts() {
-                return self
-                    .seat
-                    .screen
-                    .say(&format!("{file}: ended at line {number}"), true);
-            }
-        }
-        let typed = counted(typed, "line");
-        self.seat.screen.say(
-            &format!("{file}: {typed} typed, {refused} refused"),
-            refused > 0,
-        );
-    }
-}
-
-/// Not done, and no END either.
-fn is_refusal(stop: Stop) -> bool {
-    !matches!(stop, Stop::Done | Stop::End)
-}
-
-/// A file being typed: INPUT takes its lines as replies, as it would in a session of these lines.
-struct Book<'a, W: Write> {
-    seat: &'a mut Seat<W>,
-    rest: VecDeque<(usize, &'a [u8])>,
-}
-
-fn numbered(bytes: &[u8]) -> VecDeque<(usize, &[u8])> {
-    (1..).zip(files::lines(bytes)).collect()
-}
-
-impl<W: Write> Book<'_, W> {
-    fn refused(&mut self, file: &str, number: usize, line: &[u8], reply: &Reply) {
-        let text = String::from_utf8_lossy(line);
-        let before = format!("{file}, line {number}: ");
-        self.seat.screen.say(&format!("{before}{text}"), true);
-        self.seat.point(&format!("{SAID}{before}"), line, reply);
-        self.seat.screen.say(&sentence(reply), true);
-    }
-}
-
-impl<W: Write> Dealer for Book<'_, W> {
-    fn show(&mut self, output: &[u8]) {
-        self.seat.show(output);
-    }
-
-    fn reply(&mut self, line: u16) -> Option<Vec<u8>> {
-        match self.rest.pop_front() {
-            Some((_, reply)) => Some(reply.to_vec()),
-            None => self.seat.reply(line),
-        }
-    }
-
-    fn interrupts(&mut self) -> bool {
-        self.seat.interrupts()
     }
 }

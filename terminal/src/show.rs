@@ -97,16 +97,25 @@ fn back_to(place: u16, page: &[u8]) -> String {
 
 /// Where a paused run goes on.
 fn pause(paused: u16, page: &[u8]) -> String {
+    let place = pause_place(paused, page);
+    let rest = paused.checked_sub(AFTER);
+    match rest.and_then(|place| rest_after(place, page)) {
+        Some(rest) => format!("{place} before {rest}"),
+        None => place,
+    }
+}
+
+/// The same without what stands there, for a sentence.
+pub fn pause_place(paused: u16, page: &[u8]) -> String {
     let all = lines(page);
     let next = match paused {
         NOWHERE => return "none".to_string(),
         START => all.first(),
         _ => {
             let place = paused - AFTER;
-            if let (Some(line), Some(rest)) =
-                (line_at(page, usize::from(place)), rest_after(place, page))
-            {
-                return format!("in line {} before {rest}", line.number);
+            let line = line_at(page, usize::from(place));
+            if let (Some(line), Some(_)) = (line, rest_after(place, page)) {
+                return format!("in line {}", line.number);
             }
             all.iter().find(|line| line.begin > usize::from(place))
         }
@@ -144,10 +153,8 @@ pub fn memory(memory: &[u8]) -> String {
         .filter(has)
         .map(|(at, bytes)| row(at * ROW, bytes))
         .collect();
-    format!(
-        "{rows}{} bytes, all others 0\n",
-        grouped(memory.len() as u64)
-    )
+    let others = if rows.is_empty() { "all" } else { "all others" };
+    format!("{rows}{} bytes, {others} 0\n", grouped(memory.len() as u64))
 }
 
 /// Some of the memory from an address on, or none if it is not there.
@@ -288,6 +295,7 @@ mod tests {
     #[test]
     fn memory_is_shown_in_short_and_from_an_address() {
         let mut bytes = vec![0; 40];
+        assert_eq!(memory(&bytes), "40 bytes, all 0\n");
         bytes[17] = 65;
         assert!(memory(&bytes).starts_with("   10    0   0   0   0   0   0   0  65"));
         assert!(memory(&bytes).contains("·A·"));

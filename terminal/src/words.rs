@@ -1,6 +1,6 @@
 //! What is said of a reply, and of the stops.
 
-use nibl::{Stop, LINE_MOST};
+use nibl::Stop;
 
 use crate::desk::{Cause, Reply};
 use crate::page::Change;
@@ -10,6 +10,9 @@ pub fn sentence(reply: &Reply) -> String {
     let mut said = reason(reply);
     if reply.cause == Cause::Interrupted {
         said += " by Ctrl-C";
+    }
+    if let Some(place) = &reply.more.pause {
+        said += &format!(" {place}");
     }
     said += &whereabouts(reply);
     if let Some(effect) = effect(reply) {
@@ -21,13 +24,16 @@ pub fn sentence(reply: &Reply) -> String {
     said
 }
 
-/// The stop in words. A line whose column is less than an over-long one's is not over-long.
+/// The stop in words.
 fn reason(reply: &Reply) -> String {
-    match (reply.stop, reply.column) {
-        (Stop::NoReading, column) if column < LINE_MOST => {
-            format!("{}: no reading after column {column}", reply.stop.number())
+    let number = reply.stop.number();
+    match (reply.stop, reply.more.over, reply.more.missing) {
+        (Stop::NoReading, 0, _) => format!("{number}: no reading after column {}", reply.column),
+        (Stop::NoReading, over, _) => {
+            format!("{number}: over-long by {}", counted(over as u64, "byte"))
         }
-        (stop, _) => stop.to_string(),
+        (Stop::NoSuchLine, _, Some(target)) => format!("{}: {target}", reply.stop),
+        (stop, _, _) => stop.to_string(),
     }
 }
 
@@ -46,10 +52,13 @@ fn effect(reply: &Reply) -> Option<String> {
         (Stop::Paused, _) => "`.` goes on".to_string(),
         (Stop::Done, Change::Stored(line)) => format!("line {line} was stored"),
         (Stop::Done, Change::Replaced(line)) => format!("line {line} was replaced"),
+        (Stop::Done, Change::Kept(line)) => format!("line {line} is as it was"),
         (Stop::Done, Change::Deleted(line)) => format!("line {line} was deleted"),
-        (Stop::Done, Change::Emptied) => "the page is empty".to_string(),
+        (Stop::Done, Change::Absent(line)) => format!("there was no line {line}"),
+        (Stop::Done, Change::Empty) => "the page is empty".to_string(),
         (Stop::Done, _) if reply.cause == Cause::NothingPaused => "nothing was paused".to_string(),
         (Stop::Done, Change::Nothing) => return None,
+        (Stop::NoReading, _) if reply.more.immediate => "nothing was run".to_string(),
         _ if reply.cause == Cause::NoReply => "no reply was given".to_string(),
         (stop, _) => stop.effect().to_string(),
     };
@@ -98,6 +107,7 @@ pub fn grouped(number: u64) -> String {
 #[cfg(test)]
 mod tests {
     use super::*;
+    use crate::desk::More;
 
     fn reply(stop: Stop, line: Option<u16>, steps: u64) -> Reply {
         Reply {
@@ -108,58 +118,90 @@ mod tests {
             cause: Cause::Answered,
             change: Change::Nothing,
             ended_pause: false,
+            more: More::default(),
         }
     }
 
     #[test]
-    fn a_refused_line_and_a_pause() {
-        let wrong = |column| Reply {
+    fn a_refused_line() {
+        let wrong = |column, more| Reply {
             column,
+            more,
             ..reply(Stop::NoReading, None, 0)
         };
         assert_eq!(
-            sentence(&wrong(6)),
+            sentence(&wrong(6, More::default())),
             "5: no reading after column 6; nothing was stored"
         );
+        let over = More {
+            over: 1,
+            ..More::default()
+        };
         assert_eq!(
-            sentence(&wrong(LINE_MOST)),
-            "5: over-long or no reading; nothing was stored"
+            sentence(&wrong(72, over)),
+            "5: over-long by 1 byte; nothing was stored"
         );
-        let paused = reply(Stop::Paused, None, 10_000);
+        let immediate = More {
+            immediate: true,
+            ..More::default()
+        };
+        assert_eq!(
+            sentence(&wrong(72, immediate)),
+            "5: no reading after column 72; nothing was run"
+        );
+    }
+
+    #[test]
+    fn a_pause() {
+        let mut paused = reply(Stop::Paused, None, 10_000);
+        paused.more.pause = Some("before line 20".to_string());
         assert_eq!(
             sentence(&paused),
-            "14: paused after 10,000 steps; `.` goes on"
+            "14: paused before line 20 after 10,000 steps; `.` goes on"
+        );
+        paused.cause = Cause::Interrupted;
+        assert_eq!(
+            sentence(&paused),
+            "14: paused by Ctrl-C before line 20 after 10,000 steps; `.` goes on"
         );
         assert_eq!(
             sentence(&reply(Stop::Paused, None, 0)),
             "14: paused after 0 steps; `.` goes on"
         );
-        let interrupted = Reply {
-            cause: Cause::Interrupted,
-            ..paused
-        };
+    }
+
+    #[test]
+    fn a_jump_that_found_no_line() {
+        let mut lost = reply(Stop::NoSuchLine, Some(10), 2);
         assert_eq!(
-            sentence(&interrupted),
-            "14: paused by Ctrl-C after 10,000 steps; `.` goes on"
+            sentence(&lost),
+            "8: no such line (line 10, 2 steps); no jump was made"
+        );
+        lost.more.missing = Some(300);
+        assert_eq!(
+            sentence(&lost),
+            "8: no such line: 300 (line 10, 2 steps); no jump was made"
         );
     }
 
     #[test]
     fn what_was_done() {
-        let done = reply(Stop::Done, None, 0);
-        assert_eq!(sentence(&done), "0: done");
+        let done = || reply(Stop::Done, None, 0);
+        assert_eq!(sentence(&done()), "0: done");
         assert_eq!(
             sentence(&reply(Stop::Done, None, 1)),
             "0: done after 1 step"
         );
-        let said = |change| sentence(&Reply { change, ..done });
+        let said = |change| sentence(&Reply { change, ..done() });
         assert_eq!(said(Change::Stored(10)), "0: done; line 10 was stored");
         assert_eq!(said(Change::Replaced(10)), "0: done; line 10 was replaced");
+        assert_eq!(said(Change::Kept(10)), "0: done; line 10 is as it was");
         assert_eq!(said(Change::Deleted(10)), "0: done; line 10 was deleted");
-        assert_eq!(said(Change::Emptied), "0: done; the page is empty");
+        assert_eq!(said(Change::Absent(10)), "0: done; there was no line 10");
+        assert_eq!(said(Change::Empty), "0: done; the page is empty");
         let nothing = Reply {
             cause: Cause::NothingPaused,
-            ..done
+            ..done()
         };
         assert_eq!(sentence(&nothing), "0: done; nothing was paused");
     }

@@ -4,7 +4,9 @@ use std::fs;
 use std::path::PathBuf;
 use std::process::{Command, Output};
 
+use nibl::{Call, Controller, Stop};
 use nibl_terminal::check::{check, total, Checked, Grade};
+use nibl_terminal::why::no_reading;
 
 fn root(path: &str) -> PathBuf {
     PathBuf::from(env!("CARGO_MANIFEST_DIR"))
@@ -48,7 +50,10 @@ fn a_book_with_nothing_wrong() {
 
 #[test]
 fn refused_lines_are_errors_at_their_bytes() {
-    assert_eq!(one("20 PRINT"), [":2:9: error: the line ends too soon"]);
+    assert_eq!(
+        one("20 PRINT"),
+        [":2:9: error: the line ends too soon: something must follow PRINT"]
+    );
     assert_eq!(one("20 print A"), [":2:4: error: words are in capitals"]);
     assert_eq!(
         one(&format!("20 REM {}", "X".repeat(68))),
@@ -142,25 +147,31 @@ fn a_reply_deletes_no_line() {
     assert_eq!(found(b"10 INPUT A\n20 GOTO 10\nRUN\n10\n20\n"), [""; 0]);
 }
 
+/// The rule desk's rows are typed to be refused; no other book of the project has an error, and none a warning.
 #[test]
-fn the_projects_books_have_no_errors_and_no_warnings() {
-    let mut count = 0;
+fn the_projects_books_have_no_warnings() {
+    let (mut count, mut errors) = (0, Vec::new());
     for folder in ["examples", "examples/week"] {
         for entry in fs::read_dir(root(folder)).expect("the folder is there") {
             let path = entry.expect("an entry").path();
-            if path.extension().is_some_and(|kind| kind == "nib") {
-                let checked = check(&fs::read(&path).expect("it is read"), &[]);
-                let rows = checked.report("");
-                assert_eq!(
-                    (checked.errors(), names(&checked)),
-                    (0, vec![]),
-                    "{path:?}{rows}"
-                );
-                count += 1;
-            }
+            let name = path
+                .file_name()
+                .map(|name| name.to_string_lossy().into_owned());
+            let name = name.filter(|name| name.ends_with(".nib"));
+            let Some(name) = name else { continue };
+            let checked = check(&fs::read(&path).expect("it is read"), &[]);
+            assert_eq!(names(&checked), [""; 0], "{}", checked.report(&name));
+            let refused = checked.findings.iter().filter(|f| f.grade == Grade::Error);
+            errors.extend(refused.map(|finding| format!("{name}:{finding}")));
+            count += 1;
         }
     }
     assert!(count >= 5);
+    let wanted = [
+        "desk.nib:5:5: error: a line number is at most 32767",
+        "desk.nib:8:73: error: over-long by 1 byte",
+    ];
+    assert_eq!(errors, wanted);
 }
 
 /// The guide's sessions, by the rows at which they begin.
@@ -249,6 +260,50 @@ fn the_guide_has_every_warning() {
         let name = row["--no-".len()..].split(' ').next().expect("a name");
         assert!(guide.contains(&format!("| `{name}` | ")), "{name}");
     }
+}
+
+/// What stands between backquotes.
+fn code(text: &str) -> impl Iterator<Item = &str> {
+    text.split('`').skip(1).step_by(2)
+}
+
+/// The first stop that a line is answered with in a fresh session, and its column.
+fn stop(line: &str) -> (Stop, u16) {
+    let input = format!("{line}\r");
+    let mut controller = Controller::owned(4096, 1024);
+    let answer = controller.take_line(input.as_bytes(), &mut [0; 256], Call::at(0, 0, 0));
+    (answer.stop, answer.column)
+}
+
+#[test]
+fn what_the_guide_says_of_other_basics_is_so() {
+    let text = fs::read_to_string(root("docs/GUIDE.md")).expect("the guide is there");
+    let (_, rest) = text
+        .split_once("## If you know another BASIC")
+        .expect("a chapter");
+    let (chapter, _) = rest.split_once("\n## ").expect("another one");
+    let mut count = 0;
+    for row in chapter.lines().filter(|row| row.starts_with("| `")) {
+        let mut cells = row.split(" | ");
+        let (theirs, ours) = (cells.next().expect("theirs"), cells.next().expect("ours"));
+        for line in code(theirs).filter(|line| line.len() > 2) {
+            let (stop, column) = stop(line);
+            if line == "IF NOT (A=B) END" {
+                assert_eq!(stop, Stop::End, "{line}"); // it is taken, and that is the trap
+            } else {
+                assert_eq!(stop, Stop::NoReading, "{line}");
+                let why = no_reading(line.as_bytes(), 0, column);
+                assert!(why.is_some(), "{line}: nothing is said of it");
+            }
+            count += 1;
+        }
+        for line in code(ours).filter(|line| line.len() > 2 && !line.starts_with('.')) {
+            let numbered = format!("10 {line}");
+            let read = stop(line).0 != Stop::NoReading || stop(&numbered).0 != Stop::NoReading;
+            assert!(read || line == "@A", "{line}");
+        }
+    }
+    assert!(count > 25, "{count}");
 }
 
 fn nibl(words: &[&str]) -> Output {

@@ -88,9 +88,10 @@ impl Trial {
                     left.answer.outpos,
                 ),
             ),
+            // as the model's, of which every slot counts
             (
                 "record",
-                convert::record(&self.case.record) == Some(left.record),
+                self.case.record == convert::model_record(&left.record),
             ),
             ("page", self.case.page == left.page),
             ("memory", self.case.memory == left.memory),

@@ -8,7 +8,7 @@ use crate::gate::Gate;
 use crate::rules::{rules, Rule};
 use crate::sheet::Sheet;
 use crate::tables::{self, Cow, Visit, Wash};
-use crate::times::{parse, Calendar, FORMS, WEEK};
+use crate::times::{date, parse, Calendar, FORMS, WEEK};
 use crate::typed::Typed;
 
 /// Where the files are. Those that may be missing are none.
@@ -26,6 +26,8 @@ pub struct Files {
     pub boxes: u8,
     /// When the change is made, as it was written.
     pub at: Option<String>,
+    /// Whether the picture has the lines that each visit went through.
+    pub shows_lines: bool,
 }
 
 /// The boxes of the example, and the moment at which its line 240 is retyped.
@@ -48,6 +50,7 @@ impl Files {
             washing: there("washing.csv"),
             boxes: BOXES,
             at: None,
+            shows_lines: true,
         }
     }
 }
@@ -75,6 +78,9 @@ pub struct Case {
     pub washes: Vec<Wash>,
     pub boxes: u8,
     pub changed: u16,
+    /// The date of the Monday, if the visits have dates.
+    pub date: Option<String>,
+    pub shows_lines: bool,
 }
 
 impl Case {
@@ -101,6 +107,8 @@ impl Case {
             washes: washes.transpose()?.unwrap_or_default(),
             boxes: files.boxes,
             changed: moment(files, week)?,
+            date: week.monday.map(date),
+            shows_lines: files.shows_lines,
             herd,
         })
     }
@@ -162,5 +170,5 @@ fn moment(files: &Files, week: Calendar) -> Result<u16, String> {
     let minute = minute.filter(|minute| (0..i64::from(WEEK)).contains(minute));
     minute
         .map(|minute| minute as u16)
-        .ok_or_else(|| format!("--at {text:?} is no time in the week; allowed is {FORMS}"))
+        .ok_or_else(|| format!("--at {text:?} is no time in the week; allowed is {FORMS}, a date only where the visits have dates"))
 }

@@ -5,10 +5,10 @@ use nibl::{Answer, Call, Controller, Stop};
 use crate::typed::Typed;
 
 const PAGE: usize = 4096;
-const MEMORY: usize = 19;
+const MEMORY: usize = 1024;
 const OUTPUT: usize = 8192;
-/// Steps for a visit; the rule book needs less than a hundred.
-const BUDGET: usize = 1000;
+/// Steps for a visit; the example's rule book needs less than a hundred.
+const BUDGET: usize = 10_000;
 
 const CR: u8 = 13;
 
@@ -63,6 +63,8 @@ pub struct Decision {
 }
 
 pub struct Gate {
+    /// The files of the rule book, for errors.
+    name: String,
     controller: Controller<Vec<u8>, Vec<u8>>,
     output: Vec<u8>,
 }
@@ -71,15 +73,22 @@ impl Gate {
     /// A gate with this rule book typed into an empty page.
     pub fn with(book: &Typed) -> Result<Gate, String> {
         let mut gate = Gate {
+            name: book.name.clone(),
             controller: Controller::owned(PAGE, MEMORY).with_table(),
             output: vec![0; OUTPUT],
         };
-        gate.type_in(book)?;
+        gate.type_lines(book)?;
         Ok(gate)
     }
 
-    /// Types lines, one after the other. A line that is not taken is an error.
+    /// Types lines into the book that is there.
     pub fn type_in(&mut self, typed: &Typed) -> Result<(), String> {
+        self.name += &format!(" with {}", typed.name);
+        self.type_lines(typed)
+    }
+
+    /// Types lines, one after the other. A line that is not taken is an error.
+    fn type_lines(&mut self, typed: &Typed) -> Result<(), String> {
         for (at, line) in typed.lines.iter().enumerate() {
             let answer = self.take(&[line, &[CR][..]].concat(), Call::at(0, 0, BUDGET));
             if answer.stop != Stop::Done {
@@ -165,7 +174,7 @@ impl Gate {
             let line = answer
                 .line
                 .map_or(String::new(), |line| format!(" in line {line}"));
-            return Err(format!("the rule book stopped with {}{line}", answer.stop));
+            return Err(format!("{} stopped with {}{line}", self.name, answer.stop));
         };
         let memory = &self.controller.memory;
         Ok(Decision {

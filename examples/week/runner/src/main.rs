@@ -6,6 +6,7 @@ mod early;
 mod gate;
 mod leftpage;
 mod options;
+mod paths;
 mod picture;
 mod progress;
 mod remarks;

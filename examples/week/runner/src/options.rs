@@ -21,6 +21,7 @@ Decides a week of visits by a rule book, and writes reports and a picture to OUT
   --lived FILE     the visits as they come when the second book counts (FOLDER/visits-leftover.csv). Without such a list both
                    books decide the same visits
   --boxes N        boxes, 1 to 255 (3)
+  --lines none     the picture does without the lines that each visit went through: it is written sooner
   --washing FILE   when the boxes are washed every day, or the word none (FOLDER/washing.csv)
 ";
 
@@ -93,6 +94,8 @@ fn set(files: &mut Files, name: &str, value: &str) -> Result<(), String> {
             files.boxes = boxes
                 .ok_or_else(|| format!("--boxes {value}: allowed is a number from 1 to 255"))?;
         }
+        "--lines" if value == "none" => files.shows_lines = false,
+        "--lines" => return Err(format!("--lines {value}: allowed is none")),
         "--washing" => files.washing = Some(path).filter(|_| value != "none"),
         _ => return Err(format!("there is no option {name}")),
     }

@@ -5,7 +5,8 @@ use crate::case::{Case, Second};
 use crate::early::{Books, By};
 use crate::gate::Gate;
 use crate::leftpage::{left_page, refusal};
-use crate::picture::{picture, Shown};
+use crate::paths::Paths;
+use crate::picture::{picture, Change, Shown};
 use crate::remarks::remarks;
 use crate::report;
 use crate::summary;
@@ -56,68 +57,78 @@ impl<'a> Run<'a> {
 
     /// All files, those that there are none of this time, too.
     pub fn files(&mut self) -> Result<Vec<File>, String> {
-        let (case, rules) = (self.case, &self.case.rules);
-        let second = self.second.as_ref();
-        let of_second =
-            |table: &dyn Fn(&SecondTold) -> String| second.map(|second| table(second).into_bytes());
+        let rules = &self.case.rules;
+        let table = |name, text: String| (name, Some(text.into_bytes()));
         let mut files = vec![
-            (
-                "report.csv",
-                Some(report::report(&self.first, rules).into_bytes()),
-            ),
-            (
-                "sums.csv",
-                Some(report::sums(&sums(case, &self.first)).into_bytes()),
-            ),
-            (
-                "listed.csv",
-                Some(report::report(&self.listed, rules).into_bytes()),
-            ),
-            (
-                "second.csv",
-                of_second(&|second| report::report(&second.lived, rules)),
-            ),
-            (
-                "same.csv",
-                of_second(&|second| report::report(&second.same, rules)),
-            ),
-            (
-                "second-sums.csv",
-                of_second(&|second| report::sums(&sums(case, &second.lived))),
-            ),
-            (
-                "early.csv",
-                of_second(&|second| report::early(&second.lived)),
-            ),
-            (
-                "behind.csv",
-                of_second(&|second| report::behind(&second.lived, rules)),
-            ),
+            table("report.csv", report::report(&self.first, rules)),
+            table("sums.csv", report::sums(&sums(self.case, &self.first))),
+            table("listed.csv", report::report(&self.listed, rules)),
             ("left.page", self.left_page.clone()),
         ];
-        files.push(("week.html", Some(self.picture()?.into_bytes())));
+        files.extend(self.second_files());
+        files.push(table("week.html", self.picture()?));
         Ok(files)
     }
 
+    /// The files of the second book.
+    fn second_files(&self) -> Vec<File> {
+        let rules = &self.case.rules;
+        let table = |name, write: &dyn Fn(&SecondTold) -> String| {
+            let text = self.second.as_ref().map(write);
+            (name, text.map(String::into_bytes))
+        };
+        vec![
+            table("second.csv", &|second| report::report(&second.lived, rules)),
+            table("same.csv", &|second| report::report(&second.same, rules)),
+            table("second-sums.csv", &|second| {
+                report::sums(&sums(self.case, &second.lived))
+            }),
+            table("early.csv", &|second| report::early(&second.lived)),
+            table("behind.csv", &|second| report::behind(&second.lived, rules)),
+        ]
+    }
+
     fn picture(&mut self) -> Result<String, String> {
-        let [first_name, second_name] = names(self.case);
-        let mut book = changed(self.case)?;
-        let mut shown = vec![Shown::new(first_name, &mut book, &self.first)?];
-        if let Some(second) = &mut self.second {
-            shown.push(Shown::new(
-                second_name,
-                &mut second.books.second,
-                &second.lived,
-            )?);
+        let case = self.case;
+        let [first_name, second_name] = names(case);
+        let (mut monday, mut book) = (case.monday()?, changed(case)?);
+        let change = Change {
+            name: first_name.clone(),
+            listing: monday.listing()?,
+        };
+        let mut paths = Paths::default();
+        let mut show = |name, told, gate: &mut Gate| {
+            let ways = match case.shows_lines {
+                true => paths.of(told, case.changed, [&mut monday, gate])?,
+                false => Vec::new(),
+            };
+            Ok::<_, String>((name, gate.listing()?, ways))
+        };
+        let mut weeks = vec![(
+            show(first_name, &self.first.outcomes, &mut book)?,
+            &self.first,
+        )];
+        if let Some(SecondTold { lived, books, .. }) = &mut self.second {
+            weeks.push((
+                show(second_name, &lived.outcomes, &mut books.second)?,
+                lived,
+            ));
         }
-        Ok(picture(self.case, &shown))
+        let shown = |((name, listing, ways), told)| Shown {
+            name,
+            listing,
+            told,
+            ways,
+        };
+        let weeks: Vec<Shown> = weeks.into_iter().map(shown).collect();
+        Ok(picture(case, &change, &weeks, &paths))
     }
 
     pub fn summary(&mut self) -> Result<String, String> {
         let (case, rules) = (self.case, &self.case.rules);
         let first = sums(case, &self.first);
         let [first_name, second_name] = names(case);
-        let mut text = summary::counts(&first, rules);
+        let mut text = summary::counts(case, &first);
         let mut remarked = remarks(&first_name, &self.first.outcomes);
         if let Some(second) = &mut self.second {
             text += &summary::compared(

@@ -32,7 +32,7 @@ impl Sheet {
     pub fn read(path: &Path) -> Result<Sheet, String> {
         let name = path.display().to_string();
         let bytes = fs::read(path).map_err(|error| format!("{name}: {error}"))?;
-        Sheet::of(name, &String::from_utf8_lossy(&bytes))
+        Sheet::of(name, &decoded(&bytes))
     }
 
     pub fn of(name: impl Into<String>, text: &str) -> Result<Sheet, String> {
@@ -176,6 +176,21 @@ impl Cell<'_> {
     }
 }
 
+/// The text of a file: UTF-8, or the UTF-16 in which spreadsheets write "Unicode text". What is neither, as a name in some older
+/// code, does no harm in a column that is not read.
+fn decoded(bytes: &[u8]) -> String {
+    let pairs = |number: fn([u8; 2]) -> u16| -> String {
+        let pairs = bytes[2..].chunks_exact(2);
+        let numbers: Vec<u16> = pairs.map(|pair| number([pair[0], pair[1]])).collect();
+        String::from_utf16_lossy(&numbers)
+    };
+    match bytes {
+        [0xff, 0xfe, ..] => pairs(u16::from_le_bytes),
+        [0xfe, 0xff, ..] => pairs(u16::from_be_bytes),
+        _ => String::from_utf8_lossy(bytes).into_owned(),
+    }
+}
+
 /// The separator that stands most often in the first line.
 fn separator(text: &str) -> char {
     let head = text
@@ -253,6 +268,26 @@ mod tests {
             cells("a,b\n\"x\ny\",\"say \"\"moo\"\"\"\n"),
             [["x\ny", "say \"moo\""]]
         );
+    }
+
+    #[test]
+    fn files_in_other_codes() {
+        let text = "cow\tname\n7\tB\u{e4}rbel\n";
+        let with_mark: Vec<u16> = format!("\u{feff}{text}").encode_utf16().collect();
+        let little: Vec<u8> = with_mark
+            .iter()
+            .flat_map(|number| number.to_le_bytes())
+            .collect();
+        let big: Vec<u8> = with_mark
+            .iter()
+            .flat_map(|number| number.to_be_bytes())
+            .collect();
+        assert_eq!(
+            (decoded(&little), decoded(&big)),
+            (text.to_string(), text.to_string())
+        );
+        assert_eq!(decoded(text.as_bytes()), text);
+        assert_eq!(cells(&decoded(b"cow,name\n7,B\xe4rbel\n"))[0][0], "7");
     }
 
     #[test]

@@ -16,14 +16,21 @@ use crate::told::{Entry, Told};
 const TOLD: usize = 12;
 
 /// The sums of the week, its boxes, days and rules; those of the cows are in the file.
-pub fn counts(sums: &[Sum], rules: &[Rule]) -> String {
-    let mut text = format!(
-        "{:22} {:>8} {:>8} {:>9}\n",
-        "", "admitted", "refused", "litres"
+pub fn counts(case: &Case, sums: &[Sum]) -> String {
+    let mut text = match &case.date {
+        Some(date) => format!("The week from Monday, {date}:\n"),
+        None => String::new(),
+    };
+    line(
+        &mut text,
+        format_args!(
+            "{:22} {:>8} {:>8} {:>9}",
+            "", "admitted", "refused", "litres"
+        ),
     );
     let is_shown = |sum: &&Sum| !["cow", CHANGED, CHANGED_RULE].contains(&sum.of);
     for sum in sums.iter().filter(is_shown) {
-        let label = label(sum, rules);
+        let label = label(sum, &case.rules);
         let (admitted, refused, milk) = (sum.admitted, sum.refused, litres(sum.milk));
         line(
             &mut text,
@@ -58,36 +65,28 @@ pub fn compared(
             "", "milkings", "", "litres each", "short ones", "behind early"
         ),
     );
-    for one in first
-        .iter()
-        .filter(|sum| [CHANGED, CHANGED_RULE].contains(&sum.of))
-    {
-        let other = second
-            .iter()
-            .find(|sum| (sum.of, &sum.which) == (one.of, &one.which));
-        let Some(other) = other.filter(|other| one.admitted + other.admitted > 0) else {
-            continue;
-        };
-        let label = if one.of == CHANGED {
-            "all".to_string()
-        } else {
-            label(one, &case.rules)
-        };
-        line(
-            &mut text,
-            format_args!(
-                "{label:22} {:8} {:8} {:>7} {:>7} {:5} {:5} {:>12}",
-                one.admitted,
-                other.admitted,
-                each(one),
-                each(other),
-                one.short,
-                other.short,
-                format!("{} min", other.behind_minutes)
-            ),
-        );
+    let is_changed = |sum: &&Sum| [CHANGED, CHANGED_RULE].contains(&sum.of);
+    for one in first.iter().filter(is_changed) {
+        let is_its = |sum: &&Sum| (sum.of, &sum.which) == (one.of, &one.which);
+        let other = second.iter().find(is_its);
+        if let Some(other) = other.filter(|other| one.admitted + other.admitted > 0) {
+            line(&mut text, format_args!("{}", in_both(case, one, other)));
+        }
     }
     text + "A milking is short if it brings less than a quarter of her day's milk.\n"
+}
+
+/// A row: what the same visits come to by the two books.
+fn in_both(case: &Case, one: &Sum, other: &Sum) -> String {
+    let label = match one.of {
+        CHANGED => "all".to_string(),
+        _ => label(one, &case.rules),
+    };
+    let (milkings, milkings_other) = (one.admitted, other.admitted);
+    let (litres, litres_other) = (each(one), each(other));
+    let (short, short_other) = (one.short, other.short);
+    let behind = format!("{} min", other.behind_minutes);
+    format!("{label:22} {milkings:8} {milkings_other:8} {litres:>7} {litres_other:>7} {short:5} {short_other:5} {behind:>12}")
 }
 
 fn each(sum: &Sum) -> String {
@@ -108,10 +107,10 @@ pub fn early(told: &Told, trace: &[u16]) -> String {
         return "\nThe second book lets no cow in early.\n".to_string();
     };
     let (middle, least) = (early[early.len() / 2].0, early[early.len() - 1].0);
-    let mut text = format!(
-        "\nThe second book lets {} visits in early, by {least} to {most} minutes, {middle} in the middle. The most early ones:\n",
-        early.len()
-    );
+    let mut text = match early.len() {
+        1 => format!("\nThe second book lets 1 visit in early, by {most} minutes:\n"),
+        visits => format!("\nThe second book lets {visits} visits in early, by {least} to {most} minutes, {middle} in the middle. The most early ones:\n"),
+    };
     for (by, entry) in early.iter().take(TOLD) {
         line(
             &mut text,
@@ -147,6 +146,9 @@ fn early_visit(by: Wait, outcome: &Outcome) -> String {
 pub fn behind(told: &Told, rules: &[Rule]) -> String {
     let mut text =
         "\nWho stood at the gate behind an early one, by the rule that decided then:\n".to_string();
+    if told.behind.iter().all(|minutes| *minutes == 0) {
+        return "\nNobody stood at the gate behind an early one.\n\n".to_string();
+    }
     let deciding: BTreeSet<u8> = told
         .outcomes
         .iter()

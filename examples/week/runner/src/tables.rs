@@ -59,6 +59,7 @@ const MOST: i64 = i16::MAX as i64;
 
 /// The calendar of a list of visits: that of the first one with a date.
 pub fn calendar(visits: &Sheet) -> Result<Calendar, String> {
+    visits.needs(MINUTE)?;
     let times = visits.map(|cells| Ok(cells.some(MINUTE).and_then(|cell| parse(cell.text()))))?;
     let weeks = times.into_iter().flatten().map(Calendar::of);
     Ok(weeks
@@ -71,17 +72,33 @@ const MINUTE: &[&str] = &["minute", "time"];
 const COW: &[&str] = &["cow"];
 const BOX: &[&str] = &["box"];
 
+/// Where there is one box, its number need not be written.
+fn needs_box(sheet: &Sheet, boxes: u8) -> Result<(), String> {
+    match boxes {
+        1 => Ok(()),
+        _ => sheet.needs(BOX),
+    }
+}
+
+fn number_of_box(cells: &Cells, boxes: u8) -> Result<u8, String> {
+    match cells.some(BOX) {
+        None if boxes == 1 => Ok(1),
+        _ => Ok(cells.one(BOX).whole(1, boxes.into())? as u8),
+    }
+}
+
 pub fn herd(sheet: &Sheet, boxes: u8, week: Calendar) -> Result<Vec<Cow>, String> {
-    for names in [
+    let needed: [&[&str]; 5] = [
         COW,
-        BOX,
         &["litres"],
         &["flow", "flow_dl"],
         &["days"],
         &["last_end"],
-    ] {
+    ];
+    for names in needed {
         sheet.needs(names)?;
     }
+    needs_box(sheet, boxes)?;
     let mut lines = HashMap::new();
     sheet.map(|cells| {
         let number = cells.one(COW).whole(1, MOST)? as u16;
@@ -108,7 +125,7 @@ fn cow(cells: &Cells, number: u16, boxes: u8, week: Calendar) -> Result<Cow, Str
     let blocked = blocked.map_or(Ok(0), |cell| week.read(cell, -LONG_AGO, LONG_AGO))?;
     Ok(Cow {
         number,
-        home: cells.one(BOX).whole(1, boxes.into())? as u8,
+        home: number_of_box(cells, boxes)?,
         litres: cells.one(&["litres"]).scaled(1, 0, 255)? as u8,
         flow: flow as u8,
         lingers: or_none(&["lingers"], DAY.into())? as u16,
@@ -126,9 +143,10 @@ pub fn visits(
     boxes: u8,
     week: Calendar,
 ) -> Result<Vec<Visit>, String> {
-    for names in [MINUTE, BOX, COW] {
+    for names in [MINUTE, COW] {
         sheet.needs(names)?;
     }
+    needs_box(sheet, boxes)?;
     let places = herd
         .iter()
         .enumerate()
@@ -148,7 +166,7 @@ pub fn visits(
             .map(|cell| week.read(cell, minute, 2 * last));
         Ok(Visit {
             minute: minute as u16,
-            at: cells.one(BOX).whole(1, boxes.into())? as u8,
+            at: number_of_box(&cells, boxes)?,
             cow,
             arrived: arrived.unwrap_or(Ok(minute))?.max(0) as u16,
             left: left.transpose()?.map(|minute| minute as u16),
@@ -159,15 +177,16 @@ pub fn visits(
 }
 
 pub fn washes(sheet: &Sheet, boxes: u8) -> Result<Vec<Wash>, String> {
-    for names in [BOX, &["from"], &["minutes"]] {
+    for names in [&["from"], &["minutes"]] {
         sheet.needs(names)?;
     }
+    needs_box(sheet, boxes)?;
     sheet.map(|cells| {
         let from = cells.one(&["from"]);
         let start = parse(&format!("Mon {}", from.text()));
         let start = start.and_then(|time| Calendar::default().minute(time));
         Ok(Wash {
-            at: cells.one(BOX).whole(1, boxes.into())? as u8,
+            at: number_of_box(&cells, boxes)?,
             start: start.ok_or_else(|| from.wrong("a time of day, as 05:40"))? as u16,
             minutes: cells.one(&["minutes"]).whole(1, DAY.into())? as u16,
         })

@@ -89,8 +89,8 @@ pub fn parse(text: &str) -> Option<Time> {
         None => (text, "00:00"),
     };
     let minutes = time_of_day(rest)?;
-    let is_day = |name: &&str| name.eq_ignore_ascii_case(first);
-    if let Some(day) = DAYS.iter().position(|name| is_day(&name)) {
+    let is_day = |name: &str| name.eq_ignore_ascii_case(first);
+    if let Some(day) = DAYS.iter().position(|name| is_day(name)) {
         return Some(Time::OfWeek(day as i64 * i64::from(DAY) + minutes));
     }
     Some(Time::OfDate(days(first)? * i64::from(DAY) + minutes))
