@@ -4,7 +4,7 @@ use mathlib.Core.List.{List, [], _∷_, _++_}
 use mathlib.Core.Path.{_≡_}
 use Rattle.nibl.specs.Bytes.{byteCR}
 use Rattle.nibl.specs.Meaning.{World, Env, Done, done, given, put, stringAt, storeAt, keepIn}
-use Rattle.nibl.specs.Record.{nowhere, sessionOf, partsAt}
+use Rattle.nibl.specs.Record.{position, nowhere, sessionOf, partsAt}
 use Rattle.nibl.specs.declared.Place.{Place}
 use Rattle.nibl.specs.declared.Parts.{Parts}
 use Rattle.world.specs.Turns.{wayOf}
@@ -23,7 +23,7 @@ worldWith vars p memory output =
     record { session = sessionOf p vars nowhere; memory = memory; output = output; outpos = p .outpos; inpos = p .inpos }
 
 abbrev pub envWith : ℕ → List ℕ → List ℕ → ℕ → Place → Env
-envWith lim page input sense here = record { lim = lim; page = page; input = input; sense = sense; here = here .0 }
+envWith lim page input sense here = record { lim = lim; page = page; input = input; sense = sense; here = position here }
 
 abbrev pub did : Way → Parts → Did
 did w p = record { way = w; parts = p }

@@ -4,7 +4,7 @@ ghost use Prim.Native.Nat.{_-_, _≤_};
 ghost use mathlib.Core.Path.{_≡_};
 ghost use lib.Dec.{eqb};
 ghost use Rattle.nibl.specs.Stack.{onTop, pushOf, topOf, popOf, pushFor, topFor, popFor};
-ghost use Rattle.nibl.specs.Record.{place, mark, positionOf, nowhere, pausedAt, pauseNumber, freshPlaces, freshFors, fresh, unpaused, stackless, cleared, loadedSession, partsOf, sessionOf, withFlags};
+ghost use Rattle.nibl.specs.Record.{place, position, mark, positionOf, nowhere, pausedAt, pauseNumber, freshPlaces, freshFors, fresh, unpaused, stackless, cleared, loadedSession, partsOf, sessionOf, withFlags};
 ghost use Rattle.nibl.specs.Lent.{answerOf, withPositions};
 
 pub mod range;
@@ -76,7 +76,7 @@ impl Place {
 
     // And the one that opens it.
     pub fn position(self) -> usize
-        ensures { λ r. ⌜ r ≡ self .0 ⌝ }
+        ensures { λ r. ⌜ r ≡ position self ⌝ }
     {
         self.0 as usize
     }
@@ -88,7 +88,7 @@ impl Place {
     }
 
     pub fn is_mark(self) -> bool
-        ensures { λ r. ⌜ r ≡ eqb (self .0) mark ⌝ }
+        ensures { λ r. ⌜ r ≡ eqb (position self) mark ⌝ }
     {
         self.0 == MARK
     }
