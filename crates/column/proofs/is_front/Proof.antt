@@ -65,9 +65,10 @@ returns-3 c =
     let e = c .before .before .before .before .before .before .before .before .before .before .before .before .before .before .before .before .before .before .before .before .before .all-taken .ensures in
     let f = c .before .before .before .before .before .before .before .before .before .before .before .before .before .before .begun-in .ensures in
     let g = c .before .before .before .before .before .begun-in2 .ensures in
-    let k = f .1 .0 in
-    (front-command _ (sym (c .before .before .before .before .before .before .before .before .before .before .before .before .before .before .before .before .before .before .if1 .left) ∙ e .0) (sym (c .before .before .before .before .before .before .before .before .before .if2 .left) ∙ f .0) (sym (c .if3 .taken) ∙ g .0 ∙ ap (begunIn commands) (k .front)),
-    (kept-then k (g .1 .0), g .1 .1 ∙ f .1 .1 ∙ e .1))
+    let k = f .1 .0 in (
+      front-command _ (sym (c .before .before .before .before .before .before .before .before .before .before .before .before .before .before .before .before .before .before .if1 .left) ∙ e .0) (sym (c .before .before .before .before .before .before .before .before .before .if2 .left) ∙ f .0) (sym (c .if3 .taken) ∙ g .0 ∙ ap (begunIn commands) (k .front)),
+      (kept-then k (g .1 .0), g .1 .1 ∙ f .1 .1 ∙ e .1),
+    )
 
 slice-aggregate-begun-in-3 : tie.Need-slice-aggregate-begun-in-3
 slice-aggregate-begun-in-3 c = search needs
@@ -87,10 +88,11 @@ returns-4 c =
     let f = c .before .before .before .before .before .before .before .before .before .before .before .before .before .before .before .before .before .before .before .before .before .before .begun-in .ensures in
     let g = c .before .before .before .before .before .before .before .before .before .before .before .before .before .begun-in2 .ensures in
     let h = c .before .before .before .before .begun-in3 .ensures in
-    let k = kept-then (f .1 .0) (g .1 .0) in
-    (front-other _ (sym (c .before .before .before .before .before .before .before .before .before .before .before .before .before .before .before .before .before .before .before .before .before .before .before .before .before .before .if1 .left) ∙ e .0) (sym (c .before .before .before .before .before .before .before .before .before .before .before .before .before .before .before .before .before .if2 .left) ∙ f .0) (sym (c .before .before .before .before .before .before .before .before .if3 .left) ∙ g .0 ∙ ap (begunIn commands) (f .1 .0 .front))
-    (h .0 ∙ ap (begunIn others) (k .front)),
-    (kept-then k (h .1 .0), h .1 .1 ∙ g .1 .1 ∙ f .1 .1 ∙ e .1))
+    let k = kept-then (f .1 .0) (g .1 .0) in (
+      front-other _ (sym (c .before .before .before .before .before .before .before .before .before .before .before .before .before .before .before .before .before .before .before .before .before .before .before .before .before .before .if1 .left) ∙ e .0) (sym (c .before .before .before .before .before .before .before .before .before .before .before .before .before .before .before .before .before .if2 .left) ∙ f .0) (sym (c .before .before .before .before .before .before .before .before .if3 .left) ∙ g .0 ∙ ap (begunIn commands) (f .1 .0 .front))
+          (h .0 ∙ ap (begunIn others) (k .front)),
+      (kept-then k (h .1 .0), h .1 .1 ∙ g .1 .1 ∙ f .1 .1 ∙ e .1),
+    )
 
 pub is-front-spec : {M : Type 1} → statement M
 is-front-spec =
