@@ -3,14 +3,17 @@
 # write it as $made.new.
 # shellcheck shell=bash
 room=$PWD/target/native machine=$(uname -m)
-kit=$(dirname "$(dirname "$(rt doc)")")
-tools=$kit/on/$machine/toolchain
+kit='' tools=''
+if command -v rt >/dev/null; then
+    kit=$(dirname "$(dirname "$(rt doc)")")
+    tools=$kit/on/$machine/toolchain
+fi
 
 say() {
     echo "${0##*/}: $*" >&2
 }
 
-# The crate and those that it needs, a name to a line.
+# The crate and those that it needs, a name to a line, the crate itself first.
 needed() {
     awk -v crate="$name" '
         function visit(crate, names, count) {
@@ -22,10 +25,15 @@ needed() {
         END { visit(crate) }' <(sed 's/#.*//' crates.txt)
 }
 
-# One number for all that a proved file is made from.
+# The kit's identity. Where the kit is not here it is that of the kit which made the file: what is built can be run without it.
+kit_version() { # FILE
+    if [ -n "$kit" ]; then rt version; else sed -n 1p "$1.state" 2>/dev/null; fi
+}
+
+# The kit, and one number for all else that a proved file is made from.
 state() {
+    kit_version "$made"
     {
-        rt version
         echo "$machine"
         find "tools/${0##*/}" tools/current.sh crates.txt "${crates[@]/#/crates/}" -type f -not -path '*/must-fail/*' \
             -exec sha256sum {} + | sort
@@ -37,27 +45,69 @@ is_current() { # STATE
 }
 
 minutes() { # SECONDS
-    echo "about $((($1 + 59) / 60)) min"
+    if [ "$1" -gt 0 ]; then echo "about $((($1 + 59) / 60)) min"; else echo "less than a minute"; fi
 }
 
-# Tells of each crate that rt has just proved, and how long the others will take, going by those before.
+# When each crate will be proved, in seconds from the start, as rt does it: in the order of crates.txt, each as soon as those that it
+# needs are proved, so many at a time as rt takes. It goes by tools/weights; crates that were proved before take no time.
+schedule() { # CRATES-PROVED-BEFORE
+    awk -v names="${crates[*]}" -v before=" $1 " -v jobs="$jobs" '
+        FNR == 1 { file++ }
+        file == 1 { if ($1 != "#") weight[$1] = $2; next }
+        sub(/#.*/, "") || 1 { if (sub(/:/, " ")) { of = $1; $1 = ""; deps[of] = $0; order[++count] = of } }
+        function ready(crate, list, i, k) {
+            for (i = split(deps[crate], list, " "); i; i--) if (list[i] in wanted && !(list[i] in at)) return 0
+            return 1
+        }
+        END {
+            for (i = split(names, list, " "); i; i--) wanted[list[i]]
+            for (left = length(wanted); left; left--) {
+                for (i = 1; i <= count && running < jobs; i++) {
+                    crate = order[i]
+                    if (!(crate in wanted) || crate in begun || !ready(crate)) continue
+                    takes = index(before, " " crate " ") ? 0 : crate in weight ? weight[crate] : 20
+                    begun[crate] = now + takes
+                    running++
+                }
+                first = ""
+                for (crate in begun) if (!(crate in at) && (first == "" || begun[crate] < begun[first])) first = crate
+                if (first == "") exit 1
+                now = at[first] = begun[first]
+                running--
+                print first, now
+            }
+        }' tools/weights crates.txt
+}
+
+weight_of() { # CRATE
+    awk -v name="$1" '$1 == name { found = $2 } END { print found ? found : 20 }' tools/weights
+}
+
+# Tells of each crate that rt has just proved, and how long the others will take: as long as the schedule says, times how much longer
+# than their weights the crates so far have taken. The first count for little, so that one slow crate does not make hours of minutes.
 progress() {
-    local line left each at=0 proved=0
+    local line crate seconds due at=0 reached=0 before='' spent=10 weighed=10
     while IFS= read -r line; do
         [[ $line =~ ^rt:\ ([a-z0-9_]+)\ proved\ \((([0-9]+)\ s|unchanged) ]] || continue
-        at=$((at + 1))
-        [ -n "${BASH_REMATCH[3]}" ] || continue
-        proved=$((proved + 1)) each=$((SECONDS / proved + 1))
-        left=$((${#crates[@]} - at))
-        say "$at of ${#crates[@]}: ${BASH_REMATCH[1]} proved (${BASH_REMATCH[3]} s), to go: $left, $(minutes $((left * each)))"
+        crate=${BASH_REMATCH[1]} seconds=${BASH_REMATCH[3]} at=$((at + 1))
+        if [ -z "$seconds" ]; then
+            before+=" $crate"
+            continue
+        fi
+        spent=$((spent + seconds)) weighed=$((weighed + $(weight_of "$crate")))
+        due=$(schedule "$before" | awk -v name="$crate" -v reached="$reached" '
+            $1 == name && $2 > reached { reached = $2 } { last = $2 } END { print reached, last }')
+        reached=${due% *}
+        say "$at of ${#crates[@]}: $crate proved ($seconds s), to go: $((${#crates[@]} - at)), $(minutes $(((${due#* } - reached) * spent / weighed)))"
     done
 }
 
-# Proves the crate and all that it needs.
-prove() {
-    say "proving and building $name, ${#crates[@]} crates: $(minutes $((${#crates[@]} * 20))) if none is proved yet"
-    SECONDS=0
-    logged rt check "$name"
+# Proves some crates and all that they need.
+prove() { # CRATE..
+    local all
+    all=$(schedule '' | tail -n 1)
+    say "proving and building $name, ${#crates[@]} crates: $(minutes "${all#* }") if none is proved yet"
+    logged rt check "$@"
 }
 
 # Runs a command of rt with its progress; all that it says is in the log.
@@ -108,6 +158,7 @@ compile() { # TEXT OBJECT KIT'S-WORDS WORDS..
 # Makes the file current by a function that writes $made.new, if it was made from something else.
 make_current() { # STATE FUNCTION
     is_current "$1" && return
+    [ -n "$kit" ] || { say "rt is not here, and ${made#"$PWD/"} is not there or not current: install the Rattle kit"; exit 1; }
     exec 9>"$room/lock"
     flock -n 9 || { say "waiting for another start that is proving"; flock 9; }
     is_current "$1" || {
@@ -119,4 +170,6 @@ make_current() { # STATE FUNCTION
 }
 
 mapfile -t crates < <(needed)
+jobs=${RT_JOBS:-$(nproc)}
+jobs=$((jobs > 4 ? 4 : jobs)) # as rt has it
 mkdir -p "$room"

@@ -1,4 +1,4 @@
-//! Starts a dealer's session at the terminal, checks rule books, or prints the table of stops.
+//! Starts a dealer's session at the terminal, or checks rule books.
 
 use std::env;
 use std::io::{stdin, stdout, IsTerminal, Write};
@@ -12,7 +12,6 @@ use nibl_terminal::screen::{Abilities, Screen};
 use nibl_terminal::seat::Seat;
 use nibl_terminal::session::Session;
 use nibl_terminal::warnings::{table, Warning};
-use nibl_terminal::words::stops;
 
 /// The status where a book has an error, and where something could not be done at all.
 const WRONG: u8 = 1;
@@ -24,9 +23,8 @@ fn main() -> ExitCode {
     let ended = match words.as_slice() {
         [] => work(&[]).map(|()| ExitCode::SUCCESS),
         ["-i", files @ ..] => work(files).map(|()| ExitCode::SUCCESS),
-        ["--stops"] => put(&stops()).map(|()| ExitCode::SUCCESS),
         ["--check", rest @ ..] => check_books(rest),
-        _ => Err("usage: nibl-terminal [-i FILE.. | --stops | --check FILE..]".to_string()),
+        _ => Err("usage: nibl-terminal [-i FILE.. | --check FILE..]".to_string()),
     };
     ended.unwrap_or_else(|fault| {
         eprintln!("nibl: {fault}");

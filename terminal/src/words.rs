@@ -253,6 +253,11 @@ mod tests {
             assert!(row.contains(stop.words()) && row.ends_with(stop.effect()));
             assert!(row.len() <= 80, "it fits a terminal");
         }
+        assert_eq!(
+            table,
+            include_str!("../stops.txt"),
+            "nibl --stops prints that"
+        );
     }
 
     #[test]

@@ -9,3 +9,8 @@ pub mod GaveUp
 pub mod Tables
 pub mod TableRows
 pub mod Forms
+pub mod AlikeStatements
+pub mod AlikeRuns
+pub mod Seen
+pub mod BoxRuns
+pub mod OneBox

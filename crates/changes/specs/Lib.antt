@@ -6,3 +6,6 @@ pub mod Pointed
 pub mod Tables
 pub mod TableRows
 pub mod Carry
+pub mod Alike
+pub mod Boxes
+pub mod OneBox

@@ -38,7 +38,7 @@ module _ (e : Env) (w : World) (out : List ℕ) where
   value-before ofConstant = ofConstant
   value-before ofStat = ofStat
   value-before ofTop = ofTop
-  value-before (ofByte h l) = ofByte (value-before h) l
+  value-before (ofByte h l m) = ofByte (value-before h) l m
   value-before (noByte h l) = noByte (value-before h) l
   value-before (ofNot h) = ofNot (value-before h)
   value-before (ofMinus h) = ofMinus (value-before h)
@@ -111,20 +111,20 @@ module _ (e : Env) (w u : World) where
   pub a-byte-store-changes-one-byte : (a b : Expr) → exec e (letByte a b) w ≡ done on u → StoresByte e w a b u
   a-byte-store-changes-one-byte a b h = let r = rw h at (works e (letByte a b) w) in by (r .reached) (r .performed) where
     by : {q : Stmt} {u : World} → Reaches e w (letByte a b) q → Performs e w q (done on u) → StoresByte e w a b u
-    by itself (storesByte {p = p} {x = x} i j l) = record { address = p; value = x; at = i; worth = j; only = only-bytes w p (x % 256 ∷ []) (omega arith) }
+    by itself (storesByte {p = p} {x = x} i j l) = record { address = p; value = x; at = i; worth = j; only = only-bytes w p (x % 256 ∷ []) (l .there) }
 
   -- "a store writes its CR too"
   pub a-string-store-changes-its-bytes : (a : Expr) (bs : List ℕ) → exec e (letText a bs) w ≡ done on u → StoresText e w a bs u
   a-string-store-changes-its-bytes a bs h = let r = rw h at (works e (letText a bs) w) in by (r .reached) (r .performed) where
     by : {q : Stmt} {u : World} → Reaches e w (letText a bs) q → Performs e w q (done on u) → StoresText e w a bs u
-    by itself (storesText {p = p} i l) = record { address = p; at = i; only = only-bytes w p (withCR bs) l }
+    by itself (storesText {p = p} i l) = record { address = p; at = i; only = only-bytes w p (withCR bs) (l .there) }
 
   -- "copies behave as if the source were taken whole first"
   pub a-copy-changes-its-bytes : (a b : Expr) → exec e (letCopy a b) w ≡ done on u → Copies e w a b u
   a-copy-changes-its-bytes a b h = let r = rw h at (works e (letCopy a b) w) in by (r .reached) (r .performed) where
     by : {q : Stmt} {u : World} → Reaches e w (letCopy a b) q → Performs e w q (done on u) → Copies e w a b u
     by itself (copies {p = p} {q = q} {bs = bs} i j s l) =
-        record { source = q; from = j; string = bs; stands = s; stored = record { address = p; at = i; only = only-bytes w p (withCR bs) l } }
+        record { source = q; from = j; string = bs; stands = s; stored = record { address = p; at = i; only = only-bytes w p (withCR bs) (l .there) } }
 
   -- PRINT writes its items one behind the other, each by what was before the statement, and its end
   pub a-print-writes-its-items : (items : List Item) (b : Bool) → w .outpos ≤ length (w .output) → exec e (print items b) w ≡ done on u

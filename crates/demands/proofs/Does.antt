@@ -20,7 +20,7 @@ use Rattle.nibl.specs.declared.TopFor.the-variants as topf
 
 -- what a statement may be refused with, and END
 abbrev pub refusals : List ℕ
-refusals = 6 ∷ 7 ∷ 8 ∷ 9 ∷ 10 ∷ 11 ∷ 12 ∷ 13 ∷ 15 ∷ 16 ∷ 17 ∷ 20 ∷ []
+refusals = 6 ∷ 7 ∷ 8 ∷ 9 ∷ 10 ∷ 11 ∷ 12 ∷ 13 ∷ 15 ∷ 16 ∷ 17 ∷ 20 ∷ 21 ∷ []
 
 -- INPUT: variables given one after the other, up to the first refusal
 pub data GivesVariables : World → Done → Type 0 where

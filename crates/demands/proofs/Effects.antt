@@ -1,5 +1,5 @@
 -- A statement does nothing but what the list of effects has. Assumes nothing.
-use Prim.Native.Nat.{ℕ, _+_, _≤_}
+use Prim.Native.Nat.{ℕ, suc, _+_, _≤_}
 use mathlib.Core.Path.{_≡_, refl, ap}
 use mathlib.Core.Bool.{Bool, true, false, not, _||_}
 use mathlib.Core.List.{List, [], _∷_, _++_}
@@ -9,7 +9,7 @@ use lib.ListN.{length, getD, drop}
 use lib.Seq.{sets, length-sets}
 use lib.Dec.{ltb, leb, eqb}
 use borrow.Author.Tests.{leb-true, eq-eqb, eqb-true}
-use Rattle.nibl.specs.Bytes.{if_then_else_, bytes, all, notCR}
+use Rattle.nibl.specs.Bytes.{if_then_else_, bytes}
 use Rattle.nibl.specs.Tree.{Op, times, dividedBy, andBits, plus, minus, orBits, equal, less, greater, atMost, atLeast, unequal}
 use Rattle.nibl.specs.Tree.{Expr, var, const, stat, top, byteAt, invert, negate, modulo, two}
 use Rattle.nibl.specs.Tree.{Item, text, stored, value}
@@ -19,8 +19,10 @@ use Rattle.nibl.specs.Values.{Result, is, no, Value, apply, mod16, quotient16, 
 use Rattle.nibl.specs.Stack.{pushOf, popOf, pushFor, popFor}
 use Rattle.nibl.specs.Typing.{Gathered, gather}
 use Rattle.nibl.specs.Page.{Stored, isAmong, find}
-use Rattle.nibl.specs.Meaning.{World, Env, on, skip, go, stop, Done, done, withSession, withInpos, withOutput, bind, given, went, byteOf, stringAt, storeAt, eval, put, putItem, putItems, putEnd, keepIn, lineThere, gosubTo, returnBy, doHere, untilBy, forHere, goesOn, nextBy, gathered, asked, assign, assignReply, exec}
+use Rattle.nibl.specs.Meaning.{World, Env, on, skip, go, stop, Done, done, withSession, withInpos, withOutput, bind, given, went, byteOf, stringFrom, stringAt, storeAt, eval, put, putItem, putItems, putEnd, keepIn, lineThere, gosubTo, returnBy, doHere, untilBy, forHere, goesOn, nextBy, gathered, asked, assign, assignReply, exec}
 use Rattle.nibl.specs.Record.{withVar, place}
+use Rattle.nibl.specs.Access.{mayRead, mayWrite}
+use Rattle.nibl.specs.declared.access.Access.{Access}
 use Rattle.nibl.specs.Calls.{listed, listFrom}
 use Rattle.nibl.specs.declared.Top.{Top}
 use Rattle.nibl.specs.declared.Top.the-variants as top
@@ -46,7 +48,7 @@ widen (m ∷ ms) ns h n g = by (λ h g. widen ms ns h n g) (isAmong ns m) refl h
 
 -- what a value, a line, a byte or a string that was asked for may be refused with
 abbrev pub valueRefusals : List ℕ
-valueRefusals = 8 ∷ 13 ∷ 16 ∷ []
+valueRefusals = 8 ∷ 13 ∷ 16 ∷ 21 ∷ []
 
 pub data GivesOrRefuses {A : Type 0} : Result A → Type 0 where
   given′ : {a : A} → GivesOrRefuses (is a)
@@ -84,13 +86,20 @@ mod-known : (a b : ℕ) → GivesOrRefuses (mod16 a b)
 unfolding mod16
 mod-known a b = choice-known (eqb b 0) (no 13) (is (remainder16 a b)) (refused′ refl) given′
 
-byte-known : (m : List ℕ) (a : ℕ) → GivesOrRefuses (byteOf m a)
+byte-known : (x : Access) (m : List ℕ) (a : ℕ) → GivesOrRefuses (byteOf x m a)
 unfolding byteOf
-byte-known m a = choice-known (ltb a (length m)) (is (getD m a 0)) (no 16) given′ (refused′ refl)
+byte-known x m a = choice-known (not (ltb a (length m))) (no 16) _ (refused′ refl) (choice-known (mayRead x a) (is (getD m a 0)) (no 21) given′ (refused′ refl))
 
-pub string-known : (m : List ℕ) (a : ℕ) → GivesOrRefuses (stringAt m a)
+string-from-known : (x : Access) (a : ℕ) (s : List ℕ) → GivesOrRefuses (stringFrom x a s)
+unfolding stringFrom
+string-from-known x a [] = refused′ refl
+string-from-known x a (b ∷ s) =
+    choice-known (not (mayRead x a)) (no 21) _ (refused′ refl)
+    (choice-known (eqb b 13) (is []) _ given′ (bind-known (stringFrom x (suc a) s) _ (string-from-known x (suc a) s) (λ bs. given′)))
+
+pub string-known : (x : Access) (m : List ℕ) (a : ℕ) → GivesOrRefuses (stringAt x m a)
 unfolding stringAt
-string-known m a = choice-known (all notCR (drop a m)) (no 16) (is _) (refused′ refl) given′
+string-known x m a = string-from-known x a (drop a m)
 
 pub eval-known : (e : Env) (w : World) (a : Expr) → GivesOrRefuses (eval e w a)
 unfolding eval
@@ -98,7 +107,7 @@ eval-known e w (var v) = given′
 eval-known e w (const n) = given′
 eval-known e w stat = given′
 eval-known e w top = given′
-eval-known e w (byteAt a) = bind-known (eval e w a) _ (eval-known e w a) (byte-known (w .memory))
+eval-known e w (byteAt a) = bind-known (eval e w a) _ (eval-known e w a) (byte-known (e .sight .access) (w .memory))
 eval-known e w (invert a) = bind-known (eval e w a) _ (eval-known e w a) (λ x. given′)
 eval-known e w (negate a) = bind-known (eval e w a) _ (eval-known e w a) (λ x. given′)
 eval-known e w (modulo a b) = bind-known (eval e w a) _ (eval-known e w a) (λ x. bind-known (eval e w b) _ (eval-known e w b) (mod-known x))
@@ -114,9 +123,9 @@ pub given-went : {A : Type 0} (r : Result A) (w : World) (k : A → Done) (j : W
 given-went (is a) w k j = refl
 given-went (no n) w k j = refl
 
-pub store-known : (m : List ℕ) (a : ℕ) (bs : List ℕ) → GivesOrRefuses (storeAt m a bs)
+pub store-known : (x : Access) (m : List ℕ) (a : ℕ) (bs : List ℕ) → GivesOrRefuses (storeAt x m a bs)
 unfolding storeAt
-store-known m a bs = choice-known (leb (a + length bs) (length m)) (is _) (no 16) given′ (refused′ refl)
+store-known x m a bs = choice-known (not (leb (a + length bs) (length m))) (no 16) _ (refused′ refl) (choice-known (mayWrite x a (length bs)) (is _) (no 21) given′ (refused′ refl))
 
 pub line-known : (o : Option ℕ) → GivesOrRefuses (lineThere o)
 line-known none = refused′ refl
@@ -154,8 +163,8 @@ module _ (e : Env) (vs : List ℕ) (W : List ℕ → Type 0) where
   unfolding putItem
   item-does (text bs) w n k f = put-does bs (n bs refl) w k f
   item-does (stored a) w n k f =
-      rw (given-went (bind (eval e w a) (stringAt (w .memory))) w (λ bs. put bs w) k)
-      (given-does _ w _ (bind-known (eval e w a) _ (eval-known e w a) (string-known (w .memory))) (λ bs h. put-does bs (n bs h) w k f))
+      rw (given-went (bind (eval e w a) (stringAt (e .sight .access) (w .memory))) w (λ bs. put bs w) k)
+      (given-does _ w _ (bind-known (eval e w a) _ (eval-known e w a) (string-known (e .sight .access) (w .memory))) (λ bs h. put-does bs (n bs h) w k f))
   item-does (value a) w n k f = rw (given-went (eval e w a) w (λ x. put (printed x) w) k) (given-does _ w _ (eval-known e w a) (λ x h. put-does (printed x) (n (printed x) (ap (λ r. bind r (λ y. is (printed y))) h)) w k f))
 
   items-do : (is′ : List Item) → ((i : Item) → In i is′ → (u : World) (bs : List ℕ) → itemBytes e u i ≡ is bs → W bs) → (w : World) (k : World → Done) → ((u : World) → Does e vs W u (k u)) → Does e vs W w (went (putItems e is′ w) k)
@@ -171,16 +180,17 @@ module _ (e : Env) (vs : List ℕ) (W : List ℕ → Type 0) where
   unfolding keepIn
   keep-does w r h f = given-does r w _ h (λ m g. stores m (f m g))
 
-  kept-length : (m : List ℕ) (a : ℕ) (bs : List ℕ) (l : List ℕ) → storeAt m a bs ≡ is l → length l ≡ length m
+  kept-length : (x : Access) (m : List ℕ) (a : ℕ) (bs : List ℕ) (l : List ℕ) → storeAt x m a bs ≡ is l → length l ≡ length m
   unfolding storeAt
-  kept-length m a bs l = go (leb (a + length bs) (length m)) where
-    go : (b : Bool) → (if b then is (sets m a bs) else no 16) ≡ is l → length l ≡ length m
-    go true h = let g : l ≡ sets m a bs = cc in rw g (length-sets m a bs)
-    go false h = let z : _≡_ {A = ℕ} 0 1 = cc in absurd (omega arith)
+  kept-length x m a bs l = go (leb (a + length bs) (length m)) (mayWrite x a (length bs)) where
+    go : (b c : Bool) → (if not b then no 16 else if c then is (sets m a bs) else no 21) ≡ is l → length l ≡ length m
+    go true true h = let g : l ≡ sets m a bs = cc in rw g (length-sets m a bs)
+    go true false h = let z : _≡_ {A = ℕ} 0 1 = cc in absurd (omega arith)
+    go false c h = let z : _≡_ {A = ℕ} 0 1 = cc in absurd (omega arith)
 
-  copy-length : (m : List ℕ) (r : Result (List ℕ)) (a : ℕ) (l : List ℕ) → bind r (λ bs. storeAt m a (bs ++ (13 ∷ []))) ≡ is l → length l ≡ length m
-  copy-length m (is bs) a l h = kept-length m a (bs ++ (13 ∷ [])) l h
-  copy-length m (no n) a l h = let z : _≡_ {A = ℕ} 0 1 = cc in absurd (omega arith)
+  copy-length : (x : Access) (m : List ℕ) (r : Result (List ℕ)) (a : ℕ) (l : List ℕ) → bind r (λ bs. storeAt x m a (bs ++ (13 ∷ []))) ≡ is l → length l ≡ length m
+  copy-length x m (is bs) a l h = kept-length x m a (bs ++ (13 ∷ [])) l h
+  copy-length x m (no n) a l h = let z : _≡_ {A = ℕ} 0 1 = cc in absurd (omega arith)
 
   line-there : (o : Option ℕ) (q : ℕ) → lineThere o ≡ is q → o ≡ some q
   line-there none q h = let z : _≡_ {A = ℕ} 0 1 = cc in absurd (omega arith)
@@ -265,12 +275,12 @@ module _ (e : Env) (vs : List ℕ) (W : List ℕ → Type 0) where
   exec-in (letStat a) l n w = given-does (eval e w a) w _ (eval-known e w a) (λ x h. assignsFlags x)
   exec-in (letByte a b) l n w =
       given-does (eval e w a) w _ (eval-known e w a) (λ p h. given-does (eval e w b) w _ (eval-known e w b) (λ x g.
-      keep-does w _ (store-known (w .memory) p _) (kept-length (w .memory) p _)))
+      keep-does w _ (store-known (e .sight .access) (w .memory) p _) (kept-length (e .sight .access) (w .memory) p _)))
   exec-in (letCopy a b) l n w =
       given-does (eval e w a) w _ (eval-known e w a) (λ p h. given-does (eval e w b) w _ (eval-known e w b) (λ q g.
-      keep-does w _ (bind-known (stringAt (w .memory) q) _ (string-known (w .memory) q) (λ bs. store-known (w .memory) p _)) (copy-length (w .memory) (stringAt (w .memory) q) p)))
+      keep-does w _ (bind-known (stringAt (e .sight .access) (w .memory) q) _ (string-known (e .sight .access) (w .memory) q) (λ bs. store-known (e .sight .access) (w .memory) p _)) (copy-length (e .sight .access) (w .memory) (stringAt (e .sight .access) (w .memory) q) p)))
   exec-in (letText a bs) l n w =
-      given-does (eval e w a) w _ (eval-known e w a) (λ p h. keep-does w _ (store-known (w .memory) p _) (kept-length (w .memory) p _))
+      given-does (eval e w a) w _ (eval-known e w a) (λ p h. keep-does w _ (store-known (e .sight .access) (w .memory) p _) (kept-length (e .sight .access) (w .memory) p _))
   exec-in (goto a) l n w = to-line (eval e w a) w _ (eval-known e w a) (λ n q h. goesTo n h)
   exec-in (gosub a) l n w = to-line (eval e w a) w _ (eval-known e w a) (gosub-does w)
   exec-in (until a) l n w = given-does (eval e w a) w _ (eval-known e w a) (λ x h. until-does w x _ refl)
@@ -289,7 +299,7 @@ module _ (e : Env) (vs : List ℕ) (W : List ℕ → Type 0) where
   exec-in (next v) l n w = next-does w v _ refl
   exec-in (input us) l n w = asked-does (n _ ofInput) w _ (λ u bs. reply-does us u (replied (length us) bs))
   exec-in (inputText a) l n w =
-      given-does (eval e w a) w _ (eval-known e w a) (λ p h. asked-does (n _ ofInputText) w _ (λ u bs. keep-does u _ (store-known (u .memory) p _) (kept-length (u .memory) p _)))
+      given-does (eval e w a) w _ (eval-known e w a) (λ p h. asked-does (n _ ofInputText) w _ (λ u bs. keep-does u _ (store-known (e .sight .access) (u .memory) p _) (kept-length (e .sight .access) (u .memory) p _)))
 
 -- LIST writes its lines
 list-in : (e : Env) (vs : List ℕ) (W : List ℕ → Type 0) (n : ℕ) (rs : List Stored) → ((r : Stored) → In r rs → n ≤ r .line → W (listed r)) → (w : World) → Does e vs W w (listFrom n rs w)

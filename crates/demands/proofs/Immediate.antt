@@ -42,7 +42,7 @@ put-keeps bs w = if-split (Keeps w) (leb (w .outpos + length bs) (length (w .out
 item-keeps : (e : Env) (i : Item) (w : World) → Keeps w (putItem e i w)
 unfolding putItem
 item-keeps e (text bs) w = put-keeps bs w
-item-keeps e (stored a) w = given-keeps (bind (eval e w a) (stringAt (w .memory))) w _ (λ bs. put-keeps bs w)
+item-keeps e (stored a) w = given-keeps (bind (eval e w a) (stringAt (e .sight .access) (w .memory))) w _ (λ bs. put-keeps bs w)
 item-keeps e (value a) w = given-keeps (eval e w a) w _ (λ x. put-keeps (printed x) w)
 
 items-keep : (e : Env) (items : List Item) (w : World) → Keeps w (putItems e items w)

@@ -28,7 +28,7 @@ module _ (e : Env) (w : World) (out : List ℕ) (at : ℕ) where
   eval-same (const n) = refl
   eval-same stat = refl
   eval-same top = refl
-  eval-same (byteAt a) = λ i. bind (eval-same a i) (λ x. byteOf (w .memory) x)
+  eval-same (byteAt a) = λ i. bind (eval-same a i) (λ x. byteOf (e .sight .access) (w .memory) x)
   eval-same (invert a) = λ i. bind (eval-same a i) (λ x. is (not16 x))
   eval-same (negate a) = λ i. bind (eval-same a i) (λ x. is (sub16 0 x))
   eval-same (modulo a b) = λ i. bind (eval-same a i) (λ x. bind (eval-same b i) (λ y. mod16 x y))
@@ -36,7 +36,7 @@ module _ (e : Env) (w : World) (out : List ℕ) (at : ℕ) where
 
   item-same : (i : Item) → itemBytes e (withOutput w out at) i ≡ itemBytes e w i
   item-same (text bs) = refl
-  item-same (stored a) = λ i. bind (eval-same a i) (stringAt (w .memory))
+  item-same (stored a) = λ i. bind (eval-same a i) (stringAt (e .sight .access) (w .memory))
   item-same (value a) = λ i. bind (eval-same a i) (λ x. is (printed x))
 
 -- PRINT: all is some of its items, w is a world that differs from v in its output alone

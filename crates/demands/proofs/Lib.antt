@@ -39,6 +39,7 @@ pub mod Stepping
 pub mod Writing
 pub mod Left
 pub mod Gathered
+pub mod Whose
 pub mod Valued
 pub mod Work
 pub mod OnPage

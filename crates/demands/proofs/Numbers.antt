@@ -24,7 +24,7 @@ use Rattle.demands.proofs.Ways.{Takes, refused, noCR, overlong, unread,
 
 -- past the first refusals: 2 and 3 are a typed line's, and these a run's or a statement's too
 abbrev pub runNumbers : List ℕ
-runNumbers = 0 ∷ 5 ∷ 6 ∷ 7 ∷ 8 ∷ 9 ∷ 10 ∷ 11 ∷ 12 ∷ 13 ∷ 14 ∷ 15 ∷ 16 ∷ 17 ∷ 20 ∷ []
+runNumbers = 0 ∷ 5 ∷ 6 ∷ 7 ∷ 8 ∷ 9 ∷ 10 ∷ 11 ∷ 12 ∷ 13 ∷ 14 ∷ 15 ∷ 16 ∷ 17 ∷ 20 ∷ 21 ∷ []
 
 step-numbers : (d : Done) → StopsWith d → (l p cr : ℕ) (k : ℕ → World → Ran) → ((q : ℕ) (w : World) → OneOfThese runNumbers (k q w .stop))
     → OneOfThese runNumbers (stepped l (afterStep d p cr k) .stop)

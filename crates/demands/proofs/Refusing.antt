@@ -29,7 +29,7 @@ use Rattle.demands.proofs.Effects.{valueRefusals, widen, GivesOrRefuses
 
 -- 6 and 7 are INPUT's
 abbrev pub quiet : List ℕ
-quiet = 8 ∷ 9 ∷ 10 ∷ 11 ∷ 12 ∷ 13 ∷ 15 ∷ 16 ∷ 17 ∷ 20 ∷ []
+quiet = 8 ∷ 9 ∷ 10 ∷ 11 ∷ 12 ∷ 13 ∷ 15 ∷ 16 ∷ 17 ∷ 20 ∷ 21 ∷ []
 
 abbrev pub refusalsOf : Bool → List ℕ
 refusalsOf true = refusals
@@ -81,8 +81,8 @@ module _ (us : List ℕ) (b : Bool) where
   unfolding putItem
   item-refuses e (text bs) w k f = put-refuses bs w k f
   item-refuses e (stored a) w k f =
-      rw (given-went (bind (eval e w a) (stringAt (w .memory))) w (λ bs. put bs w) k)
-      (given-refuses _ w _ (bind-known (eval e w a) _ (eval-known e w a) (string-known (w .memory))) (λ bs. put-refuses bs w k f))
+      rw (given-went (bind (eval e w a) (stringAt (e .sight .access) (w .memory))) w (λ bs. put bs w) k)
+      (given-refuses _ w _ (bind-known (eval e w a) _ (eval-known e w a) (string-known (e .sight .access) (w .memory))) (λ bs. put-refuses bs w k f))
   item-refuses e (value a) w k f =
       rw (given-went (eval e w a) w (λ x. put (printed x) w) k) (given-refuses _ w _ (eval-known e w a) (λ x. put-refuses (printed x) w k f))
 
@@ -188,11 +188,11 @@ exec-refuses e (letVar v a) w = given-refuses [] false (eval e w a) w _ (eval-kn
 exec-refuses e (letStat a) w = given-refuses [] false (eval e w a) w _ (eval-known e w a) (λ x. goes)
 exec-refuses e (letByte a b) w =
     given-refuses [] false (eval e w a) w _ (eval-known e w a) (λ p. given-refuses [] false (eval e w b) w _ (eval-known e w b) (λ x.
-    keep-refuses [] false w _ (store-known (w .memory) p _)))
+    keep-refuses [] false w _ (store-known (e .sight .access) (w .memory) p _)))
 exec-refuses e (letCopy a b) w =
     given-refuses [] false (eval e w a) w _ (eval-known e w a) (λ p. given-refuses [] false (eval e w b) w _ (eval-known e w b) (λ q.
-    keep-refuses [] false w _ (bind-known (stringAt (w .memory) q) _ (string-known (w .memory) q) (λ bs. store-known (w .memory) p _))))
-exec-refuses e (letText a bs) w = given-refuses [] false (eval e w a) w _ (eval-known e w a) (λ p. keep-refuses [] false w _ (store-known (w .memory) p _))
+    keep-refuses [] false w _ (bind-known (stringAt (e .sight .access) (w .memory) q) _ (string-known (e .sight .access) (w .memory) q) (λ bs. store-known (e .sight .access) (w .memory) p _))))
+exec-refuses e (letText a bs) w = given-refuses [] false (eval e w a) w _ (eval-known e w a) (λ p. keep-refuses [] false w _ (store-known (e .sight .access) (w .memory) p _))
 exec-refuses e (goto a) w = line-refuses [] false e a w _ (λ q. jumps)
 exec-refuses e (gosub a) w = line-refuses [] false e a w _ (gosub-refuses [] false e w)
 exec-refuses e (until a) w = given-refuses [] false (eval e w a) w _ (eval-known e w a) (λ x. until-refuses [] false w x _)
@@ -214,7 +214,7 @@ exec-refuses e (input us) w =
     asked-refuses us true refl refl e w _ (λ u bs h. again us true w u _ h (reply-refuses true refl e us u (replied (length us) bs)))
 exec-refuses e (inputText a) w =
     given-refuses [] true (eval e w a) w _ (eval-known e w a) (λ p. asked-refuses [] true refl refl e w _ (λ u bs h.
-    again [] true w u _ h (keep-refuses [] true u _ (store-known (u .memory) p _))))
+    again [] true w u _ h (keep-refuses [] true u _ (store-known (e .sight .access) (u .memory) p _))))
 
 -- LIST
 pub list-refuses : (us : List ℕ) (b : Bool) (n : ℕ) (rs : List Stored) (w : World) → Refusing us b (w .session .vars) (listFrom n rs w)

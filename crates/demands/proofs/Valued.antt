@@ -1,27 +1,31 @@
 -- An expression is worth what document 01 says, and nothing else. Assumes nothing.
 use Prim.Native.Nat.{ℕ, zero, suc, _+_, _-_, _*_, _/_, _%_, _^_, _≤_, _<_}
-use mathlib.Core.Path.{_≡_, refl, sym, ap, subst}
-use mathlib.Core.Bool.{Bool, true, false, not, _&&_, true≢false}
-use mathlib.Core.List.{List, [], _∷_, _++_}
-use mathlib.Core.Logic.{_↔_, _⊎_, inl, inr}
-use native.Mathlib.Nat.{zero-add, pow-suc}
+use mathlib.Core.Path.{_≡_, refl, sym, ap, subst, _∙_}
+use mathlib.Core.Bool.{Bool, true, false, not}
+use mathlib.Core.List.{List, [], _∷_, _++_, append-nil}
+use mathlib.Core.Logic.{_↔_}
+use native.Mathlib.Nat.{zero-add, add-zero, pow-suc}
 use native.Mathlib.Omega.{arith}
-use lib.ListN.{length, drop}
+use lib.ListN.{length, drop, length-append, length-drop}
 use lib.Dec.{ltb, eqb}
-use borrow.Author.Tests.{ltb-true, ltb-false, lt-ltb, le-ltb, eqb-true, eqb-false, eq-eqb, ne-eqb}
-use Rattle.nibl.specs.Bytes.{if_then_else_, All, none, each, notCR, front, all}
+use borrow.Author.Tests.{ltb-true, ltb-false, lt-ltb, le-ltb, eqb-true, eqb-false, eq-eqb, ne-eqb, not-true}
+use Rattle.nibl.specs.Bytes.{if_then_else_, All, none, each, notCR}
 use Rattle.nibl.specs.Tree.{Op, times, dividedBy, andBits, plus, minus, orBits, equal, less, greater, atMost, atLeast, unequal}
 use Rattle.nibl.specs.Tree.{Expr, var, const, stat, top, byteAt, invert, negate, modulo, two}
 use Rattle.nibl.specs.Tree.{Item, text, stored, value}
 use Rattle.nibl.specs.Values.{Result, is, no, Value, isNegative, magnitude, less16, bit, differ, sub16, mod16, apply, digitsN, digits, printed}
-use Rattle.nibl.specs.Page.{recordsOf, used}
-use Rattle.nibl.specs.Meaning.{World, Env, bind, byteOf, stringAt, eval}
-use Rattle.nibl.proofs.Words.{if-split, and-left, and-right}
+use Rattle.nibl.specs.Page.{isAmong, recordsOf, used}
+use Rattle.nibl.specs.Access.{mayRead}
+use Rattle.nibl.specs.Meaning.{World, Env, bind, byteOf, stringFrom, stringAt, eval}
+use Rattle.nibl.specs.declared.access.Access.{Access}
+use Rattle.nibl.proofs.Words.{if-split}
 use Rattle.value.proofs.Digits.{digits-before}
 use Rattle.page.proofs.Walk.{by-cases}
 use Rattle.page.proofs.Program.{program-length}
 use Rattle.demands.specs.Items.{itemBytes}
-use Rattle.demands.specs.Valued.{SignAndSize, fromZero, belowZero, order, Below, acrossZero, aboveZero, underZero, Related, same, notSame, below, notBelow, above, notAbove, upTo, notUpTo, fromOn, notFromOn, other, notOther, Operated, sums, differences, products, quotients, quotientsBelow, noQuotient, ofAnd, ofOr, relates, Remains, remainders, noRemainder, ValueOf, ofVariable, ofConstant, ofStat, ofTop, ofByte, noByte, ofNot, ofMinus, ofMod, ofTwo, inByte, inNot, inMinus, leftOfMod, rightOfMod, leftOfTwo, rightOfTwo, StringAt, NoCR, Decimal, oneDigit, moreDigits, PrintedAs, shown, shownBelow, ItemBytes, ofText, ofString, ofNumber, noString, noAddress, noNumber}
+use Rattle.demands.specs.Whose.{MayRead, ByteRefused, notThere, notItsOwn}
+use Rattle.demands.specs.Valued.{SignAndSize, fromZero, belowZero, order, Below, acrossZero, aboveZero, underZero, Related, same, notSame, below, notBelow, above, notAbove, upTo, notUpTo, fromOn, notFromOn, other, notOther, Operated, sums, differences, products, quotients, quotientsBelow, noQuotient, ofAnd, ofOr, relates, Remains, remainders, noRemainder, ValueOf, ofVariable, ofConstant, ofStat, ofTop, ofByte, noByte, ofNot, ofMinus, ofMod, ofTwo, inByte, inNot, inMinus, leftOfMod, rightOfMod, leftOfTwo, rightOfTwo, StringAt, StopsShort, Decimal, oneDigit, moreDigits, PrintedAs, shown, shownBelow, ItemBytes, ofText, ofString, ofNumber, noString, noAddress, noNumber}
+use Rattle.demands.proofs.Whose.{readable-of, readable-one, unreadable-of, unreadable-one}
 
 -- Sign and size
 pub signed-of : (x : ℕ) → SignAndSize x (isNegative x) (magnitude x)
@@ -125,10 +129,21 @@ unfolding mod16
 remains-one (remainders {x} {y} {m} {n} z a b) = rw (ne-eqb y 0 z, signed-one a .1, signed-one b .1)
 remains-one (noRemainder {x} {y} z) = rw (eq-eqb y 0 z)
 
+abbrev pub valueNumbers : List ℕ
+valueNumbers = 13 ∷ 16 ∷ 21 ∷ []
+
+pub byte-number : {x : Access} {memory p n : ℕ} → ByteRefused x memory p n → isAmong valueNumbers n ≡ true
+byte-number (notThere h) = refl
+byte-number (notItsOwn h f) = refl
+
 module _ (e : Env) (w : World) where
-  byte-of : {a : Expr} (r : Value) → ValueOf e w a r → ValueOf e w (byteAt a) (bind r (λ x. byteOf (w .memory) x))
+  byte-of : {a : Expr} (r : Value) → ValueOf e w a r → ValueOf e w (byteAt a) (bind r (λ x. byteOf (e .sight .access) (w .memory) x))
   unfolding byteOf
-  byte-of {a} (is p) h = if-split (ValueOf e w (byteAt a)) (ltb p (length (w .memory))) (λ l. ofByte h (ltb-true _ _ l)) (λ l. noByte h (ltb-false _ _ l))
+  byte-of (is p) h =
+      by-cases (ltb p (length (w .memory)))
+      (λ l. by-cases (mayRead (e .sight .access) p)
+      (λ m. rw (l, m) (ofByte h (ltb-true _ _ l) (readable-of _ p m))) (λ m. rw (l, m) (noByte h (notItsOwn (ltb-true _ _ l) (unreadable-of _ p m)))))
+      (λ l. rw l (noByte h (notThere (ltb-false _ _ l))))
   byte-of (no n) h = inByte h
 
   not-of : {a : Expr} (r : Value) → ValueOf e w a r → ValueOf e w (invert a) (bind r (λ x. is (65535 - x)))
@@ -167,8 +182,9 @@ module _ (e : Env) (w : World) where
   value-one ofConstant = refl
   value-one ofStat = refl
   value-one ofTop = ap is (sym (program-length (recordsOf (e .page))))
-  value-one (ofByte {p = p} h l) = rw (value-one h, lt-ltb p (length (w .memory)) l)
-  value-one (noByte {p = p} h l) = rw (value-one h, le-ltb p (length (w .memory)) l)
+  value-one (ofByte {p = p} h l m) = rw (value-one h, lt-ltb p (length (w .memory)) l, readable-one _ p m)
+  value-one (noByte {p = p} h (notThere l)) = rw (value-one h, le-ltb p (length (w .memory)) l)
+  value-one (noByte {p = p} h (notItsOwn l m)) = rw (value-one h, lt-ltb p (length (w .memory)) l, unreadable-one _ p m)
   value-one (ofNot h) = rw (value-one h)
   value-one (ofMinus {x = x} h) = rw (value-one h, zero-add (65536 - x))
   value-one (ofMod h g r) = rw (value-one h, value-one g) (remains-one r)
@@ -185,11 +201,11 @@ module _ (e : Env) (w : World) where
   pub value-exactly : (a : Expr) (r : Value) → (eval e w a ≡ r) ↔ ValueOf e w a r
   value-exactly a r = (λ h. rw h at (value-of a), value-one)
 
-  -- a value is refused with 13 or 16 alone
-  pub refused-number : {a : Expr} {n : ℕ} → ValueOf e w a (no n) → (n ≡ 13) ⊎ (n ≡ 16)
-  refused-number (noByte h l) = inr refl
-  refused-number (ofMod h g (noRemainder z)) = inl refl
-  refused-number (ofTwo h g (noQuotient z)) = inl refl
+  -- a value is refused with 13, 16 or 21 alone
+  pub refused-number : {a : Expr} {n : ℕ} → ValueOf e w a (no n) → isAmong valueNumbers n ≡ true
+  refused-number (noByte h r) = byte-number r
+  refused-number (ofMod h g (noRemainder z)) = refl
+  refused-number (ofTwo h g (noQuotient z)) = refl
   refused-number (inByte h) = refused-number h
   refused-number (inNot h) = refused-number h
   refused-number (inMinus h) = refused-number h
@@ -199,42 +215,84 @@ module _ (e : Env) (w : World) where
   refused-number (rightOfTwo h g) = refused-number g
 
 -- Strings in memory
-no-cr : (s : List ℕ) → all notCR s ≡ true → All notCR s
-no-cr [] h = none
-no-cr (b ∷ s) h = each (and-left (notCR b) (all notCR s) h) (no-cr s (and-right (notCR b) (all notCR s) h))
+bind-is : {A : Type 0} (r : Result A) → bind r (λ a. is a) ≡ r
+bind-is (is a) = refl
+bind-is (no n) = refl
 
-no-cr-all : {s : List ℕ} → All notCR s → all notCR s ≡ true
-no-cr-all none = refl
-no-cr-all (each h m) = rw h (no-cr-all m)
+module _ (x : Access) where
+  -- bytes that may be read and are no CR are passed
+  string-goes : (a : ℕ) (bs : List ℕ) → All notCR bs → ((i : ℕ) → a ≤ i → i < a + length bs → MayRead x i) → (rest : List ℕ)
+      → stringFrom x a (bs ++ rest) ≡ bind (stringFrom x (a + length bs) rest) (λ cs. is (bs ++ cs))
+  unfolding stringFrom
+  string-goes a [] n f rest = rw (add-zero a) (sym (bind-is (stringFrom x a rest)))
+  string-goes a (b ∷ bs) (each h n) f rest =
+      rw (readable-one x a (f a (omega arith) (omega arith)), not-true (eqb b 13) h, string-goes (suc a) bs n (λ i k l. f i (omega arith) (omega arith)) rest)
+      (by (stringFrom x (suc a + length bs) rest) ∙ ap (λ (q : ℕ). bind (stringFrom x q rest) (λ cs. is (b ∷ (bs ++ cs)))) (omega arith))
+    where
+      by : (r : Result (List ℕ)) → bind (bind r (λ cs. is (bs ++ cs))) (λ cs. is (b ∷ cs)) ≡ bind r (λ cs. is (b ∷ (bs ++ cs)))
+      by (is cs) = refl
+      by (no n) = refl
 
-to-cr : (s : List ℕ) → all notCR s ≡ false → (rest : List ℕ) × (s ≡ front notCR s ++ (13 ∷ rest)) × All notCR (front notCR s)
-to-cr [] h = absurd (true≢false h)
-to-cr (b ∷ s) h = by (to-cr s) (eqb b 13) refl h where
-  by : (all notCR s ≡ false → (rest : List ℕ) × (s ≡ front notCR s ++ (13 ∷ rest)) × All notCR (front notCR s)) → (t : Bool) → eqb b 13 ≡ t
-      → (not t && all notCR s) ≡ false
-      → (rest : List ℕ) × (b ∷ s ≡ (if not t then b ∷ front notCR s else []) ++ (13 ∷ rest)) × All notCR (if not t then b ∷ front notCR s else [])
-  by f true c h = (s, ap (λ (x : ℕ). x ∷ s) (eqb-true b 13 c), none)
-  by f false c h = let r = f h in let g : notCR b ≡ true = rw c in (r .0, ap (λ (l : List ℕ). b ∷ l) (r .1), each g (r .2))
+  -- what a look for the CR comes to, in what stands from a on: the string, or the first byte that may not be read, at q
+  data Breaks (q : ℕ) : List ℕ → ℕ → Type 0 where
+    over : Breaks q [] 16
+    foreign : {b : ℕ} {s : List ℕ} → (MayRead x q → ⊥) → Breaks q (b ∷ s) 21
 
-front-cr : {bs : List ℕ} (rest : List ℕ) → All notCR bs → (all notCR (bs ++ (13 ∷ rest)) ≡ false) × (front notCR (bs ++ (13 ∷ rest)) ≡ bs)
-front-cr rest none = (refl, refl)
-front-cr rest (each {b = b} h m) = let r = front-cr rest m in (rw h (r .0), rw h (ap (λ (l : List ℕ). b ∷ l) (r .1)))
+  data Looks (a : ℕ) (s : List ℕ) : Result (List ℕ) → Type 0 where
+    ends : {bs : List ℕ} (q : ℕ) (rest : List ℕ) → s ≡ bs ++ (13 ∷ rest) → All notCR bs → ((i : ℕ) → a ≤ i → i < q → MayRead x i) → q ≡ a + length bs + 1 → Looks a s (is bs)
+    breaks : {n : ℕ} (q : ℕ) (bs rest : List ℕ) → s ≡ bs ++ rest → All notCR bs → ((i : ℕ) → a ≤ i → i < q → MayRead x i) → q ≡ a + length bs → Breaks q rest n → Looks a s (no n)
 
-module _ (memory : List ℕ) (p : ℕ) where
-  pub string-of : (P : Result (List ℕ) → Type 0) → ((bs : List ℕ) → StringAt memory p bs → P (is bs)) → (NoCR memory p → P (no 16))
-      → P (stringAt memory p)
+  one-more : (a q : ℕ) → MayRead x a → ((i : ℕ) → suc a ≤ i → i < q → MayRead x i) → (i : ℕ) → a ≤ i → i < q → MayRead x i
+  one-more a q m f i h l = by-cases (eqb i a) (λ e. subst (MayRead x) (sym (eqb-true i a e)) m) (λ e. let k = eqb-false i a e in f i (omega arith) l)
+
+  looks : (a : ℕ) (s : List ℕ) → Looks a s (stringFrom x a s)
+  unfolding stringFrom
+  looks a [] = breaks a [] [] refl none (λ i h l. absurd (omega arith)) (sym (add-zero a)) over
+  looks a (b ∷ s) = by (mayRead x a) refl (eqb b 13) refl (stringFrom x (suc a) s) (looks (suc a) s) where
+    by : (m : Bool) → mayRead x a ≡ m → (t : Bool) → eqb b 13 ≡ t → (r : Result (List ℕ)) → Looks (suc a) s r
+        → Looks a (b ∷ s) (if not m then no 21 else if t then is [] else bind r (λ bs. is (b ∷ bs)))
+    by false m t c r l = breaks a [] (b ∷ s) refl none (λ i h k. absurd (omega arith)) (sym (add-zero a)) (foreign (unreadable-of x a m))
+    by true m true c r l =
+        ends (suc a) s (ap (λ (d : ℕ). d ∷ s) (eqb-true b 13 c)) none (one-more a (suc a) (readable-of x a m) (λ i h k. absurd (omega arith))) (omega arith)
+    by true m false c (is bs) (ends q rest e n f k) =
+        let g : notCR b ≡ true = rw c in ends q rest (ap (λ (l : List ℕ). b ∷ l) e) (each g n) (one-more a q (readable-of x a m) f) (omega arith)
+    by true m false c (no k) (breaks q bs rest e n f g z) =
+        let h : notCR b ≡ true = rw c in breaks q (b ∷ bs) rest (ap (λ (l : List ℕ). b ∷ l) e) (each h n) (one-more a q (readable-of x a m) f) (omega arith) z
+
+module _ (x : Access) (memory : List ℕ) (p : ℕ) where
+  pub string-of : (P : Result (List ℕ) → Type 0) → ((bs : List ℕ) → StringAt x memory p bs → P (is bs)) → ((n : ℕ) → StopsShort x memory p n → P (no n))
+      → P (stringAt x memory p)
   unfolding stringAt
-  string-of P f g =
-      if-split P (all notCR (drop p memory)) (λ h. g (no-cr (drop p memory) h))
-      (λ h. let r = to-cr (drop p memory) h in f _ (record { rest = r .0; stands = r .1; first = r .2 }))
+  string-of P f g = by (stringFrom x p (drop p memory)) (looks x p (drop p memory)) where
+    refused : {n : ℕ} (q : ℕ) (bs rest : List ℕ) → drop p memory ≡ bs ++ rest → q ≡ p + length bs → Breaks x q rest n → ByteRefused x (length memory) (p + length bs) n
+    refused q bs rest e k over = notThere (omega (arith, length-drop p memory, ap length e, length-append bs []))
+    refused q bs rest e k (foreign {b = b} {s = s} h) =
+        notItsOwn (omega (arith, length-drop p memory, ap length e, length-append bs (b ∷ s))) (λ m. h (subst (MayRead x) (sym k) m))
 
-  pub string-one : {bs : List ℕ} → StringAt memory p bs → stringAt memory p ≡ is bs
-  unfolding stringAt
-  string-one s = rw (s .stands, front-cr (s .rest) (s .first) .0, front-cr (s .rest) (s .first) .1)
+    by : (r : Result (List ℕ)) → Looks x p (drop p memory) r → P r
+    by (is bs) (ends q rest e n h k) = f bs (record { rest = rest; stands = e; first = n; readable = λ i a l. h i a (omega arith) })
+    by (no n) (breaks q bs rest e c h k z) =
+        g n (record { before = bs; rest = rest; stands = e; noCR = c; readable = λ i a l. h i a (omega arith); refused = refused q bs rest e k z })
 
-  pub string-none : NoCR memory p → stringAt memory p ≡ no 16
+  pub string-one : {bs : List ℕ} → StringAt x memory p bs → stringAt x memory p ≡ is bs
+  unfolding stringAt stringFrom
+  string-one {bs} s =
+      rw (s .stands) (string-goes x p bs (s .first) (λ i a l. s .readable i a (omega arith)) (13 ∷ s .rest)
+      ∙ rw (readable-one x (p + length bs) (s .readable (p + length bs) (omega arith) (omega arith))) (ap is (append-nil bs)))
+
+  -- k bytes on stands the byte that may not be read
+  string-breaks : {n : ℕ} (rest : List ℕ) (k : ℕ) → length (drop p memory) ≡ k + length rest → ByteRefused x (length memory) (p + k) n → stringFrom x (p + k) rest ≡ no n
+  unfolding stringFrom
+  string-breaks [] k e (notThere h) = refl
+  string-breaks [] k e (notItsOwn h f) = absurd (omega (arith, length-drop p memory))
+  string-breaks (b ∷ t) k e (notThere h) = absurd (omega (arith, length-drop p memory))
+  string-breaks (b ∷ t) k e (notItsOwn h f) = rw (unreadable-one x (p + k) f)
+
+  pub string-none : {n : ℕ} → StopsShort x memory p n → stringAt x memory p ≡ no n
   unfolding stringAt
-  string-none h = rw (no-cr-all h)
+  string-none s =
+      rw (s .stands) (string-goes x p (s .before) (s .noCR) (s .readable) (s .rest)
+      ∙ ap (λ (r : Result (List ℕ)). bind r (λ cs. is (s .before ++ cs))) (string-breaks (s .rest) (length (s .before)) (ap length (s .stands) ∙ length-append (s .before) (s .rest)) (s .refused)))
 
 -- Digits
 decimal-of : (k n : ℕ) → n < 10 ^ suc k → Decimal n (digitsN (suc k) n [])
@@ -281,8 +339,8 @@ module _ (e : Env) (w : World) where
   pub item-of : (i : Item) → ItemBytes e w i (itemBytes e w i)
   item-of (text bs) = ofText
   item-of (stored a) = by (eval e w a) (value-of e w a) where
-    by : (r : Value) → ValueOf e w a r → ItemBytes e w (stored a) (bind r (stringAt (w .memory)))
-    by (is p) h = string-of (w .memory) p (ItemBytes e w (stored a)) (λ bs s. ofString h s) (λ s. noString h s)
+    by : (r : Value) → ValueOf e w a r → ItemBytes e w (stored a) (bind r (stringAt (e .sight .access) (w .memory)))
+    by (is p) h = string-of (e .sight .access) (w .memory) p (ItemBytes e w (stored a)) (λ bs s. ofString h s) (λ n s. noString h s)
     by (no n) h = noAddress h
   item-of (value a) = by (eval e w a) (value-of e w a) where
     by : (r : Value) → ValueOf e w a r → ItemBytes e w (value a) (bind r (λ x. is (printed x)))
@@ -291,9 +349,9 @@ module _ (e : Env) (w : World) where
 
   pub item-one : {i : Item} {r : Result (List ℕ)} → ItemBytes e w i r → itemBytes e w i ≡ r
   item-one ofText = refl
-  item-one (ofString {p = p} h s) = rw (value-one e w h) (string-one (w .memory) p s)
+  item-one (ofString {p = p} h s) = rw (value-one e w h) (string-one (e .sight .access) (w .memory) p s)
   item-one (ofNumber h s) = rw (value-one e w h) (ap is (shown-one s))
-  item-one (noString {p = p} h s) = rw (value-one e w h) (string-none (w .memory) p s)
+  item-one (noString {p = p} h s) = rw (value-one e w h) (string-none (e .sight .access) (w .memory) p s)
   item-one (noAddress h) = rw (value-one e w h)
   item-one (noNumber h) = rw (value-one e w h)
 

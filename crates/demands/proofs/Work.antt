@@ -6,7 +6,7 @@ use mathlib.Core.List.{List, [], _∷_}
 use mathlib.Core.Logic.{_↔_}
 use mathlib.Core.Option.{Option, none, some}
 use native.Mathlib.Omega.{arith}
-use lib.ListN.{length, getD, drop}
+use lib.ListN.{length, getD, drop, length-append}
 use lib.Seq.{sets}
 use lib.Dec.{ltb, leb, eqb}
 use borrow.Author.Tests.{ltb-true, ltb-false, leb-true, leb-false, lt-ltb, le-ltb, le-leb, lt-leb, eqb-true, eqb-false, eq-eqb, ne-eqb}
@@ -20,7 +20,9 @@ use Rattle.nibl.specs.Stack.{noPlace, noEntry, onTop, topOf, topFor}
 use Rattle.nibl.specs.Typing.{Gathered, gather}
 use Rattle.nibl.specs.Page.{Stored, recordsOf, size, positionIn, find}
 use Rattle.nibl.specs.Record.{position, mark}
+use Rattle.nibl.specs.Access.{mayWrite}
 use Rattle.nibl.specs.Meaning.{World, Env, on, skip, stop, Done, done, withMemory, bind, given, went, storeAt, eval, put, putItem, putItems, putEnd, keepIn, lineThere, after, gosubTo, returnBy, doHere, untilBy, forHere, goesOn, nextBy, gathered, asked, assign, assignReply, exec}
+use Rattle.nibl.specs.declared.access.Access.{Access}
 use Rattle.nibl.specs.declared.Place.{Place}
 use Rattle.nibl.specs.declared.PlaceStack.{PlaceStack}
 use Rattle.nibl.specs.declared.ForEntry.{ForEntry}
@@ -35,11 +37,17 @@ use Rattle.nibl.proofs.Whole.{replied-complete}
 use Rattle.letter.proofs.Typed.{no-cr, no-cr-left}
 use Rattle.page.proofs.Walk.{by-cases}
 use Rattle.demands.specs.Items.{In, first, further, itemBytes, wroteItem, HasRoom, NoRoom}
+use Rattle.demands.specs.Whose.{AllOwn, StoreRefused, outlying, notAllOwn}
 use Rattle.demands.specs.Valued.{order, ValueOf, FirstRefused, atFirst, atLater, NoCR, ItemBytes}
-use Rattle.demands.specs.Work.{valuesOf, LineAt, thisLine, laterLine, NoLine, Bare, empty, misfit, TopPlace, TopEntry, stepAdded, Within, upward, downward, Past, above, below, withCR, UpTo, thisItem, laterItem, AllOut, noneLeft, oneOut, Replied, afterReply, gave, GivenUpTo, thisValue, laterValue, AllGiven, noMore, oneGiven, Asking, forVariables, forString, Unread, ofStatement, ofItem, ofReply, RefusedWith, byValue, noLineToGo, noLineToSub, fullOfGosubs, fullOfDos, fullOfFors, noGosub, noDo, noFor, otherFor, noByteThere, noRoomForText, noSource, noRoomForCopy, noRoomForItem, noRoomForEnd, noRoomToAsk, noReply, replyTooLong, replyUnread, noRoomForReply, atEnd, Performs, refuses, remarks, falseIf, assigns, assignsFlags, storesByte, storesText, copies, goesToLine, callsLine, begins, counts, returns, returnsToMark, repeats, leaves, countsOn, finishes, prints, printsEnd, inputs, inputsString, Reaches, itself, throughIf, Works}
+use Rattle.demands.specs.Work.{valuesOf, LineAt, thisLine, laterLine, NoLine, Bare, empty, misfit, TopPlace, TopEntry, stepAdded, Within, upward, downward, Past, above, below, withCR, UpTo, thisItem, laterItem, AllOut, noneLeft, oneOut, Replied, afterReply, gave, GivenUpTo, thisValue, laterValue, AllGiven, noMore, oneGiven, Asking, forVariables, forString, Unread, ofStatement, ofItem, ofReply, byteNotStored, textNotStored, noSource, copyNotStored, replyNotStored, RefusedWith, byValue, byMemory, noLineToGo, noLineToSub, fullOfGosubs, fullOfDos, fullOfFors, noGosub, noDo, noFor, otherFor, noRoomForItem, noRoomForEnd, noRoomToAsk, noReply, replyTooLong, replyUnread, atEnd, Performs, refuses, remarks, falseIf, assigns, assignsFlags, storesByte, storesText, copies, goesToLine, callsLine, begins, counts, returns, returnsToMark, repeats, leaves, countsOn, finishes, prints, printsEnd, inputs, inputsString, Reaches, itself, throughIf, Works}
+use Rattle.demands.proofs.Whose.{own-of, own-one, foreign-of, foreign-one}
 use Rattle.demands.proofs.Valued.{value-of, value-one, string-of, string-one, string-none, item-of, item-one}
 use Rattle.demands.proofs.Effects.{went-went}
 use Rattle.demands.proofs.Printing.{put-split, went-on, item-put}
+
+-- a string's store writes its CR at least
+some-bytes : (bs : List ℕ) → 1 ≤ length (withCR bs)
+some-bytes bs = omega (arith, length-append bs (13 ∷ []))
 
 none-in : {r : Stored} {rs : List Stored} → In r rs → rs ≡ [] → ⊥
 none-in first e = let z : _≡_ {A = ℕ} 0 1 = cc in omega arith
@@ -99,12 +107,16 @@ module _ (e : Env) (w : World) where
     by (is x) h = f x h
     by (no n) h = g n h
 
-  store-of : (P : Done → Type 0) (m : List ℕ) (p : ℕ) (bs : List ℕ) → (p + length bs ≤ length m → P (done on (withMemory w (sets m p bs))))
-      → (length m < p + length bs → P (done (stop 16) w))
-      → P (keepIn w (storeAt m p bs))
+  store-of : (P : Done → Type 0) (m : List ℕ) (p : ℕ) (bs : List ℕ) → 1 ≤ length bs
+      → (p + length bs ≤ length m → AllOwn (e .sight .access) p (length bs) → P (done on (withMemory w (sets m p bs))))
+      → ((n : ℕ) → StoreRefused (e .sight .access) (length m) p (length bs) n → P (done (stop n) w))
+      → P (keepIn w (storeAt (e .sight .access) m p bs))
   unfolding keepIn storeAt
-  store-of P m p bs f g =
-      if-split (λ r. P (given r w (λ m. done on (withMemory w m)))) (leb (p + length bs) (length m)) (λ h. f (leb-true _ _ h)) (λ h. g (leb-false _ _ h))
+  store-of P m p bs l f g =
+      by-cases (leb (p + length bs) (length m))
+      (λ h. by-cases (mayWrite (e .sight .access) p (length bs))
+      (λ o. rw (h, o) (f (leb-true _ _ h) (own-of (e .sight .access) p (length bs) o))) (λ o. rw (h, o) (g 21 (notAllOwn (leb-true _ _ h) (foreign-of (e .sight .access) p (length bs) l o)))))
+      (λ h. rw h (g 16 (outlying (leb-false _ _ h))))
 
   alone : {q : Stmt} {d : Done} → Performs e w q d → Works e q w d
   alone p = record { statement = _; reached = itself; performed = p }
@@ -124,22 +136,23 @@ module _ (e : Env) (w : World) where
   unfolding exec
   letByte-works a b =
       given-of (P (letByte a b)) a _ (λ p h. given-of (P (letByte a b)) b _ (λ x g.
-      store-of (P (letByte a b)) (w .memory) p (x % 256 ∷ []) (λ l. storesByte h g (omega arith)) (λ l. refuses (noByteThere h g (omega arith))))
+      store-of (P (letByte a b)) (w .memory) p (x % 256 ∷ []) (omega arith) (λ l o. storesByte h g (record { there = l; own = o })) (λ n l. refuses (byMemory (byteNotStored h g l))))
       (λ n g. refuses (byValue (ofStatement (atLater h (atFirst g)))))) (λ n h. refuses (byValue (ofStatement (atFirst h))))
 
   letText-works : (a : Expr) (bs : List ℕ) → P (letText a bs) (exec e (letText a bs) w)
   unfolding exec
   letText-works a bs =
-      given-of (P (letText a bs)) a _ (λ p h. store-of (P (letText a bs)) (w .memory) p (withCR bs) (λ l. storesText h l) (λ l. refuses (noRoomForText h l)))
+      given-of (P (letText a bs)) a _ (λ p h.
+      store-of (P (letText a bs)) (w .memory) p (withCR bs) (some-bytes bs) (λ l o. storesText h (record { there = l; own = o })) (λ n l. refuses (byMemory (textNotStored h l))))
       (λ n h. refuses (byValue (ofStatement (atFirst h))))
 
   letCopy-works : (a b : Expr) → P (letCopy a b) (exec e (letCopy a b) w)
   unfolding exec keepIn
   letCopy-works a b =
       given-of (P (letCopy a b)) a _ (λ p h. given-of (P (letCopy a b)) b _ (λ q g.
-      string-of (w .memory) q (λ r. P (letCopy a b) (keepIn w (bind r (λ bs. storeAt (w .memory) p (withCR bs)))))
-      (λ bs s. store-of (P (letCopy a b)) (w .memory) p (withCR bs) (λ l. copies h g s l) (λ l. refuses (noRoomForCopy h g s l)))
-      (λ s. refuses (noSource h g s)))
+      string-of (e .sight .access) (w .memory) q (λ r. P (letCopy a b) (keepIn w (bind r (λ bs. storeAt (e .sight .access) (w .memory) p (withCR bs)))))
+      (λ bs s. store-of (P (letCopy a b)) (w .memory) p (withCR bs) (some-bytes bs) (λ l o. copies h g s (record { there = l; own = o })) (λ n l. refuses (byMemory (copyNotStored h g s l))))
+      (λ n s. refuses (byMemory (noSource h g s))))
       (λ n g. refuses (byValue (ofStatement (atLater h (atFirst g)))))) (λ n h. refuses (byValue (ofStatement (atFirst h))))
 
   -- to the line of a value
@@ -304,7 +317,8 @@ module _ (e : Env) (w : World) where
   string-works a =
       given-of e w T a _ (λ p h. asked-of T (inputText a) _ (λ l. refuses (noRoomToAsk (forString h) l)) (λ l g. refuses (noReply (forString h) l g))
       (λ g r l. refuses (replyTooLong (forString h) r l))
-      (λ g r l. store-of e (afterReply w g) T (w .memory) p (withCR (g .line .bytes)) (λ i. inputsString h r l i) (λ i. refuses (noRoomForReply h r l i))))
+      (λ g r l. store-of e (afterReply w g) T (w .memory) p (withCR (g .line .bytes)) (some-bytes (g .line .bytes))
+      (λ i o. inputsString h r l (record { there = i; own = o })) (λ n i. refuses (byMemory (replyNotStored h r l i)))))
       (λ n h. refuses (byValue (ofStatement (atFirst h))))
     where
       T : Done → Type 0
@@ -454,14 +468,15 @@ none-replied : (n : ℕ) (s : List ℕ) → Unread n s → (o : Option (List Exp
 none-replied n s f none h = refl
 none-replied n s f (some es) h = absurd (f es (replied-sound n s es h))
 
-module _ (w : World) (m : List ℕ) (p : ℕ) (bs : List ℕ) where
-  store-fits : p + length bs ≤ length m → keepIn w (storeAt m p bs) ≡ done on (withMemory w (sets m p bs))
+module _ (x : Access) (w : World) (m : List ℕ) (p : ℕ) (bs : List ℕ) where
+  store-fits : 1 ≤ length bs → p + length bs ≤ length m → AllOwn x p (length bs) → keepIn w (storeAt x m p bs) ≡ done on (withMemory w (sets m p bs))
   unfolding keepIn storeAt
-  store-fits h = rw (le-leb (p + length bs) (length m) h)
+  store-fits l h o = rw (le-leb (p + length bs) (length m) h, own-one x p (length bs) l o)
 
-  store-lacks : length m < p + length bs → keepIn w (storeAt m p bs) ≡ done (stop 16) w
+  store-lacks : {n : ℕ} → StoreRefused x (length m) p (length bs) n → keepIn w (storeAt x m p bs) ≡ done (stop n) w
   unfolding keepIn storeAt
-  store-lacks h = rw (lt-leb (p + length bs) (length m) h)
+  store-lacks (outlying h) = rw (lt-leb (p + length bs) (length m) h)
+  store-lacks (notAllOwn h f) = rw (le-leb (p + length bs) (length m) h, foreign-one x p (length bs) f)
 
 top-one : {s : PlaceStack} {p : Place} → TopPlace s p → topOf s ≡ top.At p
 top-one {s} t = some-top 8 (s .depth) top.Empty (top.At (getD (s .places) (s .depth - 1) noPlace)) (t .some) (t .within) ∙ ap top.At (t .top)
@@ -499,10 +514,11 @@ module _ (e : Env) (w : World) where
   refused-one (noDo h b) = rw (value-one e w h) (rw (bare-top top.Empty (top.At (getD (w .session .dos .places) (w .session .dos .depth - 1) noPlace)) b))
   refused-one (noFor b) = rw (bare-top topf.Empty (topf.Entry (getD (w .session .fors .entries) (w .session .fors .depth - 1) noEntry)) b)
   refused-one (otherFor {v = v} {f = f} t h) = ap (nextBy w v) (topfor-one t) ∙ rw (ne-eqb (f .var) v h)
-  refused-one (noByteThere {p = p} {x = x} h g l) = rw (value-one e w h, value-one e w g) (store-lacks w (w .memory) p (x % 256 ∷ []) (omega arith))
-  refused-one (noRoomForText {p = p} {bs = bs} h l) = rw (value-one e w h) (store-lacks w (w .memory) p (withCR bs) l)
-  refused-one (noSource {q = q} h g s) = rw (value-one e w h, value-one e w g, string-none (w .memory) q s)
-  refused-one (noRoomForCopy {p = p} {q = q} {bs = bs} h g s l) = rw (value-one e w h, value-one e w g, string-one (w .memory) q s) (store-lacks w (w .memory) p (withCR bs) l)
+  refused-one (byMemory (byteNotStored {p = p} {x = x} h g l)) = rw (value-one e w h, value-one e w g) (store-lacks (e .sight .access) w (w .memory) p (x % 256 ∷ []) l)
+  refused-one (byMemory (textNotStored {p = p} {bs = bs} h l)) = rw (value-one e w h) (store-lacks (e .sight .access) w (w .memory) p (withCR bs) l)
+  refused-one (byMemory (noSource {q = q} h g s)) = rw (value-one e w h, value-one e w g, string-none (e .sight .access) (w .memory) q s)
+  refused-one (byMemory (copyNotStored {p = p} {q = q} {bs = bs} h g s l)) =
+      rw (value-one e w h, value-one e w g, string-one (e .sight .access) (w .memory) q s) (store-lacks (e .sight .access) w (w .memory) p (withCR bs) l)
   refused-one (noRoomForItem {i = i} {u = u} b m j r) = up-to e (putEnd b) m (λ more. item-full e i u _ j r)
   refused-one (noRoomForEnd {u = u} m r) = all-out e (putEnd false) m ∙ sym (went-on (put (13 ∷ 10 ∷ []) u)) ∙ put-full (13 ∷ 10 ∷ []) u (λ v. done on v) r
   refused-one (noRoomToAsk a h) = asking-one e w a (λ k. reply-unasked e w k h)
@@ -510,7 +526,8 @@ module _ (e : Env) (w : World) where
   refused-one (replyTooLong {g = g} a r h) = asking-one e w a (λ k. reply-long e w g k r h)
   refused-one (replyUnread {vs = vs} {g = g} r s f) =
       reply-there e w g _ r s ∙ ap (assignReply e vs (afterReply w g)) (none-replied (length vs) (g .line .bytes) f (replied (length vs) (g .line .bytes)) refl)
-  refused-one (noRoomForReply {p = p} {g = g} h r s l) = rw (value-one e w h) (reply-there e w g _ r s ∙ store-lacks (afterReply w g) (w .memory) p (withCR (g .line .bytes)) l)
+  refused-one (byMemory (replyNotStored {p = p} {g = g} h r s l)) =
+      rw (value-one e w h) (reply-there e w g _ r s ∙ store-lacks (e .sight .access) (afterReply w g) (w .memory) p (withCR (g .line .bytes)) l)
   refused-one atEnd = refl
 
   within-one : (f : ForEntry) (x : ℕ) → Within f x → goesOn (f .step) x (f .limit) ≡ true
@@ -528,9 +545,10 @@ module _ (e : Env) (w : World) where
   performs-one (falseIf h) = rw (value-one e w h)
   performs-one (assigns h) = rw (value-one e w h)
   performs-one (assignsFlags h) = rw (value-one e w h)
-  performs-one (storesByte {p = p} {x = x} h g l) = rw (value-one e w h, value-one e w g) (store-fits w (w .memory) p (x % 256 ∷ []) (omega arith))
-  performs-one (storesText {p = p} {bs = bs} h l) = rw (value-one e w h) (store-fits w (w .memory) p (withCR bs) l)
-  performs-one (copies {p = p} {q = q} {bs = bs} h g s l) = rw (value-one e w h, value-one e w g, string-one (w .memory) q s) (store-fits w (w .memory) p (withCR bs) l)
+  performs-one (storesByte {p = p} {x = x} h g l) = rw (value-one e w h, value-one e w g) (store-fits (e .sight .access) w (w .memory) p (x % 256 ∷ []) (omega arith) (l .there) (l .own))
+  performs-one (storesText {p = p} {bs = bs} h l) = rw (value-one e w h) (store-fits (e .sight .access) w (w .memory) p (withCR bs) (some-bytes bs) (l .there) (l .own))
+  performs-one (copies {p = p} {q = q} {bs = bs} h g s l) =
+      rw (value-one e w h, value-one e w g, string-one (e .sight .access) (w .memory) q s) (store-fits (e .sight .access) w (w .memory) p (withCR bs) (some-bytes bs) (l .there) (l .own))
   performs-one (goesToLine h l) = line-there _ h l
   performs-one (callsLine h l f) = line-there (gosubTo e w) h l ∙ rw (lt-ltb (w .session .gosubs .depth) 8 f)
   performs-one (begins f) = rw (lt-ltb (w .session .dos .depth) 8 f)
@@ -548,7 +566,9 @@ module _ (e : Env) (w : World) where
   performs-one (prints m) = all-out e (putEnd true) m
   performs-one (printsEnd {u = u} m r) = all-out e (putEnd false) m ∙ sym (went-on (put (13 ∷ 10 ∷ []) u)) ∙ put-fits (13 ∷ 10 ∷ []) u (λ v. done on v) r
   performs-one (inputs {vs = vs} {g = g} r s l m) = reply-there e w g _ r s ∙ ap (assignReply e vs (afterReply w g)) (replied-complete l) ∙ all-given e m
-  performs-one (inputsString {p = p} {g = g} h r s l) = rw (value-one e w h) (reply-there e w g _ r s ∙ store-fits (afterReply w g) (w .memory) p (withCR (g .line .bytes)) l)
+  performs-one (inputsString {p = p} {g = g} h r s l) =
+      rw (value-one e w h) (reply-there e w g _ r s
+      ∙ store-fits (e .sight .access) (afterReply w g) (w .memory) p (withCR (g .line .bytes)) (some-bytes (g .line .bytes)) (l .there) (l .own))
 
   pub reached-one : {s q : Stmt} → Reaches e w s q → exec e s w ≡ exec e q w
   unfolding exec

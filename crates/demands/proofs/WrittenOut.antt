@@ -40,7 +40,7 @@ what-is-answered n line steps inpos outpos column = refl
 
 module _ (x : Lent) where
   -- a typed statement sees the page, the input and the sense byte that are lent, keeps 72 bytes of a line, and is ended by the immediate mark
-  pub what-a-typed-statement-sees : lentEnv limit x ≡ record { lim = 72; page = x .page; input = x .input; sense = x .call .sense; here = mark }
+  pub what-a-typed-statement-sees : lentEnv limit x ≡ record { lim = 72; page = x .page; input = x .input; sight = record { sense = x .call .sense; access = record { own = record { from = 0; to = 65535 }; shared = record { from = 0; to = 0 } } }; here = mark }
   what-a-typed-statement-sees = refl
 
   -- "A call past its first refusals .. ends any pause"; n bytes of the input are taken
@@ -79,7 +79,7 @@ module _ (x : Lent) where
   all-that-was-left o = refl
 
 -- a program's statement sees the same, and the place that ends it: "DO, FOR and GOSUB save the place that ends them"
-pub what-a-programs-statement-sees : (e : Env) (p : ℕ) → envAt e p ≡ record { lim = e .lim; page = e .page; input = e .input; sense = e .sense; here = p }
+pub what-a-programs-statement-sees : (e : Env) (p : ℕ) → envAt e p ≡ record { lim = e .lim; page = e .page; input = e .input; sight = e .sight; here = p }
 what-a-programs-statement-sees e p = refl
 
 -- a saved place is that number

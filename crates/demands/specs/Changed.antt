@@ -73,7 +73,7 @@ pub record Copies (e : Env) (w : World) (a b : Expr) (u : World) : Type 0 where
   pub source : ℕ
   pub from : ValueOf e w b (is source)
   pub string : List ℕ
-  pub stands : StringAt (w .memory) source string
+  pub stands : StringAt (e .sight .access) (w .memory) source string
   pub stored : StoresText e w a string u
 
 -- PRINT's items one behind the other, each by what was before the first

@@ -19,7 +19,7 @@ pub data In {A : Type 0} (x : A) : List A → Type 0 where
 -- the bytes of one of PRINT's items, or its refusal: a string, a string in memory, "a space or '-', digits, a space"
 abbrev pub itemBytes : Env → World → Item → Result (List ℕ)
 itemBytes e w (text bs) = is bs
-itemBytes e w (stored a) = bind (eval e w a) (stringAt (w .memory))
+itemBytes e w (stored a) = bind (eval e w a) (stringAt (e .sight .access) (w .memory))
 itemBytes e w (value a) = bind (eval e w a) (λ x. is (printed x))
 
 -- an item that a statement may write

@@ -10,6 +10,7 @@ pub mod Sound
 pub mod Starts
 pub mod Steps
 pub mod Gathered
+pub mod Whose
 pub mod Valued
 pub mod Work
 pub mod OnPage

@@ -5,15 +5,15 @@ use mathlib.Core.Bool.{Bool, true, false}
 use mathlib.Core.List.{List, [], _∷_}
 use lib.ListN.{length}
 use Rattle.nibl.specs.Bytes.{bytes, byteCR, byteLF}
-use Rattle.nibl.specs.Tree.{Expr, Item, Stmt, letByte, letCopy, letText, goto, gosub, until, return, doLoop, print, for, next, input, inputText}
+use Rattle.nibl.specs.Tree.{Expr, Item, Stmt, goto, gosub, until, return, doLoop, print, for, next, input}
 use Rattle.nibl.specs.Values.{is}
 use Rattle.nibl.specs.Typing.{Gathered}
 use Rattle.nibl.specs.Page.{recordsOf}
 use Rattle.nibl.specs.Meaning.{World, Env}
 use Rattle.nibl.specs.declared.ForEntry.{ForEntry}
 use Rattle.demands.specs.Items.{wroteItem, HasRoom, NoRoom}
-use Rattle.demands.specs.Valued.{ValueOf, StringAt, NoCR, ItemBytes}
-use Rattle.demands.specs.Work.{LineAt, NoLine, Bare, TopEntry, withCR, LacksBytes, UpTo, AllOut, Replied, afterReply, Asking, Unread, RefusesValue, RefusedWith, Reaches}
+use Rattle.demands.specs.Valued.{ValueOf, NoCR, ItemBytes}
+use Rattle.demands.specs.Work.{LineAt, NoLine, Bare, TopEntry, UpTo, AllOut, Replied, afterReply, Asking, Unread, RefusesValue, RefusesMemory, RefusedWith, Reaches}
 
 -- the statement comes, through its true IFs, to one of which P holds
 pub record ComesTo (e : Env) (s : Stmt) (w : World) (P : Stmt → Type 0) : Type 0 where
@@ -60,16 +60,17 @@ pub data NextOfNothing (w : World) : Stmt → Type 0 where
 pub data NextOfAnother (w : World) : Stmt → Type 0 where
   anotherCounts : {v : ℕ} {f : ForEntry} → TopEntry (w .session .fors) f → (f .var ≡ v → ⊥) → NextOfAnother w (next v)
 
--- 16: "a memory byte needed is not there, or no CR found": of "@" and "$" in a value or an item, of the store of a byte, of a string, of a copy and of a reply
-pub data LacksMemory (e : Env) (w u : World) : Stmt → Type 0 where
-  inValue : {q : Stmt} → RefusesValue e w 16 u q → LacksMemory e w u q
-  atByte : {a b : Expr} {p x : ℕ} → ValueOf e w a (is p) → ValueOf e w b (is x) → length (w .memory) ≤ p → u ≡ w → LacksMemory e w u (letByte a b)
-  atText : {a : Expr} {p : ℕ} {bs : List ℕ} → ValueOf e w a (is p) → LacksBytes w p (withCR bs) → u ≡ w → LacksMemory e w u (letText a bs)
-  atSource : {a b : Expr} {p q : ℕ} → ValueOf e w a (is p) → ValueOf e w b (is q) → NoCR (w .memory) q → u ≡ w → LacksMemory e w u (letCopy a b)
-  atCopy : {a b : Expr} {p q : ℕ} {bs : List ℕ} → ValueOf e w a (is p) → ValueOf e w b (is q) → StringAt (w .memory) q bs
-      → LacksBytes w p (withCR bs) → u ≡ w → LacksMemory e w u (letCopy a b)
-  atReply : {a : Expr} {p : ℕ} {g : Gathered} → ValueOf e w a (is p) → Replied e w g → g .line .long ≡ false
-      → LacksBytes w p (withCR (g .line .bytes)) → u ≡ afterReply w g → LacksMemory e w u (inputText a)
+-- 16 and 21, by the byte that is refused: of "@" and "$" in a value or an item; of a store, or of a copy's source
+pub data MemoryRefused (n : ℕ) (e : Env) (w u : World) (q : Stmt) : Type 0 where
+  inValue : RefusesValue e w n u q → MemoryRefused n e w u q
+  inMemory : RefusesMemory e w n u q → MemoryRefused n e w u q
+
+-- 16: "a memory byte needed is not there, or no CR found"; 21: "a byte not this box's to read or write"
+abbrev pub LacksMemory : Env → World → World → Stmt → Type 0
+LacksMemory = MemoryRefused 16
+
+abbrev pub NotItsOwn : Env → World → World → Stmt → Type 0
+NotItsOwn = MemoryRefused 21
 
 -- 17: "an output item does not fit whole; PRINT's CR LF, the '?' .. are each one item"
 pub data LacksOutput (e : Env) (w u : World) : Stmt → Type 0 where

@@ -47,10 +47,10 @@ pub record DoesNotFit (x : Lent) : Type 0 where
 
 -- the numbers that a statement is refused with, and END's; and those of them that a typed line gives for nothing else, which is all but 7
 abbrev pub statementNumbers : List ℕ
-statementNumbers = 6 ∷ 7 ∷ 8 ∷ 9 ∷ 10 ∷ 11 ∷ 12 ∷ 13 ∷ 15 ∷ 16 ∷ 17 ∷ 20 ∷ []
+statementNumbers = 6 ∷ 7 ∷ 8 ∷ 9 ∷ 10 ∷ 11 ∷ 12 ∷ 13 ∷ 15 ∷ 16 ∷ 17 ∷ 20 ∷ 21 ∷ []
 
 abbrev pub ownNumbers : List ℕ
-ownNumbers = 6 ∷ 8 ∷ 9 ∷ 10 ∷ 11 ∷ 12 ∷ 13 ∷ 15 ∷ 16 ∷ 17 ∷ 20 ∷ []
+ownNumbers = 6 ∷ 8 ∷ 9 ∷ 10 ∷ 11 ∷ 12 ∷ 13 ∷ 15 ∷ 16 ∷ 17 ∷ 20 ∷ 21 ∷ []
 
 -- A typed line's own refusal past its reading: an immediate statement is refused, or a line of LIST does not fit
 pub data LineRefused (x : Lent) (n : ℕ) : Type 0 where

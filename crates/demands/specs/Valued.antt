@@ -13,6 +13,8 @@ use Rattle.nibl.specs.Tree.{Item, text, stored, value}
 use Rattle.nibl.specs.Values.{Result, is, no}
 use Rattle.nibl.specs.Page.{recordsOf, programBytes}
 use Rattle.nibl.specs.Meaning.{World, Env}
+use Rattle.nibl.specs.declared.access.Access.{Access}
+use Rattle.demands.specs.Whose.{MayRead, ByteRefused}
 
 -- "Values are 16-bit signed": whether a value is below 0, and its size
 pub data SignAndSize : ℕ → Bool → ℕ → Type 0 where
@@ -68,12 +70,12 @@ pub data ValueOf (e : Env) (w : World) : Expr → Result ℕ → Type 0 where
   ofVariable : {v : ℕ} → ValueOf e w (var v) (is (getD (w .session .vars) v 0))
   ofConstant : {n : ℕ} → ValueOf e w (const n) (is n)
   -- "STAT reads bits 4 and 5 of the sense byte plus the flags"
-  ofStat : ValueOf e w stat (is (e .sense / 16 % 4 * 16 + w .session .flags))
+  ofStat : ValueOf e w stat (is (e .sight .sense / 16 % 4 * 16 + w .session .flags))
   -- "TOP is the page's used bytes with the end mark"
   ofTop : ValueOf e w top (is (length (programBytes (recordsOf (e .page)))))
-  -- "'@' reads one byte, 0 to 255, at the value read as 0 to 65,535"; "a memory byte needed is not there" is 16
-  ofByte : {a : Expr} {p : ℕ} → ValueOf e w a (is p) → p < length (w .memory) → ValueOf e w (byteAt a) (is (getD (w .memory) p 0))
-  noByte : {a : Expr} {p : ℕ} → ValueOf e w a (is p) → length (w .memory) ≤ p → ValueOf e w (byteAt a) (no 16)
+  -- "'@' reads one byte, 0 to 255, at the value read as 0 to 65,535"
+  ofByte : {a : Expr} {p : ℕ} → ValueOf e w a (is p) → p < length (w .memory) → MayRead (e .sight .access) p → ValueOf e w (byteAt a) (is (getD (w .memory) p 0))
+  noByte : {a : Expr} {p n : ℕ} → ValueOf e w a (is p) → ByteRefused (e .sight .access) (length (w .memory)) p n → ValueOf e w (byteAt a) (no n)
   -- "NOT works on all 16 bits"; a leading minus is a difference from 0
   ofNot : {a : Expr} {x : ℕ} → ValueOf e w a (is x) → ValueOf e w (invert a) (is (65535 - x))
   ofMinus : {a : Expr} {x : ℕ} → ValueOf e w a (is x) → ValueOf e w (negate a) (is ((65536 - x) % 65536))
@@ -93,13 +95,23 @@ pub data FirstRefused (e : Env) (w : World) : List Expr → ℕ → Type 0 where
   atFirst : {a : Expr} {as′ : List Expr} {n : ℕ} → ValueOf e w a (no n) → FirstRefused e w (a ∷ as′) n
   atLater : {a : Expr} {as′ : List Expr} {x n : ℕ} → ValueOf e w a (is x) → FirstRefused e w as′ n → FirstRefused e w (a ∷ as′) n
 
--- "A string in memory runs to its first CR"
-pub record StringAt (memory : List ℕ) (p : ℕ) (bs : List ℕ) : Type 0 where
+-- "A string in memory runs to its first CR", and all of it may be read, the CR too
+pub record StringAt (x : Access) (memory : List ℕ) (p : ℕ) (bs : List ℕ) : Type 0 where
   pub rest : List ℕ
   pub stands : drop p memory ≡ bs ++ (byteCR ∷ rest)
   pub first : All notCR bs
+  pub readable : (i : ℕ) → p ≤ i → i ≤ p + length bs → MayRead x i
 
--- "no CR found", in memory or input, from a position on
+-- "A string read stops at the first byte it may not read, and that byte decides the refusal": those before it are no CR
+pub record StopsShort (x : Access) (memory : List ℕ) (p n : ℕ) : Type 0 where
+  pub before : List ℕ
+  pub rest : List ℕ
+  pub stands : drop p memory ≡ before ++ rest
+  pub noCR : All notCR before
+  pub readable : (i : ℕ) → p ≤ i → i < p + length before → MayRead x i
+  pub refused : ByteRefused x (length memory) (p + length before) n
+
+-- "no CR left in the input", from a position on
 abbrev pub NoCR : List ℕ → ℕ → Type 0
 NoCR l p = All notCR (drop p l)
 
@@ -116,8 +128,8 @@ pub data PrintedAs : ℕ → List ℕ → Type 0 where
 -- the bytes of one of PRINT's items, or its refusal
 pub data ItemBytes (e : Env) (w : World) : Item → Result (List ℕ) → Type 0 where
   ofText : {bs : List ℕ} → ItemBytes e w (text bs) (is bs)
-  ofString : {a : Expr} {p : ℕ} {bs : List ℕ} → ValueOf e w a (is p) → StringAt (w .memory) p bs → ItemBytes e w (stored a) (is bs)
+  ofString : {a : Expr} {p : ℕ} {bs : List ℕ} → ValueOf e w a (is p) → StringAt (e .sight .access) (w .memory) p bs → ItemBytes e w (stored a) (is bs)
   ofNumber : {a : Expr} {x : ℕ} {bs : List ℕ} → ValueOf e w a (is x) → PrintedAs x bs → ItemBytes e w (value a) (is bs)
-  noString : {a : Expr} {p : ℕ} → ValueOf e w a (is p) → NoCR (w .memory) p → ItemBytes e w (stored a) (no 16)
+  noString : {a : Expr} {p n : ℕ} → ValueOf e w a (is p) → StopsShort (e .sight .access) (w .memory) p n → ItemBytes e w (stored a) (no n)
   noAddress : {a : Expr} {n : ℕ} → ValueOf e w a (no n) → ItemBytes e w (stored a) (no n)
   noNumber : {a : Expr} {n : ℕ} → ValueOf e w a (no n) → ItemBytes e w (value a) (no n)

@@ -21,7 +21,8 @@ use Rattle.nibl.specs.declared.PlaceStack.{PlaceStack}
 use Rattle.nibl.specs.declared.ForEntry.{ForEntry}
 use Rattle.nibl.specs.declared.ForStack.{ForStack}
 use Rattle.demands.specs.Items.{In, wroteItem, HasRoom, NoRoom}
-use Rattle.demands.specs.Valued.{order, ValueOf, FirstRefused, StringAt, NoCR, ItemBytes}
+use Rattle.demands.specs.Whose.{AllOwn, StoreRefused}
+use Rattle.demands.specs.Valued.{order, ValueOf, FirstRefused, StringAt, StopsShort, NoCR, ItemBytes}
 
 -- "values first": what a statement asks for before it does anything. PRINT and a reply go value by value
 abbrev pub valuesOf : Stmt → List Expr
@@ -96,11 +97,13 @@ pub data Past (f : ForEntry) (x : ℕ) : Type 0 where
 abbrev pub withCR : List ℕ → List ℕ
 withCR bs = bs ++ (byteCR ∷ [])
 
-abbrev pub HasBytes : World → ℕ → List ℕ → Type 0
-HasBytes w p bs = p + length bs ≤ length (w .memory)
+-- bytes that may be stored from p on; and those that may not, with what they are refused
+pub record MayStore (e : Env) (w : World) (p : ℕ) (bs : List ℕ) : Type 0 where
+  pub there : p + length bs ≤ length (w .memory)
+  pub own : AllOwn (e .sight .access) p (length bs)
 
-abbrev pub LacksBytes : World → ℕ → List ℕ → Type 0
-LacksBytes w p bs = length (w .memory) < p + length bs
+abbrev pub NotStored : Env → World → ℕ → List ℕ → ℕ → Type 0
+NotStored e w p bs n = StoreRefused (e .sight .access) (length (w .memory)) p (length bs) n
 
 -- PRINT: the items before one, or all of them, are written whole, each by what the ones before it left
 pub data UpTo (e : Env) : List Item → World → Item → World → Type 0 where
@@ -151,6 +154,16 @@ pub data RefusesValue (e : Env) (w : World) (n : ℕ) : World → Stmt → Type 
   ofReply : {vs : List ℕ} {g : Gathered} {es : List Expr} {a : Expr} {u : World} → Replied e w g → g .line .long ≡ false
       → ReplyReading (length vs) (g .line .bytes) es → GivenUpTo e vs es (afterReply w g) a u → ValueOf e u a (no n) → RefusesValue e w n u (input vs)
 
+-- its values are there, and memory is refused with n: a source that is no string, or a store. "'@' and string stores check addresses last"
+pub data RefusesMemory (e : Env) (w : World) (n : ℕ) : World → Stmt → Type 0 where
+  byteNotStored : {a b : Expr} {p x : ℕ} → ValueOf e w a (is p) → ValueOf e w b (is x) → NotStored e w p (x % 256 ∷ []) n → RefusesMemory e w n w (letByte a b)
+  textNotStored : {a : Expr} {p : ℕ} {bs : List ℕ} → ValueOf e w a (is p) → NotStored e w p (withCR bs) n → RefusesMemory e w n w (letText a bs)
+  noSource : {a b : Expr} {p q : ℕ} → ValueOf e w a (is p) → ValueOf e w b (is q) → StopsShort (e .sight .access) (w .memory) q n → RefusesMemory e w n w (letCopy a b)
+  copyNotStored : {a b : Expr} {p q : ℕ} {bs : List ℕ} → ValueOf e w a (is p) → ValueOf e w b (is q) → StringAt (e .sight .access) (w .memory) q bs
+      → NotStored e w p (withCR bs) n → RefusesMemory e w n w (letCopy a b)
+  replyNotStored : {a : Expr} {p : ℕ} {g : Gathered} → ValueOf e w a (is p) → Replied e w g → g .line .long ≡ false
+      → NotStored e w p (withCR (g .line .bytes)) n → RefusesMemory e w n (afterReply w g) (inputText a)
+
 -- Refusals: the statement, the number, and the world that is left
 pub data RefusedWith (e : Env) (w : World) : Stmt → ℕ → World → Type 0 where
   -- "values first"; "16 before 17"
@@ -170,12 +183,8 @@ pub data RefusedWith (e : Env) (w : World) : Stmt → ℕ → World → Type 0 w
   -- "NEXT with no FOR; with another variable"
   noFor : {v : ℕ} → Bare 4 (w .session .fors .depth) → RefusedWith e w (next v) 11 w
   otherFor : {v : ℕ} {f : ForEntry} → TopEntry (w .session .fors) f → (f .var ≡ v → ⊥) → RefusedWith e w (next v) 12 w
-  -- "a memory byte needed is not there, or no CR found"; "'@' and string stores check addresses last"
-  noByteThere : {a b : Expr} {p x : ℕ} → ValueOf e w a (is p) → ValueOf e w b (is x) → length (w .memory) ≤ p → RefusedWith e w (letByte a b) 16 w
-  noRoomForText : {a : Expr} {p : ℕ} {bs : List ℕ} → ValueOf e w a (is p) → LacksBytes w p (withCR bs) → RefusedWith e w (letText a bs) 16 w
-  noSource : {a b : Expr} {p q : ℕ} → ValueOf e w a (is p) → ValueOf e w b (is q) → NoCR (w .memory) q → RefusedWith e w (letCopy a b) 16 w
-  noRoomForCopy : {a b : Expr} {p q : ℕ} {bs : List ℕ} → ValueOf e w a (is p) → ValueOf e w b (is q) → StringAt (w .memory) q bs
-      → LacksBytes w p (withCR bs) → RefusedWith e w (letCopy a b) 16 w
+  -- "a memory byte needed is not there, or no CR found" is 16, and 21 stands "beside 16"
+  byMemory : {q : Stmt} {n : ℕ} {u : World} → RefusesMemory e w n u q → RefusedWith e w q n u
   -- "PRINT works item by item, 16 before 17"; "PRINT items already out stay"
   noRoomForItem : {items : List Item} {i : Item} {bs : List ℕ} {u : World} (b : Bool) → UpTo e items w i u → ItemBytes e u i (is bs) → NoRoom u bs
       → RefusedWith e w (print items b) 17 u
@@ -186,8 +195,6 @@ pub data RefusedWith (e : Env) (w : World) : Stmt → ℕ → World → Type 0 w
   replyTooLong : {q : Stmt} {g : Gathered} → Asking e w q → Replied e w g → g .line .long ≡ true → RefusedWith e w q 6 (afterReply w g)
   replyUnread : {vs : List ℕ} {g : Gathered} → Replied e w g → g .line .long ≡ false → Unread (length vs) (g .line .bytes)
       → RefusedWith e w (input vs) 6 (afterReply w g)
-  noRoomForReply : {a : Expr} {p : ℕ} {g : Gathered} → ValueOf e w a (is p) → Replied e w g → g .line .long ≡ false
-      → LacksBytes w p (withCR (g .line .bytes)) → RefusedWith e w (inputText a) 16 (afterReply w g)
   -- END
   atEnd : RefusedWith e w end 20 w
 
@@ -201,11 +208,11 @@ pub data Performs (e : Env) (w : World) : Stmt → Done → Type 0 where
   -- STAT: "assigning keeps bits 0 to 2"
   assignsFlags : {x : ℕ} {a : Expr} → ValueOf e w a (is x) → Performs e w (letStat a) (done on (withSession w (withFlags (w .session) (x % 8))))
   -- "A store writes the low byte only"; "copies behave as if the source were taken whole first"
-  storesByte : {a b : Expr} {p x : ℕ} → ValueOf e w a (is p) → ValueOf e w b (is x) → p < length (w .memory)
+  storesByte : {a b : Expr} {p x : ℕ} → ValueOf e w a (is p) → ValueOf e w b (is x) → MayStore e w p (x % 256 ∷ [])
       → Performs e w (letByte a b) (done on (withMemory w (set (w .memory) p (x % 256))))
-  storesText : {a : Expr} {p : ℕ} {bs : List ℕ} → ValueOf e w a (is p) → HasBytes w p (withCR bs)
+  storesText : {a : Expr} {p : ℕ} {bs : List ℕ} → ValueOf e w a (is p) → MayStore e w p (withCR bs)
       → Performs e w (letText a bs) (done on (withMemory w (sets (w .memory) p (withCR bs))))
-  copies : {a b : Expr} {p q : ℕ} {bs : List ℕ} → ValueOf e w a (is p) → ValueOf e w b (is q) → StringAt (w .memory) q bs → HasBytes w p (withCR bs)
+  copies : {a b : Expr} {p q : ℕ} {bs : List ℕ} → ValueOf e w a (is p) → ValueOf e w b (is q) → StringAt (e .sight .access) (w .memory) q bs → MayStore e w p (withCR bs)
       → Performs e w (letCopy a b) (done on (withMemory w (sets (w .memory) p (withCR bs))))
   goesToLine : {a : Expr} {n q : ℕ} → ValueOf e w a (is n) → LineAt n 0 (recordsOf (e .page)) q → Performs e w (goto a) (done (go q) w)
   -- "DO, FOR and GOSUB save the place that ends them"
@@ -237,7 +244,7 @@ pub data Performs (e : Env) (w : World) : Stmt → Done → Type 0 where
   inputs : {vs : List ℕ} {g : Gathered} {es : List Expr} {u : World} → Replied e w g → g .line .long ≡ false → ReplyReading (length vs) (g .line .bytes) es
       → AllGiven e vs es (afterReply w g) u → Performs e w (input vs) (done on u)
   -- "INPUT '$' stores the gathered line, any kept bytes, and CR"
-  inputsString : {a : Expr} {p : ℕ} {g : Gathered} → ValueOf e w a (is p) → Replied e w g → g .line .long ≡ false → HasBytes w p (withCR (g .line .bytes))
+  inputsString : {a : Expr} {p : ℕ} {g : Gathered} → ValueOf e w a (is p) → Replied e w g → g .line .long ≡ false → MayStore e w p (withCR (g .line .bytes))
       → Performs e w (inputText a) (done on (withMemory (afterReply w g) (sets (w .memory) p (withCR (g .line .bytes)))))
 
 -- the statement that one comes to through its true IFs

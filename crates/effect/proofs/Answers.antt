@@ -7,6 +7,7 @@ use lib.ListN.{take, drop}
 use Rattle.nibl.specs.Bytes.{if_then_else_}
 use Rattle.nibl.specs.Values.{Result, is, no}
 use Rattle.nibl.specs.Meaning.{World, Next, done, put, keepIn, stringAt, storeAt}
+use Rattle.nibl.specs.declared.access.Access.{Access}
 use Rattle.value.specs.Writes.{Writes}
 use Rattle.value.specs.declared.Wrote.{Wrote}
 use Rattle.value.specs.declared.Wrote.the-variants as wrote
@@ -45,27 +46,27 @@ module _ (p : Parts) (vars memory output : List ℕ) where
   pub store-in : (k : StoreEnd) {m : List ℕ} (r : Result (List ℕ)) → storeGave k m ≡ storeLeaves memory r → didIn (did (storedWay k) p) vars m output ≡ keepIn world r
   store-in k {m} r h = stored-in k m ∙ ap (afterStoreIn world) h ∙ left-in world r
 
-module _ (p : Parts) (memory output : List ℕ) where
+module _ (x : Access) (p : Parts) (memory output : List ℕ) where
   -- PRINT of a string that is not there, and of one that is
-  pub no-string : (a n : ℕ) → stringAt memory a ≡ no n → KeepsVars p memory output (putStored a) (did (way.Stop n) p) memory output
+  pub no-string : (a n : ℕ) → stringAt x memory a ≡ no n → KeepsVars p memory output (putStored x a) (did (way.Stop n) p) memory output
   no-string a n e = record { done-in = λ vars. rw e }
 
-  pub string-put : {a e : ℕ} {r : Wrote} {after : List ℕ} → StringRuns memory a e → Writes output (p .outpos) (take (e - a) (drop a memory)) r after
-      → KeepsVars p memory output (putStored a) (wroteIn p r) memory after
+  pub string-put : {a e : ℕ} {r : Wrote} {after : List ℕ} → StringRuns x memory a e → Writes output (p .outpos) (take (e - a) (drop a memory)) r after
+      → KeepsVars p memory output (putStored x a) (wroteIn p r) memory after
   string-put {r = r} s h = record { done-in = λ vars. rw (s .string) (put-in p vars memory output r h) }
 
   -- INPUT of a string: without a reply, and with one that is stored or not
-  module _ (lim : ℕ) (input : List ℕ) (x : ℕ) {after : List ℕ} {i o : ℕ} where
+  module _ (lim : ℕ) (input : List ℕ) (a : ℕ) {after : List ℕ} {i o : ℕ} where
     pub no-reply : {n : ℕ} → hears (no n) i after o ≡ hearing lim input (p .inpos) output (p .outpos)
-        → KeepsVars p memory output (keepReply lim input x) (did (way.Stop n) (partsAt p i o)) memory after
-    no-reply h = record { done-in = λ vars. ap (λ r. heardIn (worldWith vars p memory output) r (keepText x)) h }
+        → KeepsVars p memory output (keepReply x lim input a) (did (way.Stop n) (partsAt p i o)) memory after
+    no-reply h = record { done-in = λ vars. ap (λ r. heardIn (worldWith vars p memory output) r (keepText x a)) h }
 
     pub reply-stored : {bs : List ℕ} (k : StoreEnd) {m : List ℕ} → hears (is bs) i after o ≡ hearing lim input (p .inpos) output (p .outpos)
-        → storeGave k m ≡ storeLeaves memory (storeAt memory x (bs ++ (13 ∷ [])))
-        → KeepsVars p memory output (keepReply lim input x) (did (storedWay k) (partsAt p i o)) m after
+        → storeGave k m ≡ storeLeaves memory (storeAt x memory a (bs ++ (13 ∷ [])))
+        → KeepsVars p memory output (keepReply x lim input a) (did (storedWay k) (partsAt p i o)) m after
     reply-stored {bs} k h l =
         record {
           done-in = λ vars.
-              store-in (partsAt p i o) vars memory after k (storeAt memory x (bs ++ (13 ∷ []))) l
-              ∙ ap (λ r. heardIn (worldWith vars p memory output) r (keepText x)) h;
+              store-in (partsAt p i o) vars memory after k (storeAt x memory a (bs ++ (13 ∷ []))) l
+              ∙ ap (λ r. heardIn (worldWith vars p memory output) r (keepText x a)) h;
         }

@@ -10,6 +10,7 @@ use Rattle.nibl.specs.Values.{printed}
 use Rattle.nibl.specs.Page.{find}
 use Rattle.nibl.specs.Meaning.{World, Env, on, skip, stop, Done, done, bind, stringAt, storeAt, asked, gosubTo, doHere, forHere}
 use Rattle.nibl.specs.declared.Place.{Place}
+use Rattle.nibl.specs.declared.access.Sight.{Sight}
 use Rattle.page.specs.Walk.{reached}
 use Rattle.value.specs.Writes.{Writes}
 use Rattle.value.specs.declared.Wrote.{Wrote}
@@ -26,15 +27,15 @@ use Rattle.codes.specs.Codes.{codeSetVariable, codeSetStat, codeSetByte, codeCo
 use Rattle.operation.specs.Operations.{effectBy}
 use Rattle.nibl.specs.declared.Parts.{Parts}
 use Rattle.effect.specs.declared.Did.{Did}
-use Rattle.effect.specs.Worlds.{envWith, worldWith, did, didIn, storedWay, wroteIn, KeepsVars, putStored, keepText, keepReply}
+use Rattle.effect.specs.Worlds.{unsensing, envWith, worldWith, did, didIn, storedWay, wroteIn, KeepsVars, putStored, keepText, keepReply}
 use Rattle.nibl.specs.Record.{place, withFlagsIn, withGosubsIn, withDosIn, withForsIn}
 use Rattle.effect.proofs.Answers.{done-if, put-in, store-in}
 
 -- an operation that changes the world does not see the sense byte
-pub effect-any-sense : (lim : ℕ) (page input : List ℕ) (sense : ℕ) (here : Place) (code arg x y z : ℕ) (w : World)
-    → effectBy (envWith lim page input sense here) code arg x y z w ≡ effectBy (envWith lim page input 0 here) code arg x y z w
+pub effect-any-sense : (lim : ℕ) (page input : List ℕ) (sight : Sight) (here : Place) (code arg x y z : ℕ) (w : World)
+    → effectBy (envWith lim page input sight here) code arg x y z w ≡ effectBy (envWith lim page input (unsensing (sight .access)) here) code arg x y z w
 unfolding effectBy gosubTo doHere forHere asked
-effect-any-sense lim page input sense here code arg x y z w = refl
+effect-any-sense lim page input sight here code arg x y z w = refl
 
 -- a number that is none of a list's, as the last arm of a match has it
 abbrev pub Unlike : ℕ → List ℕ → Type 0
@@ -73,16 +74,16 @@ module _ (g : Given) where
   unfolding effectBy
   let-stat = refl
 
-  pub let-byte : (k : StoreEnd) {m : List ℕ} → storeGave k m ≡ storeLeaves (g .memory) (storeAt (g .memory) (g .y) (g .x % 256 ∷ []))
+  pub let-byte : (k : StoreEnd) {m : List ℕ} → storeGave k m ≡ storeLeaves (g .memory) (storeAt (g .env .sight .access) (g .memory) (g .y) (g .x % 256 ∷ []))
       → didIn (did (storedWay k) (g .parts)) (g .vars) m (g .output) ≡ code codeSetByte
   unfolding effectBy
-  let-byte k h = store-in (g .parts) (g .vars) (g .memory) (g .output) k (storeAt (g .memory) (g .y) (g .x % 256 ∷ [])) h
+  let-byte k h = store-in (g .parts) (g .vars) (g .memory) (g .output) k (storeAt (g .env .sight .access) (g .memory) (g .y) (g .x % 256 ∷ [])) h
 
   pub let-copy : (k : StoreEnd) {m : List ℕ}
-      → storeGave k m ≡ storeLeaves (g .memory) (bind (stringAt (g .memory) (g .x)) (λ bs. storeAt (g .memory) (g .y) (bs ++ (13 ∷ []))))
+      → storeGave k m ≡ storeLeaves (g .memory) (bind (stringAt (g .env .sight .access) (g .memory) (g .x)) (λ bs. storeAt (g .env .sight .access) (g .memory) (g .y) (bs ++ (13 ∷ []))))
       → didIn (did (storedWay k) (g .parts)) (g .vars) m (g .output) ≡ code codeCopyString
   unfolding effectBy
-  let-copy k h = store-in (g .parts) (g .vars) (g .memory) (g .output) k (bind (stringAt (g .memory) (g .x)) (λ bs. storeAt (g .memory) (g .y) (bs ++ (13 ∷ [])))) h
+  let-copy k h = store-in (g .parts) (g .vars) (g .memory) (g .output) k (bind (stringAt (g .env .sight .access) (g .memory) (g .x)) (λ bs. storeAt (g .env .sight .access) (g .memory) (g .y) (bs ++ (13 ∷ [])))) h
 
   pub goto : (r : Way) → wayOf r ≡ wayTo (reached (find (g .env .page) (g .x))) → alone (did r (g .parts)) ≡ code codeGoto
   unfolding effectBy
@@ -105,7 +106,7 @@ module _ (g : Given) where
   unfolding effectBy
   put-byte {r} h = put-in (g .parts) (g .vars) (g .memory) (g .output) r h
 
-  pub put-stored : {d : Did} {o : List ℕ} → KeepsVars (g .parts) (g .memory) (g .output) (putStored (g .x)) d (g .memory) o → didIn d (g .vars) (g .memory) o ≡ code codePrintString
+  pub put-stored : {d : Did} {o : List ℕ} → KeepsVars (g .parts) (g .memory) (g .output) (putStored (g .env .sight .access) (g .x)) d (g .memory) o → didIn d (g .vars) (g .memory) o ≡ code codePrintString
   unfolding effectBy
   put-stored h = h .done-in (g .vars)
 
@@ -140,10 +141,10 @@ module _ (g : Given) where
   unfolding effectBy
   next t h = ap (forsIn world) h ∙ sym (next-in world (g .arg % 256))
 
-  pub input-text : {d : Did} {m o : List ℕ} → KeepsVars (g .parts) (g .memory) (g .output) (keepReply (g .env .lim) (g .env .input) (g .x)) d m o
+  pub input-text : {d : Did} {m o : List ℕ} → KeepsVars (g .parts) (g .memory) (g .output) (keepReply (g .env .sight .access) (g .env .lim) (g .env .input) (g .x)) d m o
       → didIn d (g .vars) m o ≡ code codeInputString
   unfolding effectBy
-  input-text h = h .done-in (g .vars) ∙ sym (heard-in (g .env) world (keepText (g .x)))
+  input-text h = h .done-in (g .vars) ∙ sym (heard-in (g .env) world (keepText (g .env .sight .access) (g .x)))
 
   -- any other code
   pub end : (n : ℕ) → Unlike n (codeInputString ∷ codeNext ∷ codeFor ∷ codeUntil ∷ codeDo ∷ codeIf ∷ codePrintEnd ∷ codePrintNumber ∷ codePrintString ∷ codePrintByte ∷ codePrintRoom ∷ codeReturn ∷ codeGosub ∷ codeGoto ∷ codeCopyString ∷ codeSetByte ∷ codeSetStat ∷ codeSetVariable ∷ []) → alone (did (way.Stop 20) (g .parts)) ≡ code n

@@ -6,6 +6,8 @@ use Rattle.nibl.specs.Bytes.{byteCR}
 use Rattle.nibl.specs.Meaning.{World, Env, Done, done, given, put, stringAt, storeAt, keepIn}
 use Rattle.nibl.specs.Record.{position, nowhere, sessionOf, partsAt}
 use Rattle.nibl.specs.declared.Place.{Place}
+use Rattle.nibl.specs.declared.access.Access.{Access}
+use Rattle.nibl.specs.declared.access.Sight.{Sight}
 use Rattle.nibl.specs.declared.Parts.{Parts}
 use Rattle.world.specs.Turns.{wayOf}
 use Rattle.world.specs.declared.jump.Way.{Way}
@@ -22,8 +24,12 @@ abbrev pub worldWith : List ℕ → Parts → List ℕ → List ℕ → World
 worldWith vars p memory output =
     record { session = sessionOf p vars nowhere; memory = memory; output = output; outpos = p .outpos; inpos = p .inpos }
 
-abbrev pub envWith : ℕ → List ℕ → List ℕ → ℕ → Place → Env
-envWith lim page input sense here = record { lim = lim; page = page; input = input; sense = sense; here = position here }
+abbrev pub envWith : ℕ → List ℕ → List ℕ → Sight → Place → Env
+envWith lim page input sight here = record { lim = lim; page = page; input = input; sight = sight; here = position here }
+
+-- what is seen by one that does not ask for the sense byte
+abbrev pub unsensing : Access → Sight
+unsensing x = record { sense = 0; access = x }
 
 abbrev pub did : Way → Parts → Did
 did w p = record { way = w; parts = p }
@@ -45,12 +51,12 @@ pub record KeepsVars (p : Parts) (memory output : List ℕ) (f : World → Done)
   pub done-in : (vars : List ℕ) → didIn r vars memory′ output′ ≡ f (worldWith vars p memory output)
 
 -- PRINT of a stored string
-abbrev pub putStored : ℕ → World → Done
-putStored a w = given (stringAt (w .memory) a) w (λ bs. put bs w)
+abbrev pub putStored : Access → ℕ → World → Done
+putStored x a w = given (stringAt x (w .memory) a) w (λ bs. put bs w)
 
 -- INPUT of a string: the reply and its CR go into memory
-abbrev pub keepText : ℕ → World → List ℕ → Done
-keepText x w bs = keepIn w (storeAt (w .memory) x (bs ++ (byteCR ∷ [])))
+abbrev pub keepText : Access → ℕ → World → List ℕ → Done
+keepText x a w bs = keepIn w (storeAt x (w .memory) a (bs ++ (byteCR ∷ [])))
 
-abbrev pub keepReply : ℕ → List ℕ → ℕ → World → Done
-keepReply lim input x w = heardIn w (hearing lim input (w .inpos) (w .output) (w .outpos)) (keepText x)
+abbrev pub keepReply : Access → ℕ → List ℕ → ℕ → World → Done
+keepReply x lim input a w = heardIn w (hearing lim input (w .inpos) (w .output) (w .outpos)) (keepText x a)

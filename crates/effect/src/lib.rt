@@ -11,9 +11,10 @@ ghost use Rattle.world.specs.Turns.{wayOf, turned, turnedFor};
 ghost use Rattle.value.specs.Writes.{Writes};
 ghost use Rattle.table.specs.Index.{Indexed};
 ghost use Rattle.operation.specs.Operations.{effectBy};
-ghost use Rattle.effect.specs.Worlds.{envWith, worldWith, did, didIn, storedWay, wroteIn, KeepsVars, putStored, keepReply};
+ghost use Rattle.effect.specs.Worlds.{unsensing, envWith, worldWith, did, didIn, storedWay, wroteIn, KeepsVars, putStored, keepReply};
 ghost use Rattle.nibl.specs.Record.{withFlagsIn, withGosubsIn, withDosIn, withForsIn, partsAt};
 ghost use Rattle.effect.specs.Acts.{acted, actBy, goesBack, wayAtOnce, callTurn, loopTurn, countTurn};
+use nibl::access::Access;
 use nibl::ForStack;
 use nibl::Onward;
 use nibl::Parts;
@@ -165,10 +166,16 @@ fn print_end(output: &mut [u8], at: usize) -> Wrote
 }
 
 // PRINT of a stored string: 16 comes before 17.
-fn print_string(memory: &[u8], a: u16, output: &mut [u8], parts: Parts) -> Did
-    ensures { λ r. ⌜ KeepsVars parts (now (memory .entry)) (now (output .entry)) (putStored a) r (now (memory .entry)) (now (output .exit)) ⌝ }
+fn print_string(
+    access: Access,
+    memory: &[u8],
+    a: u16,
+    output: &mut [u8],
+    parts: Parts,
+) -> Did
+    ensures { λ r. ⌜ KeepsVars parts (now (memory .entry)) (now (output .entry)) (putStored access a) r (now (memory .entry)) (now (output .exit)) ⌝ }
 {
-    match memory::string_end(memory, a) {
+    match memory::string_end(access, memory, a) {
         Extent::No(n) => ends(Way::Stop(n), parts),
         Extent::To(end) => item_ends(
             value::write_item(output, parts.outpos, &memory[a as usize..end]),
@@ -284,18 +291,19 @@ pub fn count_turn(
 fn input_string(
     x: u16,
     input: &[u8],
+    access: Access,
     memory: &mut [u8],
     output: &mut [u8],
     reply: &mut [u8],
     parts: Parts,
 ) -> Did
-    ensures { λ r. ⌜ KeepsVars parts (now (memory .entry)) (now (output .entry)) (keepReply (length (now (reply .entry))) (now (input .entry)) x) r (now (memory .exit)) (now (output .exit)) ⌝ }
+    ensures { λ r. ⌜ KeepsVars parts (now (memory .entry)) (now (output .entry)) (keepReply access (length (now (reply .entry))) (now (input .entry)) x) r (now (memory .exit)) (now (output .exit)) ⌝ }
 {
     let r = input::ask(input, parts.inpos, output, parts.outpos, reply);
     match r {
         Reply::No(n, i, o) => ends(Way::Stop(n), at_positions(parts, i, o)),
         Reply::Line(n, i, o) => store_ends(
-            memory::store_text(memory, x, &reply[..n]),
+            memory::store_text(access, memory, x, &reply[..n]),
             at_positions(parts, i, o),
         ),
     }
@@ -312,6 +320,7 @@ pub fn effect(
     here: Place,
     page: &[u8],
     input: &[u8],
+    access: Access,
     vars: &mut [u16],
     memory: &mut [u8],
     output: &mut [u8],
@@ -320,19 +329,19 @@ pub fn effect(
     table: &[u16],
 ) -> Did
     requires { ⌜ (length (now page) ≤ 65535) × Indexed (now page) (now table) ⌝ }
-    ensures { λ r. ⌜ didIn r (now (vars .exit)) (now (memory .exit)) (now (output .exit)) ≡ effectBy (envWith (length (now (reply .entry))) (now (page .entry)) (now (input .entry)) 0 here) code arg x y z (worldWith (now (vars .entry)) parts (now (memory .entry)) (now (output .entry))) ⌝ }
+    ensures { λ r. ⌜ didIn r (now (vars .exit)) (now (memory .exit)) (now (output .exit)) ≡ effectBy (envWith (length (now (reply .entry))) (now (page .entry)) (now (input .entry)) (unsensing access) here) code arg x y z (worldWith (now (vars .entry)) parts (now (memory .entry)) (now (output .entry))) ⌝ }
 {
     match code {
         codes::SET_VARIABLE => set_variable(vars, arg, x, parts),
         codes::SET_STAT => set_stat(x, parts),
-        codes::SET_BYTE => store_ends(memory::store_byte(memory, y, x), parts),
-        codes::COPY_STRING => store_ends(memory::copy_string(memory, y, x), parts),
+        codes::SET_BYTE => store_ends(memory::store_byte(access, memory, y, x), parts),
+        codes::COPY_STRING => store_ends(memory::copy_string(access, memory, y, x), parts),
         codes::GOTO => ends(jump::go_to(page, x, table), parts),
         codes::GOSUB => in_gosubs(jump::go_sub(page, x, here, parts.gosubs, table), parts),
         codes::RETURN => in_gosubs(jump::return_from(parts.gosubs), parts),
         codes::PRINT_ROOM => ends(print_room(output, parts.outpos, arg), parts),
         codes::PRINT_BYTE => item_ends(print_byte(output, parts.outpos, low_byte(arg)), parts),
-        codes::PRINT_STRING => print_string(memory, x, output, parts),
+        codes::PRINT_STRING => print_string(access, memory, x, output, parts),
         codes::PRINT_NUMBER => item_ends(value::write_number(output, parts.outpos, x), parts),
         codes::PRINT_END => item_ends(print_end(output, parts.outpos), parts),
         codes::IF => ends(if_way(x), parts),
@@ -343,7 +352,7 @@ pub fn effect(
             parts,
         ),
         codes::NEXT => in_fors(jump::next_of(parts.fors, vars, low_byte(arg)), parts),
-        codes::INPUT_STRING => input_string(x, input, memory, output, reply, parts),
+        codes::INPUT_STRING => input_string(x, input, access, memory, output, reply, parts),
         _ => ends(Way::Stop(stop::END), parts),
     }
 }

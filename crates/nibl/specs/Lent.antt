@@ -2,8 +2,10 @@
 use Prim.Native.Nat.{ℕ, _+_}
 use mathlib.Core.List.{List}
 use Rattle.nibl.specs.Record.{mark, unpaused}
+use Rattle.nibl.specs.Access.{everyAddress}
 use Rattle.nibl.specs.Meaning.{World, Env, withSession, withInpos}
 use Rattle.nibl.specs.declared.Session.{Session}
+use Rattle.nibl.specs.declared.access.Sight.{Sight}
 use Rattle.nibl.specs.declared.Call.{Call}
 use Rattle.nibl.specs.declared.Answer.{Answer}
 
@@ -57,8 +59,12 @@ lentWorld x = record { session = x .session; memory = x .memory; output = x .out
 abbrev pub begun : Lent → ℕ → World
 begun x taken = withInpos (withSession (lentWorld x) (unpaused (x .session))) (x .call .inpos + taken)
 
+-- what the call's statements see: a call is a single box's
+abbrev pub sightOf : Call → Sight
+sightOf c = record { sense = c .sense; access = everyAddress }
+
 abbrev pub lentEnv : ℕ → Lent → Env
-lentEnv lim x = record { lim = lim; page = x .page; input = x .input; sense = x .call .sense; here = mark }
+lentEnv lim x = record { lim = lim; page = x .page; input = x .input; sight = sightOf (x .call); here = mark }
 
 -- the line of an answer that has none: no line has this number
 abbrev pub noLine : ℕ

@@ -6,7 +6,7 @@ use mathlib.Core.Option.{Option, none, some}
 use lib.ListN.{length, getD, drop}
 use lib.Seq.{sets}
 use lib.Dec.{ltb, leb, eqb}
-use Rattle.nibl.specs.Bytes.{if_then_else_, bytes, notCR, front, all, byteCR, byteLF}
+use Rattle.nibl.specs.Bytes.{if_then_else_, bytes, byteCR, byteLF}
 use Rattle.nibl.specs.Tree.{Expr, var, const, stat, top, byteAt, invert, negate, modulo, two}
 use Rattle.nibl.specs.Tree.{Item, text, stored, value}
 use Rattle.nibl.specs.Tree.{Stmt, letVar, letStat, letByte, letCopy, letText, goto, gosub, until, return, doLoop, remark, end, print, ifThen, for, next, input, inputText}
@@ -16,12 +16,15 @@ use Rattle.nibl.specs.Stack.{pushOf, popOf, pushFor, popFor}
 use Rattle.nibl.specs.Typing.{Gathered, gather}
 use Rattle.nibl.specs.Record.{place, position, mark, withVar, withFlags, withGosubs, withDos, withFors}
 use Rattle.nibl.specs.Page.{find, used}
+use Rattle.nibl.specs.Access.{mayRead, mayWrite}
 use Rattle.nibl.specs.declared.Place.{Place}
 use Rattle.nibl.specs.declared.Top.{Top}
 use Rattle.nibl.specs.declared.Top.the-variants as top
 use Rattle.nibl.specs.declared.TopFor.{TopFor}
 use Rattle.nibl.specs.declared.TopFor.the-variants as topf
 use Rattle.nibl.specs.declared.Session.{Session}
+use Rattle.nibl.specs.declared.access.Access.{Access}
+use Rattle.nibl.specs.declared.access.Sight.{Sight}
 
 -- what a statement can change
 pub record World : Type 0 where
@@ -31,12 +34,13 @@ pub record World : Type 0 where
   pub outpos : ℕ
   pub inpos : ℕ
 
--- what it sees besides: the limit of a line's bytes, the page, the input, the sense byte, and the place that ends it
+-- what it sees besides: the limit of a line's bytes, the page, the input, the sense byte and whose the memory's bytes are, and the
+-- place that ends it
 pub record Env : Type 0 where
   pub lim : ℕ
   pub page : List ℕ
   pub input : List ℕ
-  pub sense : ℕ
+  pub sight : Sight
   pub here : ℕ
 
 -- the world with a part changed
@@ -78,16 +82,31 @@ went (done skip w) k = done skip w
 went (done (go q) w) k = done (go q) w
 went (done (stop n) w) k = done (stop n) w
 
--- "'@' reads one byte, 0 to 255, at the value read as 0 to 65,535"
-unfoldable pub byteOf : List ℕ → ℕ → Value
-byteOf mem a = if ltb a (length mem) then is (getD mem a 0) else no 16
+-- "'@' reads one byte, 0 to 255, at the value read as 0 to 65,535"; "21, a byte not this box's to read .., beside 16"
+unfoldable pub byteOf : Access → List ℕ → ℕ → Value
+byteOf x mem a =
+    if not (ltb a (length mem)) then no 16
+    else if mayRead x a then is (getD mem a 0)
+    else no 21
 
--- "A string in memory runs to its first CR"
-unfoldable pub stringAt : List ℕ → ℕ → Result (List ℕ)
-stringAt mem a = if all notCR (drop a mem) then no 16 else is (front notCR (drop a mem))
+-- "A string in memory runs to its first CR"; "A string read stops at the first byte it may not read, and that byte decides the
+-- refusal": s is the memory from the address a on
+unfoldable pub stringFrom : Access → ℕ → List ℕ → Result (List ℕ)
+stringFrom x a [] = no 16
+stringFrom x a (b ∷ s) =
+    if not (mayRead x a) then no 21
+    else if eqb b byteCR then is []
+    else bind (stringFrom x (suc a) s) (λ bs. is (b ∷ bs))
 
-unfoldable pub storeAt : List ℕ → ℕ → List ℕ → Result (List ℕ)
-storeAt mem a bs = if leb (a + length bs) (length mem) then is (sets mem a bs) else no 16
+unfoldable pub stringAt : Access → List ℕ → ℕ → Result (List ℕ)
+stringAt x mem a = stringFrom x a (drop a mem)
+
+-- "the outlying byte first for a store"
+unfoldable pub storeAt : Access → List ℕ → ℕ → List ℕ → Result (List ℕ)
+storeAt x mem a bs =
+    if not (leb (a + length bs) (length mem)) then no 16
+    else if mayWrite x a (length bs) then is (sets mem a bs)
+    else no 21
 
 -- "STAT reads bits 4 and 5 of the sense byte plus the flags"
 abbrev pub statOf : ℕ → ℕ → ℕ
@@ -97,9 +116,9 @@ statOf sense flags = sense / 16 % 4 * 16 + flags
 unfoldable pub eval : Env → World → Expr → Value
 eval e w (var v) = is (getD (w .session .vars) v 0)
 eval e w (const n) = is n
-eval e w stat = is (statOf (e .sense) (w .session .flags))
+eval e w stat = is (statOf (e .sight .sense) (w .session .flags))
 eval e w top = is (used (e .page))
-eval e w (byteAt a) = bind (eval e w a) (λ x. byteOf (w .memory) x)
+eval e w (byteAt a) = bind (eval e w a) (λ x. byteOf (e .sight .access) (w .memory) x)
 eval e w (invert a) = bind (eval e w a) (λ x. is (not16 x))
 eval e w (negate a) = bind (eval e w a) (λ x. is (sub16 0 x))
 eval e w (modulo a b) = bind (eval e w a) (λ x. bind (eval e w b) (λ y. mod16 x y))
@@ -114,7 +133,7 @@ put bs w =
 -- "PRINT works item by item, 16 before 17"
 unfoldable pub putItem : Env → Item → World → Done
 putItem e (text bs) w = put bs w
-putItem e (stored a) w = given (bind (eval e w a) (stringAt (w .memory))) w (λ bs. put bs w)
+putItem e (stored a) w = given (bind (eval e w a) (stringAt (e .sight .access) (w .memory))) w (λ bs. put bs w)
 putItem e (value a) w = given (eval e w a) w (λ x. put (printed x) w)
 
 unfoldable pub putItems : Env → List Item → World → Done
@@ -201,10 +220,11 @@ assignReply e vs w (some es) = assign e vs es w
 unfoldable pub exec : Env → Stmt → World → Done
 exec e (letVar v a) w = given (eval e w a) w (λ x. done on (withSession w (withVar (w .session) v x)))
 exec e (letStat a) w = given (eval e w a) w (λ x. done on (withSession w (withFlags (w .session) (x % 8))))
-exec e (letByte a b) w = given (eval e w a) w (λ p. given (eval e w b) w (λ x. keepIn w (storeAt (w .memory) p (x % 256 ∷ []))))
-exec e (letText a bs) w = given (eval e w a) w (λ p. keepIn w (storeAt (w .memory) p (bs ++ (byteCR ∷ []))))
+exec e (letByte a b) w = given (eval e w a) w (λ p. given (eval e w b) w (λ x. keepIn w (storeAt (e .sight .access) (w .memory) p (x % 256 ∷ []))))
+exec e (letText a bs) w = given (eval e w a) w (λ p. keepIn w (storeAt (e .sight .access) (w .memory) p (bs ++ (byteCR ∷ []))))
 exec e (letCopy a b) w =
-    given (eval e w a) w (λ p. given (eval e w b) w (λ q. keepIn w (bind (stringAt (w .memory) q) (λ bs. storeAt (w .memory) p (bs ++ (byteCR ∷ []))))))
+    given (eval e w a) w (λ p. given (eval e w b) w (λ q.
+    keepIn w (bind (stringAt (e .sight .access) (w .memory) q) (λ bs. storeAt (e .sight .access) (w .memory) p (bs ++ (byteCR ∷ []))))))
 exec e (goto a) w = given (bind (eval e w a) (λ n. lineThere (find (e .page) n))) w (λ q. done (go q) w)
 exec e (gosub a) w = given (bind (eval e w a) (λ n. lineThere (find (e .page) n))) w (gosubTo e w)
 exec e return w = returnBy w (popOf (w .session .gosubs) .top)
@@ -215,6 +235,6 @@ exec e (until a) w = given (eval e w a) w (λ x. untilBy w x (popOf (w .session 
 exec e (for v a b c) w = given (eval e w a) w (λ x. given (eval e w b) w (λ y. given (eval e w c) w (λ z. forHere e w v x y z)))
 exec e (next v) w = nextBy w v (popFor (w .session .fors) .top)
 exec e (input vs) w = asked e w (λ u bs. assignReply e vs u (replied (length vs) bs))
-exec e (inputText a) w = given (eval e w a) w (λ p. asked e w (λ u bs. keepIn u (storeAt (u .memory) p (bs ++ (byteCR ∷ [])))))
+exec e (inputText a) w = given (eval e w a) w (λ p. asked e w (λ u bs. keepIn u (storeAt (e .sight .access) (u .memory) p (bs ++ (byteCR ∷ [])))))
 exec e remark w = done on w
 exec e end w = done (stop 20) w

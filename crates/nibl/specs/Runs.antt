@@ -73,7 +73,7 @@ unfoldable pub fetch : List ℕ → ℕ → Fetched
 fetch page q = fetchText page (textFrom page q)
 
 abbrev pub envAt : Env → ℕ → Env
-envAt e p = record { lim = e .lim; page = e .page; input = e .input; sense = e .sense; here = p }
+envAt e p = record { lim = e .lim; page = e .page; input = e .input; sight = e .sight; here = p }
 
 -- what follows a step that ended so: p is the statement's place, cr that of its record's CR
 abbrev pub afterStep : Done → ℕ → ℕ → (ℕ → World → Ran) → Ran

@@ -5,10 +5,13 @@ ghost use mathlib.Core.Path.{_≡_};
 ghost use lib.Dec.{eqb};
 ghost use Rattle.nibl.specs.Stack.{onTop, pushOf, topOf, popOf, pushFor, topFor, popFor};
 ghost use Rattle.nibl.specs.Record.{place, position, mark, positionOf, nowhere, pausedAt, pauseNumber, freshPlaces, freshFors, fresh, unpaused, stackless, cleared, loadedSession, partsOf, sessionOf, withFlags};
-ghost use Rattle.nibl.specs.Lent.{answerOf, withPositions};
+ghost use Rattle.nibl.specs.Lent.{answerOf, withPositions, sightOf};
 
+pub mod access;
 pub mod range;
 pub mod stop;
+use access::Access;
+use access::Sight;
 
 // Bytes that the rules name: what ends a typed line, a record's text and a string; what follows it in the output; what stands
 // between two statements; what a number is written with; what stands around a string; and the end mark, which is two of these.
@@ -495,6 +498,17 @@ impl Call {
         next.inpos = inpos;
         next.outpos = outpos;
         next
+    }
+
+    // What its statements see.
+    pub fn sight(self) -> Sight
+        ensures { λ r. ⌜ r ≡ sightOf self ⌝ }
+    {
+        let access = Access::whole();
+        Sight {
+            sense: self.sense,
+            access: access,
+        }
     }
 }
 

@@ -58,6 +58,9 @@ pub const BAD_RECORD: u8 = 19;
 
 pub const END: u8 = 20;
 
+// A memory byte that is not this box's to read or write.
+pub const NOT_ITS_OWN: u8 = 21;
+
 // Load: another form number, or none.
 pub const OTHER_FORM: u8 = 22;
 

@@ -6,7 +6,7 @@ ghost use Rattle.nibl.specs.Typing.{gather as gathered};
 ghost use Rattle.nibl.specs.Record.{place, mark, unpaused};
 ghost use Rattle.nibl.specs.found.Read.{typed as readingOf};
 ghost use Rattle.nibl.specs.found.Column.{columnOf};
-ghost use Rattle.nibl.specs.Lent.{lentAll};
+ghost use Rattle.nibl.specs.Lent.{lentAll, sightOf};
 ghost use Rattle.nibl.specs.Typing.{limit};
 ghost use Rattle.nibl.specs.Calls.{obeyRead, obeyLine};
 ghost use Rattle.effect.specs.Worlds.{envWith};
@@ -41,7 +41,7 @@ fn obey(
     table: &mut [u16],
 ) -> Ended
     requires { ⌜ (Lists (now reply) (now replies) (now values) (now ops) × Accepted (length (now reply)) (now page) (call .budget) session × ReadAs (now typed) kind (now ops)) × Indexed (now page) (now table) ⌝ }
-    ensures { λ r. ⌜ endedIn r (now (page .exit)) (now (memory .exit)) (now (output .exit)) ≡ obeyRead (call .budget) (envWith (length (now (reply .entry))) (now (page .entry)) (now (input .entry)) (call .sense) (place mark)) (worldAt session (now (memory .entry)) (now (output .entry)) (call .inpos) (call .outpos)) (columnOf (now (typed .entry))) (readingOf (now (typed .entry))) ⌝ }
+    ensures { λ r. ⌜ endedIn r (now (page .exit)) (now (memory .exit)) (now (output .exit)) ≡ obeyRead (call .budget) (envWith (length (now (reply .entry))) (now (page .entry)) (now (input .entry)) (sightOf call) (place mark)) (worldAt session (now (memory .entry)) (now (output .entry)) (call .inpos) (call .outpos)) (columnOf (now (typed .entry))) (readingOf (now (typed .entry))) ⌝ }
     ensures { λ _. ⌜ now (table .exit) ≡ keptTrue (now (page .exit)) (now (table .entry)) ⌝ }
 {
     let inpos = call.inpos;

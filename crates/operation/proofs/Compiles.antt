@@ -150,7 +150,7 @@ module _ (e : Env) where
   item-run i (aText {bs} a) w rest = text-run bs w rest a
   item-run i (aStored {a} f) w rest =
       value-run a f codePrintString w rest refl
-      ∙ ap (λ d. went d (λ u. runOps e rest u [])) (given-bind (eval e w a) (stringAt (w .memory)) w (λ bs. put bs w))
+      ∙ ap (λ d. went d (λ u. runOps e rest u [])) (given-bind (eval e w a) (stringAt (e .sight .access) (w .memory)) w (λ bs. put bs w))
   item-run i (aValue {a} f) w rest = value-run a f codePrintNumber w rest refl
 
   items-run : (items : List Item) → Every FineItem items → (w : World) (rest : List ℕ)
@@ -189,7 +189,7 @@ module _ (e : Env) where
 
   -- what takes the rest of the list
   store-run : (bs : List ℕ) (x : ℕ) (w : World) → All isQuotable bs
-      → runOps e (op codeStoreString (length bs + 1) ∷ (texts codeStringByte bs ++ (op codeStringByte 13 ∷ []))) w (x ∷ []) ≡ keepIn w (storeAt (w .memory) x (bs ++ (13 ∷ [])))
+      → runOps e (op codeStoreString (length bs + 1) ∷ (texts codeStringByte bs ++ (op codeStringByte 13 ∷ []))) w (x ∷ []) ≡ keepIn w (storeAt (e .sight .access) (w .memory) x (bs ++ (13 ∷ [])))
   unfolding lastBy
   store-run bs x w h =
       let c = code-of codeStoreString (length bs + 1) (omega arith) in

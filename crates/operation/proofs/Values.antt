@@ -97,7 +97,7 @@ module _ {R : Type 0} (refuse : ℕ → R) where
     values-put a (aConst {n} h) = let m : n % 65536 ≡ n = omega arith in none-taken 0 n _ (omega arith) refl (λ x y. ap is m)
     values-put a aStat = none-taken 2 0 _ (omega arith) refl (λ x y. refl)
     values-put a aTop = none-taken 3 0 _ (omega arith) refl (λ x y. refl)
-    values-put b (aByteAt {a} h) = one-taken a 4 (byteOf (w .memory)) (omega arith) refl (λ x y. refl) (values-put a h)
+    values-put b (aByteAt {a} h) = one-taken a 4 (byteOf (e .sight .access) (w .memory)) (omega arith) refl (λ x y. refl) (values-put a h)
     values-put b (anInvert {a} h) = one-taken a 5 (λ x. is (not16 x)) (omega arith) refl (λ x y. refl) (values-put a h)
     values-put b (aNegate {a} h) = one-taken a 6 (λ x. is (sub16 0 x)) (omega arith) refl (λ x y. refl) (values-put a h)
     values-put c (aModulo {a} {b} h i) = two-taken a b 7 0 mod16 (omega arith) refl (λ x y. refl) (values-put a h) (values-put b i)

@@ -17,27 +17,28 @@ use Rattle.nibl.specs.Meaning.{put, keepIn, lineThere, gosubTo, returnBy, doHer
 use Rattle.codes.specs.Codes.{codeIn, argumentIn, effects, codeConstant, codeVariable, codeStat, codeTop, codeByte, codeNot, codeNegate, codeMod}
 use Rattle.codes.specs.Codes.{codeSetVariable, codeSetStat, codeSetByte, codeStoreString, codeCopyString, codeGoto, codeGosub, codeReturn, codePrintRoom, codePrintByte, codePrintString, codePrintNumber, codePrintEnd, codeIf, codeDo, codeUntil, codeFor, codeNext, codeInput, codeInputString}
 use Rattle.codes.specs.Operators.{opOf}
+use Rattle.nibl.specs.declared.access.Sight.{Sight}
 use Rattle.world.specs.Stores.{argsOf}
 
 -- what a value is worked out from
 pub record Sources : Type 0 where
   pub vars : List ℕ
   pub flags : ℕ
-  pub sense : ℕ
+  pub sight : Sight
   pub page : List ℕ
   pub memory : List ℕ
 
 abbrev pub sourcesIn : Env → World → Sources
-sourcesIn e w = record { vars = w .session .vars; flags = w .session .flags; sense = e .sense; page = e .page; memory = w .memory }
+sourcesIn e w = record { vars = w .session .vars; flags = w .session .flags; sight = e .sight; page = e .page; memory = w .memory }
 
 -- the value of an operation, x the value on top and y the one below; any code but these is an operator's
 unfoldable pub valueBy : Sources → ℕ → ℕ → ℕ → ℕ → Value
 valueBy s code arg x y =
     if eqb code codeConstant then is (arg % 65536)
     else if eqb code codeVariable then is (getD (s .vars) arg 0)
-    else if eqb code codeStat then is (statOf (s .sense) (s .flags))
+    else if eqb code codeStat then is (statOf (s .sight .sense) (s .flags))
     else if eqb code codeTop then is (used (s .page))
-    else if eqb code codeByte then byteOf (s .memory) x
+    else if eqb code codeByte then byteOf (s .sight .access) (s .memory) x
     else if eqb code codeNot then is (not16 x)
     else if eqb code codeNegate then is (sub16 0 x)
     else if eqb code codeMod then mod16 y x
@@ -78,14 +79,14 @@ unfoldable pub effectBy : Env → ℕ → ℕ → ℕ → ℕ → ℕ → World 
 effectBy e code arg x y z w =
     if eqb code codeSetVariable then done on (withSession w (withVar (w .session) arg x))
     else if eqb code codeSetStat then done on (withSession w (withFlags (w .session) (x % 8)))
-    else if eqb code codeSetByte then keepIn w (storeAt (w .memory) y (x % 256 ∷ []))
-    else if eqb code codeCopyString then keepIn w (bind (stringAt (w .memory) x) (λ bs. storeAt (w .memory) y (bs ++ (byteCR ∷ []))))
+    else if eqb code codeSetByte then keepIn w (storeAt (e .sight .access) (w .memory) y (x % 256 ∷ []))
+    else if eqb code codeCopyString then keepIn w (bind (stringAt (e .sight .access) (w .memory) x) (λ bs. storeAt (e .sight .access) (w .memory) y (bs ++ (byteCR ∷ []))))
     else if eqb code codeGoto then given (lineThere (find (e .page) x)) w (λ q. done (go q) w)
     else if eqb code codeGosub then given (lineThere (find (e .page) x)) w (gosubTo e w)
     else if eqb code codeReturn then returnBy w (popOf (w .session .gosubs) .top)
     else if eqb code codePrintRoom then (if leb (w .outpos + arg) (length (w .output)) then done on w else done (stop 17) w)
     else if eqb code codePrintByte then put (arg % 256 ∷ []) w
-    else if eqb code codePrintString then given (stringAt (w .memory) x) w (λ bs. put bs w)
+    else if eqb code codePrintString then given (stringAt (e .sight .access) (w .memory) x) w (λ bs. put bs w)
     else if eqb code codePrintNumber then put (printed x) w
     else if eqb code codePrintEnd then put (byteCR ∷ byteLF ∷ []) w
     else if eqb code codeIf then (if eqb x 0 then done skip w else done on w)
@@ -93,7 +94,7 @@ effectBy e code arg x y z w =
     else if eqb code codeUntil then untilBy w x (popOf (w .session .dos) .top)
     else if eqb code codeFor then forHere e w (arg % 256) z y x
     else if eqb code codeNext then nextBy w (arg % 256) (popFor (w .session .fors) .top)
-    else if eqb code codeInputString then asked e w (λ u bs. keepIn u (storeAt (u .memory) x (bs ++ (byteCR ∷ []))))
+    else if eqb code codeInputString then asked e w (λ u bs. keepIn u (storeAt (e .sight .access) (u .memory) x (bs ++ (byteCR ∷ []))))
     else done (stop 20) w
 
 -- the variables that operations have as their arguments
@@ -104,7 +105,7 @@ variablesOf rest = map argumentIn rest
 -- have: both end the list
 unfoldable pub lastBy : Env → ℕ → ℕ → List ℕ → World → Done
 lastBy e o x rest w =
-    if eqb (codeIn o) codeStoreString then keepIn w (storeAt (w .memory) x (argsOf rest))
+    if eqb (codeIn o) codeStoreString then keepIn w (storeAt (e .sight .access) (w .memory) x (argsOf rest))
     else asked e w (λ u bs. assignReply e (variablesOf rest) u (replied (argumentIn o) bs))
 
 abbrev pub isLast : ℕ → Bool

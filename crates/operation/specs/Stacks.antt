@@ -10,6 +10,7 @@ use Rattle.nibl.specs.found.Read.{replied}
 use Rattle.nibl.specs.Page.{used}
 use Rattle.nibl.specs.Meaning.{World, withSession, Next, on, stop, Done, done, bind}
 use Rattle.nibl.specs.Record.{withVars}
+use Rattle.nibl.specs.declared.access.Sight.{Sight}
 use Rattle.relation.specs.Code.{values}
 use Rattle.reader.specs.Answers.{hasRoom}
 use Rattle.world.specs.Turns.{wayOf}
@@ -23,8 +24,8 @@ use Rattle.operation.specs.declared.Height.the-variants as raised
 use Rattle.operation.specs.declared.Reached.{Reached}
 use Rattle.operation.specs.declared.Reached.the-variants as reached
 
-abbrev pub sources : List ℕ → ℕ → ℕ → List ℕ → List ℕ → Sources
-sources vars flags sense page memory = record { vars = vars; flags = flags; sense = sense; page = page; memory = memory }
+abbrev pub sources : List ℕ → ℕ → Sight → List ℕ → List ℕ → Sources
+sources vars flags sight page memory = record { vars = vars; flags = flags; sight = sight; page = page; memory = memory }
 
 -- the values that the first n places of an array hold, the top first
 unfoldable pub stackOf : List ℕ → ℕ → List ℕ
@@ -97,7 +98,7 @@ onValue (no n) vars k = assignedTo (stop n) vars
 
 -- what is seen after an assignment
 abbrev pub withValue : Sources → ℕ → ℕ → Sources
-withValue s v x = sources (set (s .vars) v x) (s .flags) (s .sense) (s .page) (s .memory)
+withValue s v x = sources (set (s .vars) v x) (s .flags) (s .sight) (s .page) (s .memory)
 
 -- "evaluates its relations in turn after the earlier assignments", by their operations
 unfoldable pub assigningAll : Sources → List ℕ → List Expr → Assigned

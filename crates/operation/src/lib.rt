@@ -13,6 +13,7 @@ ghost use Rattle.operation.specs.Operations.{takes, valueBy, valueStep, 
 ghost use Rattle.operation.specs.Stacks.{sources, stackOf, stackAfter, heightOf, reachedIn, reachedHeight, reachedAt, topIn, topAfter, reachedTop, worked, ReplyRoom, Assigning, assignedBy, assigning};
 use line::ListRead;
 use line::RelationRead;
+use nibl::access::Sight;
 use nibl::stop;
 use value::Value;
 use word::Cursor;
@@ -98,19 +99,19 @@ fn value_by(
     y: u16,
     vars: &[u16],
     flags: u8,
-    sense: u8,
+    sight: Sight,
     page: &[u8],
     memory: &[u8],
 ) -> Value
     requires { ⌜ used (now page) < 65536 ⌝ }
-    ensures { λ r. ⌜ valueOf r ≡ valueBy (sources (now (vars .entry)) flags sense (now (page .entry)) (now (memory .entry))) code arg x y ⌝ }
+    ensures { λ r. ⌜ valueOf r ≡ valueBy (sources (now (vars .entry)) flags sight (now (page .entry)) (now (memory .entry))) code arg x y ⌝ }
 {
     match code {
         codes::CONSTANT => Value::Is((arg % 65536) as u16),
         codes::VARIABLE => Value::Is(jump::var_of(vars, arg)),
-        codes::STAT => Value::Is(stat_of(sense, flags)),
+        codes::STAT => Value::Is(stat_of(sight.sense, flags)),
         codes::TOP => Value::Is(used_of(page)),
-        codes::BYTE => memory::byte_of(memory, x),
+        codes::BYTE => memory::byte_of(sight.access, memory, x),
         codes::NOT => Value::Is(value::invert(x)),
         codes::NEGATE => Value::Is(value::negate(x)),
         codes::MOD => value::modulo(y, x),
@@ -123,7 +124,7 @@ pub fn value_step(
     op: u32,
     vars: &[u16],
     flags: u8,
-    sense: u8,
+    sight: Sight,
     page: &[u8],
     memory: &[u8],
     values: &mut [u16],
@@ -131,7 +132,7 @@ pub fn value_step(
     top: u16,
 ) -> Height
     requires { ⌜ (height < length (now values)) × (used (now page) < 65536) × (top ≡ topIn (now values) height) ⌝ }
-    ensures { λ r. ⌜ (stackAfter r (now (values .exit)) ≡ valueStep (sources (now (vars .entry)) flags sense (now (page .entry)) (now (memory .entry))) op (stackOf (now (values .entry)) height)) × (heightOf r ≤ height + 1) × (topAfter r ≡ topIn (now (values .exit)) (heightOf r)) ⌝ }
+    ensures { λ r. ⌜ (stackAfter r (now (values .exit)) ≡ valueStep (sources (now (vars .entry)) flags sight (now (page .entry)) (now (memory .entry))) op (stackOf (now (values .entry)) height)) × (heightOf r ≤ height + 1) × (topAfter r ≡ topIn (now (values .exit)) (heightOf r)) ⌝ }
 {
     let code = op % codes::CODES;
     let y = nth(values, height, 1);
@@ -142,7 +143,7 @@ pub fn value_step(
         y,
         vars,
         flags,
-        sense,
+        sight,
         page,
         memory,
     );
@@ -161,13 +162,13 @@ pub fn work_out(
     ops: &[u32],
     vars: &[u16],
     flags: u8,
-    sense: u8,
+    sight: Sight,
     page: &[u8],
     memory: &[u8],
     values: &mut [u16],
 ) -> Value
     requires { ⌜ (length (now ops) ≤ length (now values)) × (used (now page) < 65536) ⌝ }
-    ensures { λ r. ⌜ valueOf r ≡ worked (sources (now (vars .entry)) flags sense (now (page .entry)) (now (memory .entry))) (now (ops .entry)) ⌝ }
+    ensures { λ r. ⌜ valueOf r ≡ worked (sources (now (vars .entry)) flags sight (now (page .entry)) (now (memory .entry))) (now (ops .entry)) ⌝ }
 {
     let mut height: usize = 0;
     let mut top: u16 = 0;
@@ -177,7 +178,7 @@ pub fn work_out(
             ops[i],
             vars,
             flags,
-            sense,
+            sight,
             page,
             memory,
             values,
@@ -204,13 +205,13 @@ pub fn values_first(
     from: usize,
     vars: &[u16],
     flags: u8,
-    sense: u8,
+    sight: Sight,
     page: &[u8],
     memory: &[u8],
     values: &mut [u16],
 ) -> Reached
     requires { ⌜ (length (now ops) ≤ length (now values)) × (used (now page) < 65536) ⌝ }
-    ensures { λ r. ⌜ (reachedIn r (now (ops .entry)) (now (values .exit)) ≡ valuesFirst (sources (now (vars .entry)) flags sense (now (page .entry)) (now (memory .entry))) (drop from (now (ops .entry))) []) × (reachedHeight r ≤ reachedAt from r) × (from ≤ reachedAt from r) × (reachedTop r ≡ topIn (now (values .exit)) (reachedHeight r)) × (reachedAt from r ≤ from + (length (now (ops .entry)) - from)) ⌝ }
+    ensures { λ r. ⌜ (reachedIn r (now (ops .entry)) (now (values .exit)) ≡ valuesFirst (sources (now (vars .entry)) flags sight (now (page .entry)) (now (memory .entry))) (drop from (now (ops .entry))) []) × (reachedHeight r ≤ reachedAt from r) × (from ≤ reachedAt from r) × (reachedTop r ≡ topIn (now (values .exit)) (reachedHeight r)) × (reachedAt from r ≤ from + (length (now (ops .entry)) - from)) ⌝ }
 {
     let mut height: usize = 0;
     let mut top: u16 = 0;
@@ -220,7 +221,7 @@ pub fn values_first(
         if codes::EFFECTS <= op % codes::CODES {
             return Reached::To(i, height, top);
         }
-        let r = value_step(op, vars, flags, sense, page, memory, values, height, top);
+        let r = value_step(op, vars, flags, sight, page, memory, values, height, top);
         match r {
             Height::Top(n, x) => {
                 height = n;
@@ -243,7 +244,7 @@ fn assign(
     n: usize,
     text: &[u8],
     flags: u8,
-    sense: u8,
+    sight: Sight,
     page: &[u8],
     vars: &mut [u16],
     memory: &[u8],
@@ -251,7 +252,7 @@ fn assign(
     values: &mut [u16],
 ) -> Way
     requires { ⌜ Assigning n (now text) (now page) (now ops) (now values) ⌝ }
-    ensures { λ r. ⌜ assignedBy r (now (vars .exit)) ≡ assigning (sources (now (vars .entry)) flags sense (now (page .entry)) (now (memory .entry))) (variablesOf (now (rest .entry))) (replied n (now (text .entry))) ⌝ }
+    ensures { λ r. ⌜ assignedBy r (now (vars .exit)) ≡ assigning (sources (now (vars .entry)) flags sight (now (page .entry)) (now (memory .entry))) (variablesOf (now (rest .entry))) (replied n (now (text .entry))) ⌝ }
 {
     let mut c = Cursor { at: 0 };
     let mut i: usize = 0;
@@ -263,7 +264,7 @@ fn assign(
         let RelationRead::Relation(k, next) = r else {
             return Way::Stop(stop::BAD_REPLY);
         };
-        let v = work_out(&ops[..k], vars, flags, sense, page, memory, values);
+        let v = work_out(&ops[..k], vars, flags, sight, page, memory, values);
         match v {
             Value::Is(x) => jump::set_var(vars, rest[i] / codes::CODES, x),
             Value::No(s) => {
@@ -282,7 +283,7 @@ pub fn take_reply(
     n: usize,
     text: &[u8],
     flags: u8,
-    sense: u8,
+    sight: Sight,
     page: &[u8],
     vars: &mut [u16],
     memory: &[u8],
@@ -290,10 +291,10 @@ pub fn take_reply(
     values: &mut [u16],
 ) -> Way
     requires { ⌜ ReplyRoom (now text) (now page) (now ops) (now values) ⌝ }
-    ensures { λ r. ⌜ assignedBy r (now (vars .exit)) ≡ assigning (sources (now (vars .entry)) flags sense (now (page .entry)) (now (memory .entry))) (variablesOf (now (rest .entry))) (replied n (now (text .entry))) ⌝ }
+    ensures { λ r. ⌜ assignedBy r (now (vars .exit)) ≡ assigning (sources (now (vars .entry)) flags sight (now (page .entry)) (now (memory .entry))) (variablesOf (now (rest .entry))) (replied n (now (text .entry))) ⌝ }
 {
     match line::read_reply(text, n, ops) {
-        ListRead::Reads => assign(rest, n, text, flags, sense, page, vars, memory, ops, values),
+        ListRead::Reads => assign(rest, n, text, flags, sight, page, vars, memory, ops, values),
         _ => Way::Stop(stop::BAD_REPLY),
     }
 }

@@ -18,6 +18,7 @@ use Rattle.nibl.specs.Calls.{obeyRead, obey, afterImmediate}
 use Rattle.nibl.specs.declared.Session.{Session}
 use Rattle.nibl.specs.declared.Parts.{Parts}
 use Rattle.nibl.specs.declared.Onward.{Onward}
+use Rattle.nibl.specs.declared.access.Sight.{Sight}
 use Rattle.page.specs.Standing.{Stands}
 use Rattle.page.proofs.Standing.{find-stands}
 use Rattle.record.specs.Fit.{Fit, Goes, toPlace}
@@ -38,9 +39,9 @@ use Rattle.outcome.proofs.Lent.{may-run, world-same}
 
 module _ {reply replies values ops page text : List ℕ} {n budget : ℕ} {s : Session}
     (l : Lists reply replies values ops) (a : Accepted (length reply) page budget s) (one : IsStatement text n ops)
-    (input : List ℕ) (sense inpos outpos : ℕ) (memory output : List ℕ) where
+    (input : List ℕ) (sight : Sight) (inpos outpos : ℕ) (memory output : List ℕ) where
   abbrev env : Env
-  env = envWith (length reply) page input sense (place mark)
+  env = envWith (length reply) page input sight (place mark)
 
   abbrev world : World
   world = worldAt s memory output inpos outpos

@@ -7,6 +7,7 @@ ghost use Rattle.nibl.specs.Record.{place, mark, positionOf};
 ghost use Rattle.nibl.specs.found.Read.{typed as readingOf};
 ghost use Rattle.nibl.specs.found.Column.{columnOf};
 ghost use Rattle.nibl.specs.Runs.{runFrom, runOutcome};
+ghost use Rattle.nibl.specs.Lent.{sightOf};
 ghost use Rattle.nibl.specs.Calls.{obeyRead};
 ghost use Rattle.effect.specs.Worlds.{envWith};
 ghost use Rattle.page.specs.Standing.{Stands};
@@ -113,8 +114,9 @@ pub fn run_from<'a>(
     table: &[u16],
 ) -> Ended
     requires { ⌜ (Lists (now reply) (now replies) (now values) (now ops) × Accepted (length (now reply)) (now page) (call .budget) session × Stands (placesOf (now page)) (positionOf from)) × Indexed (now page) (now table) ⌝ }
-    ensures { λ r. ⌜ endedIn r (now (page .entry)) (now (memory .exit)) (now (output .exit)) ≡ runOutcome (runFrom (call .budget) (envWith (length (now (reply .entry))) (now (page .entry)) (now (input .entry)) (call .sense) (place mark)) (positionOf from) (worldAt session (now (memory .entry)) (now (output .entry)) (call .inpos) (call .outpos))) (now (page .entry)) ⌝ }
+    ensures { λ r. ⌜ endedIn r (now (page .entry)) (now (memory .exit)) (now (output .exit)) ≡ runOutcome (runFrom (call .budget) (envWith (length (now (reply .entry))) (now (page .entry)) (now (input .entry)) (sightOf call) (place mark)) (positionOf from) (worldAt session (now (memory .entry)) (now (output .entry)) (call .inpos) (call .outpos))) (now (page .entry)) ⌝ }
 {
+    let sight = call.sight();
     let mut vars = session.vars;
     let parts = session.parts(call.inpos, call.outpos);
     let r = run::run_steps(
@@ -122,7 +124,7 @@ pub fn run_from<'a>(
         call.budget,
         page,
         input,
-        call.sense,
+        sight,
         &mut vars,
         memory,
         output,
@@ -154,8 +156,9 @@ pub fn immediate<'a>(
     table: &[u16],
 ) -> Ended
     requires { ⌜ (Lists (now reply) (now replies) (now values) (now ops) × Accepted (length (now reply)) (now page) (call .budget) session × IsStatement (now typed) n (now ops)) × Indexed (now page) (now table) ⌝ }
-    ensures { λ r. ⌜ endedIn r (now (page .entry)) (now (memory .exit)) (now (output .exit)) ≡ obeyRead (call .budget) (envWith (length (now (reply .entry))) (now (page .entry)) (now (input .entry)) (call .sense) (place mark)) (worldAt session (now (memory .entry)) (now (output .entry)) (call .inpos) (call .outpos)) (columnOf (now (typed .entry))) (readingOf (now (typed .entry))) ⌝ }
+    ensures { λ r. ⌜ endedIn r (now (page .entry)) (now (memory .exit)) (now (output .exit)) ≡ obeyRead (call .budget) (envWith (length (now (reply .entry))) (now (page .entry)) (now (input .entry)) (sightOf call) (place mark)) (worldAt session (now (memory .entry)) (now (output .entry)) (call .inpos) (call .outpos)) (columnOf (now (typed .entry))) (readingOf (now (typed .entry))) ⌝ }
 {
+    let sight = call.sight();
     let mut vars = session.vars;
     let parts = session.parts(call.inpos, call.outpos);
     let d = statement::run_ops(
@@ -163,7 +166,7 @@ pub fn immediate<'a>(
         Place::mark(),
         page,
         input,
-        call.sense,
+        sight,
         &mut vars,
         memory,
         output,

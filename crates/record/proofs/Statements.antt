@@ -93,7 +93,7 @@ module _ (e : Env) (ps : List ℕ) where
   item-goes : (i : Item) (w : World) → Fits ps w → Goes ps (putItem e i w)
   unfolding putItem
   item-goes (text bs) w h = put-goes ps bs w h
-  item-goes (stored a) w h = given-goes ps (bind (eval e w a) (stringAt (w .memory))) w _ h (λ bs. put-goes ps bs w h)
+  item-goes (stored a) w h = given-goes ps (bind (eval e w a) (stringAt (e .sight .access) (w .memory))) w _ h (λ bs. put-goes ps bs w h)
   item-goes (value a) w h = given-goes ps (eval e w a) w _ h (λ x. put-goes ps (printed x) w h)
 
   items-go : (items : List Item) (w : World) → Fits ps w → Goes ps (putItems e items w)

@@ -5,6 +5,8 @@ ghost use Prim.Native.Nat.{_+_, _-_, _≤_, _<_};
 ghost use lib.ListN.{length};
 ghost use mathlib.Core.Path.{_≡_};
 ghost use Rattle.table.specs.Index.{Indexed};
+use nibl::access::Access;
+use nibl::access::Sight;
 use nibl::Call;
 use nibl::ForEntry;
 use nibl::ForStack;
@@ -229,6 +231,11 @@ fn steps(page: &[u8], session: Session, table: &[u16]) -> u16
     if !record::fits(page, session) {
         return 0;
     }
+    let access = Access::whole();
+    let sight = Sight {
+        sense: 0,
+        access: access,
+    };
     let mut memory = [0u8; 1];
     let mut output = [0u8; 1];
     let mut ops = [0u32; nibl::ROOM];
@@ -241,7 +248,7 @@ fn steps(page: &[u8], session: Session, table: &[u16]) -> u16
         32767,
         page,
         b"",
-        0,
+        sight,
         &mut vars,
         &mut memory,
         &mut output,

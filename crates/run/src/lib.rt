@@ -14,6 +14,7 @@ ghost use Rattle.table.specs.Index.{Indexed};
 ghost use Rattle.run.specs.StepEnds.{ledTo, nextAfter};
 ghost use Rattle.run.specs.Fetching.{FetchRoom, fetchOf, fetchedIn, fetchedCount};
 ghost use Rattle.run.specs.Running.{MayRun, ranTo, ranIn, pauseOf};
+use nibl::access::Sight;
 use nibl::Onward;
 use nibl::Parts;
 use nibl::Place;
@@ -136,7 +137,7 @@ pub fn run_steps<'a>(
     budget: usize,
     page: &'a [u8],
     input: &[u8],
-    sense: u8,
+    sight: Sight,
     vars: &mut [u16],
     memory: &mut [u8],
     output: &mut [u8],
@@ -149,7 +150,7 @@ pub fn run_steps<'a>(
     table: &[u16],
 ) -> Ran
     requires { ⌜ MayRun (now page) (now ops) (now values) (now reply) (now replies) (positionOf from) budget (worldWith (now vars) parts (now memory) (now output)) × Indexed (now page) (now table) ⌝ }
-    ensures { λ r. ⌜ ranIn r (now (vars .exit)) (now (page .entry)) (now (memory .exit)) (now (output .exit)) ≡ runOutcome (runFrom budget (envWith (length (now (reply .entry))) (now (page .entry)) (now (input .entry)) sense (place mark)) (positionOf from) (worldWith (now (vars .entry)) parts (now (memory .entry)) (now (output .entry)))) (now (page .entry)) ⌝ }
+    ensures { λ r. ⌜ ranIn r (now (vars .exit)) (now (page .entry)) (now (memory .exit)) (now (output .exit)) ≡ runOutcome (runFrom budget (envWith (length (now (reply .entry))) (now (page .entry)) (now (input .entry)) sight (place mark)) (positionOf from) (worldWith (now (vars .entry)) parts (now (memory .entry)) (now (output .entry)))) (now (page .entry)) ⌝ }
 {
     let mut q = from;
     let mut p = parts;
@@ -170,8 +171,8 @@ pub fn run_steps<'a>(
         let r = statement::run_plain(
             &ops[..count],
             page,
-            sense,
             p.flags,
+            sight,
             dos,
             fors,
             vars,
@@ -207,7 +208,7 @@ pub fn run_steps<'a>(
                     at,
                     page,
                     input,
-                    sense,
+                    sight,
                     vars,
                     memory,
                     output,

@@ -10,6 +10,7 @@ use Rattle.effect.specs.declared.Did.{Did}
 use Rattle.effect.specs.Worlds.{didIn}
 use Rattle.effect.proofs.Determined.{effect-determined}
 use Rattle.nibl.specs.declared.PlaceStack.{PlaceStack}
+use Rattle.nibl.specs.declared.access.Sight.{Sight}
 use Rattle.nibl.specs.declared.ForStack.{ForStack}
 use Rattle.statement.specs.declared.Plain.{Plain}
 use Rattle.statement.specs.Plain.{Around, viewOf, plainIn, RunsPlainly}
@@ -24,7 +25,7 @@ pub from-determined : (e : Env) (rest vs : List ℕ) (w : World) (d f : Did) (va
     → (d ≡ f) × (vars ≡ vars′) × (memory ≡ memory′) × (output ≡ output′)
 from-determined e rest vs w = effect-determined (runOps e rest w vs)
 
-pub plain-same : (ops page : List ℕ) (sense flags : ℕ) (dos : PlaceStack) (fors : ForStack) (vars memory : List ℕ) (r s : Plain) (vars₁ vars₂ values₁ values₂ : List ℕ)
-    → RunsPlainly ops page sense flags dos fors vars memory r vars₁ values₁ → RunsPlainly ops page sense flags dos fors vars memory s vars₂ values₂
-    → (a : Around) → plainIn (viewOf page sense flags dos fors memory) a r ops vars₁ values₁ ≡ plainIn (viewOf page sense flags dos fors memory) a s ops vars₂ values₂
-plain-same ops page sense flags dos fors vars memory r s vars₁ vars₂ values₁ values₂ p q a = p .runs a ∙ sym (q .runs a)
+pub plain-same : (ops page : List ℕ) (flags : ℕ) (sight : Sight) (dos : PlaceStack) (fors : ForStack) (vars memory : List ℕ) (r s : Plain) (vars₁ vars₂ values₁ values₂ : List ℕ)
+    → RunsPlainly ops page flags sight dos fors vars memory r vars₁ values₁ → RunsPlainly ops page flags sight dos fors vars memory s vars₂ values₂
+    → (a : Around) → plainIn (viewOf page flags sight dos fors memory) a r ops vars₁ values₁ ≡ plainIn (viewOf page flags sight dos fors memory) a s ops vars₂ values₂
+plain-same ops page flags sight dos fors vars memory r s vars₁ vars₂ values₁ values₂ p q a = p .runs a ∙ sym (q .runs a)

@@ -23,6 +23,7 @@ use Rattle.effect.proofs.Acts.{act-does, call-does, loop-does, count-does}
 use Rattle.statement.specs.Lending.{isOn}
 use Rattle.nibl.specs.declared.ForStack.{ForStack}
 use Rattle.nibl.specs.declared.PlaceStack.{PlaceStack}
+use Rattle.nibl.specs.declared.access.Sight.{Sight}
 use Rattle.statement.specs.declared.Plain.{Plain}
 use Rattle.statement.specs.declared.Plain.the-variants as plain
 use Rattle.statement.specs.Plain.{InView, Around, viewOf, envFrom, partsFrom, worldFrom, plainIn, plainHeight, plainAt, RunsPlainly, LeftAt}
@@ -35,7 +36,7 @@ pub record Reaches (s : InView) (ops vars₀ : List ℕ) (i : ℕ) (vars : List 
 -- the values that stand next
 module _ (s : InView) (a : Around) (ops vars : List ℕ) (i : ℕ) where
   abbrev src : Sources
-  src = sources vars (s .flags) (s .sense) (s .page) (s .memory)
+  src = sources vars (s .flags) (s .sight) (s .page) (s .memory)
 
   pub plain-refused : {n : ℕ} → no n ≡ valuesFirst src (drop i ops) [] → runOps (envFrom s a) (drop i ops) (worldFrom s a vars) [] ≡ done (stop n) (worldFrom s a vars)
   plain-refused e = runs-first (envFrom s a) (worldFrom s a vars) (drop i ops) [] ∙ rw (← e) refl
@@ -105,11 +106,11 @@ module _ (ops values : List ℕ) (at height : ℕ) where
     left-counts k = record { runs = λ s a vars short. ends s a vars short (count-does (given s a short ops vars (stackOf values height) at) k); within = omega arith }
 
 -- What the answer says of the whole statement: where it is at its end, where a turn is left, and where it needs the parts
-module _ {ops page : List ℕ} {sense flags : ℕ} {dos : PlaceStack} {fors : ForStack} {vars memory : List ℕ} {r : Plain} {vars′ values′ : List ℕ}
-    (runs : RunsPlainly ops page sense flags dos fors vars memory r vars′ values′)
+module _ {ops page : List ℕ} {flags : ℕ} {sight : Sight} {dos : PlaceStack} {fors : ForStack} {vars memory : List ℕ} {r : Plain} {vars′ values′ : List ℕ}
+    (runs : RunsPlainly ops page flags sight dos fors vars memory r vars′ values′)
   where
     abbrev sees : InView
-    sees = viewOf page sense flags dos fors memory
+    sees = viewOf page flags sight dos fors memory
 
     pub plain-ends : {w : Way} → r ≡ plain.Ends w → (a : Around)
         → didIn (did w (partsFrom sees a)) vars′ memory (a .output) ≡ runOps (envFrom sees a) ops (worldFrom sees a vars) []

@@ -14,6 +14,7 @@ use Rattle.nibl.specs.Stack.{noPlace}
 use Rattle.nibl.specs.found.Read.{replied}
 use Rattle.nibl.specs.Meaning.{World, Env, on, skip, go, stop, Done, done, given, went, keepIn, storeAt}
 use Rattle.nibl.specs.declared.Place.{Place}
+use Rattle.nibl.specs.declared.access.Sight.{Sight}
 use Rattle.codes.specs.Codes.{codeIn, argumentIn, effects, codeStoreString}
 use Rattle.world.specs.Stores.{argsOf}
 use Rattle.reader.specs.Answers.{hasRoom}
@@ -27,7 +28,7 @@ use Rattle.operation.specs.Stacks.{sources, assignedBy, assigning, assignedIn}
 use Rattle.operation.proofs.Meaning.{reply-is}
 use Rattle.nibl.specs.declared.Parts.{Parts}
 use Rattle.effect.specs.declared.Did.{Did}
-use Rattle.effect.specs.Worlds.{worldWith, envWith, did, didIn}
+use Rattle.effect.specs.Worlds.{worldWith, unsensing, envWith, did, didIn}
 use Rattle.nibl.specs.Record.{partsAt}
 use Rattle.effect.proofs.Codes.{effect-any-sense}
 use Rattle.statement.specs.Lending.{isOn, takesReply}
@@ -43,47 +44,47 @@ heard-same w h j k s = go (h .answer)
     go (no n) = refl
 
 module _ (e : Env) (o x : ℕ) (ops : List ℕ) (w : World) where
-  pub last-stores : eqb (codeIn o) codeStoreString ≡ true → lastBy e o x ops w ≡ keepIn w (storeAt (w .memory) x (argsOf ops))
+  pub last-stores : eqb (codeIn o) codeStoreString ≡ true → lastBy e o x ops w ≡ keepIn w (storeAt (e .sight .access) (w .memory) x (argsOf ops))
   unfolding lastBy
   last-stores h = rw h refl
 
   pub last-asks : eqb (codeIn o) codeStoreString ≡ false
-      → lastBy e o x ops w ≡ heardIn w (hearing (e .lim) (e .input) (w .inpos) (w .output) (w .outpos)) (takesReply (e .sense) (e .page) (variablesOf ops) (argumentIn o))
+      → lastBy e o x ops w ≡ heardIn w (hearing (e .lim) (e .input) (w .inpos) (w .output) (w .outpos)) (takesReply (e .sight) (e .page) (variablesOf ops) (argumentIn o))
   unfolding lastBy
   last-asks h =
       rw h
       (heard-in e w _
-      ∙ heard-same w (hearing (e .lim) (e .input) (w .inpos) (w .output) (w .outpos)) _ (takesReply (e .sense) (e .page) (variablesOf ops) (argumentIn o))
+      ∙ heard-same w (hearing (e .lim) (e .input) (w .inpos) (w .output) (w .outpos)) _ (takesReply (e .sight) (e .page) (variablesOf ops) (argumentIn o))
       (λ u bs. sym (reply-is e u (variablesOf ops) (argumentIn o) bs)))
 
 -- neither sees the place
-pub last-any-here : (lim : ℕ) (page input : List ℕ) (sense : ℕ) (here : Place) (o x : ℕ) (ops : List ℕ) (w : World)
-    → lastBy (envWith lim page input sense here) o x ops w ≡ lastBy (envWith lim page input sense noPlace) o x ops w
-last-any-here lim page input sense here o x ops w = go (eqb (codeIn o) codeStoreString) refl
+pub last-any-here : (lim : ℕ) (page input : List ℕ) (sight : Sight) (here : Place) (o x : ℕ) (ops : List ℕ) (w : World)
+    → lastBy (envWith lim page input sight here) o x ops w ≡ lastBy (envWith lim page input sight noPlace) o x ops w
+last-any-here lim page input sight here o x ops w = go (eqb (codeIn o) codeStoreString) refl
   where
-    go : (t : Bool) → eqb (codeIn o) codeStoreString ≡ t → lastBy (envWith lim page input sense here) o x ops w ≡ lastBy (envWith lim page input sense noPlace) o x ops w
-    go true h = last-stores (envWith lim page input sense here) o x ops w h ∙ sym (last-stores (envWith lim page input sense noPlace) o x ops w h)
-    go false h = last-asks (envWith lim page input sense here) o x ops w h ∙ sym (last-asks (envWith lim page input sense noPlace) o x ops w h)
+    go : (t : Bool) → eqb (codeIn o) codeStoreString ≡ t → lastBy (envWith lim page input sight here) o x ops w ≡ lastBy (envWith lim page input sight noPlace) o x ops w
+    go true h = last-stores (envWith lim page input sight here) o x ops w h ∙ sym (last-stores (envWith lim page input sight noPlace) o x ops w h)
+    go false h = last-asks (envWith lim page input sight here) o x ops w h ∙ sym (last-asks (envWith lim page input sight noPlace) o x ops w h)
 
 -- ---- INPUT of values: without a reply, and with one
 
 pub reply-room : (text ops : List ℕ) → length text ≤ length ops → length text ≤ 65535 → hasRoom text ops ≡ true
 reply-room text ops l s = rw (le-leb (length text) (length ops) l, le-leb (length text) 65535 s) refl
 
-module _ (lim : ℕ) (input : List ℕ) (sense : ℕ) (page vs : List ℕ) (n : ℕ) (p : Parts) (vars memory output : List ℕ) where
+module _ (lim : ℕ) (input : List ℕ) (sight : Sight) (page vs : List ℕ) (n : ℕ) (p : Parts) (vars memory output : List ℕ) where
   abbrev answer : Done
-  answer = heardIn (worldWith vars p memory output) (hearing lim input (p .inpos) output (p .outpos)) (takesReply sense page vs n)
+  answer = heardIn (worldWith vars p memory output) (hearing lim input (p .inpos) output (p .outpos)) (takesReply sight page vs n)
 
   pub no-reply : {after : List ℕ} {i o k : ℕ} → hears (no k) i after o ≡ hearing lim input (p .inpos) output (p .outpos)
       → didIn (did (way.Stop k) (partsAt p i o)) vars memory after ≡ answer
-  no-reply h = ap (λ r. heardIn (worldWith vars p memory output) r (takesReply sense page vs n)) h
+  no-reply h = ap (λ r. heardIn (worldWith vars p memory output) r (takesReply sight page vs n)) h
 
   pub reply-taken : {after bs vars′ : List ℕ} {i o : ℕ} (r : Way) → hears (is bs) i after o ≡ hearing lim input (p .inpos) output (p .outpos)
-      → assignedBy r vars′ ≡ assigning (sources vars (p .flags) sense page memory) vs (replied n bs)
+      → assignedBy r vars′ ≡ assigning (sources vars (p .flags) sight page memory) vs (replied n bs)
       → didIn (did r (partsAt p i o)) vars′ memory after ≡ answer
   reply-taken {after} {i = i} {o = o} r h a =
       ap (assignedIn (worldWith vars (partsAt p i o) memory after)) a
-      ∙ ap (λ r. heardIn (worldWith vars p memory output) r (takesReply sense page vs n)) h
+      ∙ ap (λ r. heardIn (worldWith vars p memory output) r (takesReply sight page vs n)) h
 
 -- ---- one operation of a list
 
@@ -150,27 +151,27 @@ effect-ends e ops w vs i h l {d} f =
     ∙ went-end d
 
 -- As the functions tell it: the line's slots are as many as before, the values are those on top
-module _ (lim : ℕ) (page input : List ℕ) (sense : ℕ) (here : Place) where
+module _ (lim : ℕ) (page input : List ℕ) (sight : Sight) (here : Place) where
   abbrev env : Env
-  env = envWith lim page input sense here
+  env = envWith lim page input sight here
 
   module _ (ops : List ℕ) (w : World) (vs : List ℕ) (i : ℕ) {slots x : ℕ} (d : Did) {vars memory output : List ℕ}
       (h : i < length ops) (f : effects ≤ codeIn (getD ops i 0)) (l : slots ≡ lim) (top : x ≡ getD vs 0 0)
     where
       pub last-run : isLast (codeIn (getD ops i 0)) ≡ true → {rest : List ℕ} → rest ≡ drop (i + 1) ops
-          → didIn d vars memory output ≡ lastBy (envWith slots page input sense noPlace) (getD ops i 0) x rest w
+          → didIn d vars memory output ≡ lastBy (envWith slots page input sight noPlace) (getD ops i 0) x rest w
           → runOps env (drop i ops) w vs ≡ didIn d vars memory output
       last-run g s r =
           last-way env ops w vs i h (le-ltb _ _ f) g
-          ∙ last-any-here lim page input sense here (getD ops i 0) (getD vs 0 0) (drop (i + 1) ops) w
+          ∙ last-any-here lim page input sight here (getD ops i 0) (getD vs 0 0) (drop (i + 1) ops) w
           ∙ rw (← top, ← l, ← s) (sym r)
 
       module _ {y z : ℕ} (g : isLast (codeIn (getD ops i 0)) ≡ false) (next : y ≡ getD vs 1 0) (third : z ≡ getD vs 2 0)
-          (r : didIn d vars memory output ≡ effectBy (envWith slots page input 0 here) (codeIn (getD ops i 0)) (argumentIn (getD ops i 0)) x y z w)
+          (r : didIn d vars memory output ≡ effectBy (envWith slots page input (unsensing (sight .access)) here) (codeIn (getD ops i 0)) (argumentIn (getD ops i 0)) x y z w)
         where
           told : effectBy env (codeIn (getD ops i 0)) (argumentIn (getD ops i 0)) (getD vs 0 0) (getD vs 1 0) (getD vs 2 0) w ≡ didIn d vars memory output
           told =
-              effect-any-sense lim page input sense here (codeIn (getD ops i 0)) (argumentIn (getD ops i 0)) (getD vs 0 0) (getD vs 1 0) (getD vs 2 0) w
+              effect-any-sense lim page input sight here (codeIn (getD ops i 0)) (argumentIn (getD ops i 0)) (getD vs 0 0) (getD vs 1 0) (getD vs 2 0) w
               ∙ rw (← top, ← next, ← third, ← l) (sym r)
 
           effect-went : runOps env (drop i ops) w vs ≡ went (didIn d vars memory output) (λ u. runOps env (drop (i + 1) ops) u [])

@@ -6,6 +6,7 @@ use lib.ListN.{length}
 use Rattle.nibl.specs.Page.{used}
 use Rattle.nibl.specs.found.Read.{replied}
 use Rattle.nibl.specs.Meaning.{World, Done}
+use Rattle.nibl.specs.declared.access.Sight.{Sight}
 use Rattle.world.specs.declared.jump.Way.{Way}
 use Rattle.world.specs.declared.jump.Way.the-variants as way
 use Rattle.operation.specs.Stacks.{sources, assigning, assignedIn}
@@ -27,6 +28,6 @@ pub record Fair (page ops values reply replies : List ℕ) : Type 0 where
   pub short : length reply ≤ 65535
 
 -- the relations of a reply for n variables
-abbrev pub takesReply : ℕ → List ℕ → List ℕ → ℕ → World → List ℕ → Done
-takesReply sense page vs n w bs =
-    assignedIn w (assigning (sources (w .session .vars) (w .session .flags) sense page (w .memory)) vs (replied n bs))
+abbrev pub takesReply : Sight → List ℕ → List ℕ → ℕ → World → List ℕ → Done
+takesReply sight page vs n w bs =
+    assignedIn w (assigning (sources (w .session .vars) (w .session .flags) sight page (w .memory)) vs (replied n bs))

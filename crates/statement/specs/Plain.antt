@@ -5,6 +5,7 @@ use mathlib.Core.Path.{_≡_}
 use lib.ListN.{length, drop}
 use Rattle.nibl.specs.Meaning.{World, Env, Done}
 use Rattle.nibl.specs.declared.Place.{Place}
+use Rattle.nibl.specs.declared.access.Sight.{Sight}
 use Rattle.nibl.specs.declared.PlaceStack.{PlaceStack}
 use Rattle.nibl.specs.declared.ForStack.{ForStack}
 use Rattle.nibl.specs.declared.Parts.{Parts}
@@ -29,15 +30,15 @@ pub record Around : Type 0 where
 -- and what it sees but does not change
 pub record InView : Type 0 where
   pub page : List ℕ
-  pub sense : ℕ
   pub flags : ℕ
+  pub sight : Sight
   pub dos : PlaceStack
   pub fors : ForStack
   pub memory : List ℕ
 
 module _ (s : InView) (a : Around) where
   abbrev pub envFrom : Env
-  envFrom = envWith (a .lim) (s .page) (a .input) (s .sense) (a .here)
+  envFrom = envWith (a .lim) (s .page) (a .input) (s .sight) (a .here)
 
   abbrev pub partsFrom : Parts
   partsFrom = record { flags = s .flags; gosubs = a .gosubs; dos = s .dos; fors = s .fors; inpos = a .inpos; outpos = a .outpos }
@@ -53,8 +54,8 @@ module _ (s : InView) (a : Around) where
   plainIn (plain.Counts c v x y z) ops vars values = forsIn (worldFrom vars) (countTurn (a .here) (s .fors) vars c v x y z)
   plainIn (plain.Needs i n) ops vars values = runOps envFrom (drop i ops) (worldFrom vars) (stackOf values n)
 
-abbrev pub viewOf : List ℕ → ℕ → ℕ → PlaceStack → ForStack → List ℕ → InView
-viewOf page sense flags dos fors memory = record { page = page; sense = sense; flags = flags; dos = dos; fors = fors; memory = memory }
+abbrev pub viewOf : List ℕ → ℕ → Sight → PlaceStack → ForStack → List ℕ → InView
+viewOf page flags sight dos fors memory = record { page = page; flags = flags; sight = sight; dos = dos; fors = fors; memory = memory }
 
 abbrev pub plainHeight : Plain → ℕ
 plainHeight (plain.Ends w) = 0
@@ -71,8 +72,8 @@ plainAt (plain.Counts c v x y z) = 0
 plainAt (plain.Needs i n) = i
 
 -- What was done and what is left to do come to what the statement does, whatever is around. How much of it is done is not said.
-pub record RunsPlainly (ops page : List ℕ) (sense flags : ℕ) (dos : PlaceStack) (fors : ForStack) (vars memory : List ℕ) (r : Plain) (vars′ values′ : List ℕ) : Type 0 where
-  pub runs : (a : Around) → (let s = viewOf page sense flags dos fors memory in plainIn s a r ops vars′ values′ ≡ runOps (envFrom s a) ops (worldFrom s a vars) [])
+pub record RunsPlainly (ops page : List ℕ) (flags : ℕ) (sight : Sight) (dos : PlaceStack) (fors : ForStack) (vars memory : List ℕ) (r : Plain) (vars′ values′ : List ℕ) : Type 0 where
+  pub runs : (a : Around) → (let s = viewOf page flags sight dos fors memory in plainIn s a r ops vars′ values′ ≡ runOps (envFrom s a) ops (worldFrom s a vars) [])
   pub within : plainHeight r ≤ plainAt r
 
 -- what is left at an operation is what the list does from there on, in any world with a page of at most 65,535 bytes

@@ -14,6 +14,7 @@ ghost use Rattle.statement.specs.Lending.{Fair, isOn, takesReply};
 ghost use Rattle.statement.specs.Plain.{RunsPlainly, LeftAt};
 use effect::AtOnce;
 use effect::Did;
+use nibl::access::Sight;
 use nibl::ForStack;
 use nibl::Parts;
 use nibl::Place;
@@ -42,7 +43,7 @@ fn input_values(
     n: u32,
     page: &[u8],
     input: &[u8],
-    sense: u8,
+    sight: Sight,
     vars: &mut [u16],
     memory: &[u8],
     output: &mut [u8],
@@ -52,7 +53,7 @@ fn input_values(
     parts: Parts,
 ) -> Did
     requires { ⌜ Fair (now page) [] (now values) (now reply) (now replies) ⌝ }
-    ensures { λ r. ⌜ didIn r (now (vars .exit)) (now (memory .entry)) (now (output .exit)) ≡ heardIn (worldWith (now (vars .entry)) parts (now (memory .entry)) (now (output .entry))) (hearing (length (now (reply .entry))) (now (input .entry)) (parts .inpos) (now (output .entry)) (parts .outpos)) (takesReply sense (now (page .entry)) (variablesOf (now (rest .entry))) n) ⌝ }
+    ensures { λ r. ⌜ didIn r (now (vars .exit)) (now (memory .entry)) (now (output .exit)) ≡ heardIn (worldWith (now (vars .entry)) parts (now (memory .entry)) (now (output .entry))) (hearing (length (now (reply .entry))) (now (input .entry)) (parts .inpos) (now (output .entry)) (parts .outpos)) (takesReply sight (now (page .entry)) (variablesOf (now (rest .entry))) n) ⌝ }
 {
     let r = input::ask(input, parts.inpos, output, parts.outpos, reply);
     match r {
@@ -64,7 +65,7 @@ fn input_values(
                 n as usize,
                 &reply[..k],
                 flags,
-                sense,
+                sight,
                 page,
                 vars,
                 memory,
@@ -90,7 +91,7 @@ fn last(
     rest: &[u32],
     page: &[u8],
     input: &[u8],
-    sense: u8,
+    sight: Sight,
     vars: &mut [u16],
     memory: &mut [u8],
     output: &mut [u8],
@@ -100,17 +101,17 @@ fn last(
     parts: Parts,
 ) -> Did
     requires { ⌜ Fair (now page) [] (now values) (now reply) (now replies) ⌝ }
-    ensures { λ r. ⌜ didIn r (now (vars .exit)) (now (memory .exit)) (now (output .exit)) ≡ lastBy (envWith (length (now (reply .entry))) (now (page .entry)) (now (input .entry)) sense noPlace) op x (now (rest .entry)) (worldWith (now (vars .entry)) parts (now (memory .entry)) (now (output .entry))) ⌝ }
+    ensures { λ r. ⌜ didIn r (now (vars .exit)) (now (memory .exit)) (now (output .exit)) ≡ lastBy (envWith (length (now (reply .entry))) (now (page .entry)) (now (input .entry)) sight noPlace) op x (now (rest .entry)) (worldWith (now (vars .entry)) parts (now (memory .entry)) (now (output .entry))) ⌝ }
 {
     if op % codes::CODES == codes::STORE_STRING {
-        return effect::store_ends(memory::store_args(memory, x, rest), parts);
+        return effect::store_ends(memory::store_args(sight.access, memory, x, rest), parts);
     }
     input_values(
         rest,
         op / codes::CODES,
         page,
         input,
-        sense,
+        sight,
         vars,
         memory,
         output,
@@ -160,8 +161,8 @@ fn left_at(ops: &[u32], at: usize, values: &[u16], height: usize) -> Plain
 pub fn run_plain(
     ops: &[u32],
     page: &[u8],
-    sense: u8,
     flags: u8,
+    sight: Sight,
     dos: PlaceStack,
     fors: ForStack,
     vars: &mut [u16],
@@ -170,11 +171,11 @@ pub fn run_plain(
     table: &[u16],
 ) -> Plain
     requires { ⌜ ((length (now ops) ≤ length (now values)) × (length (now page) ≤ 65535) × (used (now page) ≤ 65535)) × Indexed (now page) (now table) ⌝ }
-    ensures { λ r. ⌜ RunsPlainly (now (ops .entry)) (now (page .entry)) sense flags dos fors (now (vars .entry)) (now (memory .entry)) r (now (vars .exit)) (now (values .exit)) ⌝ }
+    ensures { λ r. ⌜ RunsPlainly (now (ops .entry)) (now (page .entry)) flags sight dos fors (now (vars .entry)) (now (memory .entry)) r (now (vars .exit)) (now (values .exit)) ⌝ }
 {
     let mut i: usize = 0;
     loop {
-        let r = operation::values_first(ops, i, vars, flags, sense, page, memory, values);
+        let r = operation::values_first(ops, i, vars, flags, sight, page, memory, values);
         match r {
             Reached::No(n) => {
                 return Plain::Ends(Way::Stop(n));
@@ -214,7 +215,7 @@ pub fn run_ops_from(
     here: Place,
     page: &[u8],
     input: &[u8],
-    sense: u8,
+    sight: Sight,
     vars: &mut [u16],
     memory: &mut [u8],
     output: &mut [u8],
@@ -225,7 +226,7 @@ pub fn run_ops_from(
     table: &[u16],
 ) -> Did
     requires { ⌜ (Fair (now page) (now ops) (now values) (now reply) (now replies) × (filled ≤ from)) × Indexed (now page) (now table) ⌝ }
-    ensures { λ r. ⌜ didIn r (now (vars .exit)) (now (memory .exit)) (now (output .exit)) ≡ runOps (envWith (length (now (reply .entry))) (now (page .entry)) (now (input .entry)) sense here) (drop from (now (ops .entry))) (worldWith (now (vars .entry)) parts (now (memory .entry)) (now (output .entry))) (stackOf (now (values .entry)) filled) ⌝ }
+    ensures { λ r. ⌜ didIn r (now (vars .exit)) (now (memory .exit)) (now (output .exit)) ≡ runOps (envWith (length (now (reply .entry))) (now (page .entry)) (now (input .entry)) sight here) (drop from (now (ops .entry))) (worldWith (now (vars .entry)) parts (now (memory .entry)) (now (output .entry))) (stackOf (now (values .entry)) filled) ⌝ }
 {
     let mut p = parts;
     let mut height: usize = filled;
@@ -239,7 +240,7 @@ pub fn run_ops_from(
                 op,
                 vars,
                 p.flags,
-                sense,
+                sight,
                 page,
                 memory,
                 values,
@@ -263,7 +264,7 @@ pub fn run_ops_from(
                     &ops[i + 1..],
                     page,
                     input,
-                    sense,
+                    sight,
                     vars,
                     memory,
                     output,
@@ -284,6 +285,7 @@ pub fn run_ops_from(
                 here,
                 page,
                 input,
+                sight.access,
                 vars,
                 memory,
                 output,
@@ -310,7 +312,7 @@ pub fn run_ops(
     here: Place,
     page: &[u8],
     input: &[u8],
-    sense: u8,
+    sight: Sight,
     vars: &mut [u16],
     memory: &mut [u8],
     output: &mut [u8],
@@ -321,7 +323,7 @@ pub fn run_ops(
     table: &[u16],
 ) -> Did
     requires { ⌜ Fair (now page) (now ops) (now values) (now reply) (now replies) × Indexed (now page) (now table) ⌝ }
-    ensures { λ r. ⌜ didIn r (now (vars .exit)) (now (memory .exit)) (now (output .exit)) ≡ runOps (envWith (length (now (reply .entry))) (now (page .entry)) (now (input .entry)) sense here) (now (ops .entry)) (worldWith (now (vars .entry)) parts (now (memory .entry)) (now (output .entry))) [] ⌝ }
+    ensures { λ r. ⌜ didIn r (now (vars .exit)) (now (memory .exit)) (now (output .exit)) ≡ runOps (envWith (length (now (reply .entry))) (now (page .entry)) (now (input .entry)) sight here) (now (ops .entry)) (worldWith (now (vars .entry)) parts (now (memory .entry)) (now (output .entry))) [] ⌝ }
 {
     run_ops_from(
         ops,
@@ -330,7 +332,7 @@ pub fn run_ops(
         here,
         page,
         input,
-        sense,
+        sight,
         vars,
         memory,
         output,

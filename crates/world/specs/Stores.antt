@@ -1,8 +1,13 @@
 -- What the answers of memory's functions say.
-use Prim.Native.Nat.{ℕ, _%_}
+use Prim.Native.Nat.{ℕ, _+_, _%_}
+use mathlib.Core.Bool.{not}
 use mathlib.Core.List.{List, map}
+use lib.Dec.{leb}
+use Rattle.nibl.specs.Bytes.{if_then_else_}
 use Rattle.nibl.specs.Values.{Result, is, no}
+use Rattle.nibl.specs.Access.{mayWrite}
 use Rattle.nibl.specs.Meaning.{World, withMemory, Next, on, stop, Done, done}
+use Rattle.nibl.specs.declared.access.Access.{Access}
 use Rattle.codes.specs.Codes.{argumentIn}
 use Rattle.world.specs.declared.memory.Extent.{Extent}
 use Rattle.world.specs.declared.memory.Extent.the-variants as extent
@@ -13,6 +18,13 @@ use Rattle.world.specs.declared.memory.StoreEnd.the-variants as storeEnd
 abbrev pub extentOf : Extent → Result ℕ
 extentOf (extent.To e) = is e
 extentOf (extent.No n) = no n
+
+-- a store of n bytes from a on into a memory of so many: whether it may be done
+abbrev pub storeEnds : Access → ℕ → ℕ → ℕ → StoreEnd
+storeEnds x memory a n =
+    if not (leb (a + n) memory) then storeEnd.No 16
+    else if mayWrite x a n then storeEnd.Done
+    else storeEnd.No 21
 
 -- a memory after a store, and how it ended
 pub record AfterStore : Type 0 where

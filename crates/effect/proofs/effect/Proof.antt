@@ -1,6 +1,6 @@
 -- `effect` meets its contract: for each code the law of its answer. Assumes nothing.
 use lib.ListN.{length}
-use Rattle.effect.specs.Worlds.{envWith}
+use Rattle.effect.specs.Worlds.{unsensing, envWith}
 use Rattle.effect.proofs.Codes.{Given, let-var, let-stat, let-byte, let-copy, goto, gosub, return, room, put-byte, put-stored, put-number, put-line, if-then, do-here, until, for, next, input-text, end}
 use borrow.Author.Needs.{needs}
 use Rattle.effect.proofs.effect.Statement.{statement}
@@ -12,7 +12,7 @@ given c =
     let s = c .before .before .before .before .before .before .before in
     let a = s .args in
     record {
-      env = envWith (length (a .reply .now)) (a .page .now) (a .input .now) 0 (a .here);
+      env = envWith (length (a .reply .now)) (a .page .now) (a .input .now) (unsensing (a .access)) (a .here);
       short = s .pre .0;
       arg = a .arg;
       x = a .x;

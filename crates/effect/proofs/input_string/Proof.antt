@@ -23,7 +23,7 @@ returns : tie.Need-returns
 returns c =
     let a = c .before .before .before .before .before .before .before .before .before .before .before .before .before .before .before .before .args in
     let h = rw (c .before .before .before .r .given .1) at (c .before .before .before .before .before .before .before .before .before .ask .ensures .0) in
-    rw (c .ends .ensures, c .before .at-positions .ensures) (no-reply (a .parts) (a .memory .now) (a .output .now) (length (a .reply .now)) (a .input .now) (a .x) h)
+    rw (c .ends .ensures, c .before .at-positions .ensures) (no-reply (a .access) (a .parts) (a .memory .now) (a .output .now) (length (a .reply .now)) (a .input .now) (a .x) h)
 
 same-length-4 : tie.Need-same-length-4
 same-length-4 c = search (needs, c .before .before .before .before .before .before .before .before .before .before .before .before .before .output .given)
@@ -32,7 +32,7 @@ returns-2 : tie.Need-returns-2
 returns-2 c =
     let a = c .before .before .before .before .before .before .before .before .before .before .before .before .before .before .before .before .before .before .before .before .before .args in
     let h = rw (c .before .before .before .before .before .before .before .before .r2 .given .1) at (c .before .before .before .before .before .before .before .before .before .before .before .before .before .before .ask .ensures .0) in
-    rw (c .store-ends .ensures, c .before .at-positions2 .ensures) (reply-stored (a .parts) (a .memory .now) (a .output .now) (length (a .reply .now)) (a .input .now) (a .x) (c .before .before .before .before .store-text .result) h (c .before .before .before .before .store-text .ensures))
+    rw (c .store-ends .ensures, c .before .at-positions2 .ensures) (reply-stored (a .access) (a .parts) (a .memory .now) (a .output .now) (length (a .reply .now)) (a .input .now) (a .x) (c .before .before .before .before .store-text .result) h (c .before .before .before .before .store-text .ensures))
 
 pub input-string-spec : {M : Type 1} → statement M
 input-string-spec =

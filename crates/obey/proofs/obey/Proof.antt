@@ -4,6 +4,7 @@ use mathlib.Core.Bool.{true}
 use native.Mathlib.Omega.{arith}
 use lib.ListN.{length}
 use Rattle.nibl.specs.Record.{place, mark}
+use Rattle.nibl.specs.Lent.{sightOf}
 use Rattle.effect.specs.Worlds.{envWith}
 use Rattle.page.specs.Standing.{Bytes}
 use Rattle.table.specs.Index.{keptTrue}
@@ -22,7 +23,7 @@ given c =
     let p = c .before .before .before .before .before .before .before .before .before in
     let a = p .before .args in
     record {
-      env = envWith (length (a .reply .now)) (a .page .now) (a .input .now) (a .call .sense) (place mark);
+      env = envWith (length (a .reply .now)) (a .page .now) (a .input .now) (sightOf (a .call)) (place mark);
       budget = a .call .budget;
       session = a .session;
       memory = a .memory .now;

@@ -14,7 +14,7 @@ use Rattle.nibl.specs.found.Read.{typed}
 use Rattle.nibl.specs.found.Column.{columnOf}
 use Rattle.nibl.specs.Record.{place, mark, unpaused}
 use Rattle.nibl.specs.Lent.{Lent, Outcome, lentAll, refusedLine, withPositions}
-use Rattle.nibl.specs.Lent.{begun, lentEnv}
+use Rattle.nibl.specs.Lent.{begun, sightOf, lentEnv}
 use Rattle.nibl.specs.Calls.{obeyRead, obeyLine}
 use Rattle.nibl.specs.declared.Session.{Session}
 use Rattle.nibl.specs.declared.Call.{Call}
@@ -176,7 +176,7 @@ returns-3 c =
     let t : List ℕ = take (c .before .before .before .before .before .before .before .before .before .before .before .before .before .before .before .before .before .before .before .before .before .before .before .before .before .before .before .before .before .before .before .before .before .before .before .g2 .given .0 .1 .0) (slots r) in
     let k = c .before .before .before .before .before .before .before .before .before .before .before .before .before .before .before .before .obey .ensures in (
       k .0
-          ∙ ap (λ (k : Call). obeyRead (k .budget) (envWith (lim r) (a .page .now) (a .input .now) (k .sense) (place mark)) (worldAt (x .result) (a .memory .now) (a .output .now) (k .inpos) (k .outpos)) (columnOf t) (typed t)) (c .before .before .before .before .before .before .before .before .before .before .before .before .before .before .before .before .before .before .before .before .before .before .before .at .ensures)
+          ∙ ap (λ (k : Call). obeyRead (k .budget) (envWith (lim r) (a .page .now) (a .input .now) (sightOf k) (place mark)) (worldAt (x .result) (a .memory .now) (a .output .now) (k .inpos) (k .outpos)) (columnOf t) (typed t)) (c .before .before .before .before .before .before .before .before .before .before .before .before .before .before .before .before .before .before .before .before .before .before .before .at .ensures)
           ∙ ap (λ (s : Session). obeyRead (a .call .budget) (lentEnv (lim r) (all r)) (worldAt s (a .memory .now) (a .output .now) (c .before .before .before .before .before .before .before .before .before .before .before .before .before .before .before .before .before .before .before .before .before .before .before .before .before .before .before .before .before .before .before .before .before .before .before .g2 .given .0 .0) (a .call .outpos)) (columnOf t) (typed t)) (x .ensures)
           ∙ ends-line (all r) (lim r) (kept r (c .before .before .before .before .before .before .before .before .before .before .before .before .before .before .before .before .before .before .before .before .before .before .before .before .before .before .before .before .before .before .before .before .before .before .before .g2 .given .1)),
       k .1,

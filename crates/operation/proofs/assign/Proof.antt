@@ -19,12 +19,12 @@ use Rattle.operation.proofs.assign.Statement.{statement}
 use Rattle.operation.proofs.assign.Tie as tie
 
 abbrev Inv-loop : tie.InvT-loop
-Inv-loop rest n text flags sense page vars₀ memory ops₀ values₀ c₀ i₀ vars ops values c i =
+Inv-loop rest n text flags sight page vars₀ memory ops₀ values₀ c₀ i₀ vars ops values c i =
     (length vars ≡ length vars₀) × (length ops ≡ length ops₀) × (length values ≡ length values₀)
-    × Remains n text rest (assigning (sources vars₀ flags sense page memory) (variablesOf rest) (replied n text)) (sources vars flags sense page memory) (c .at) i
+    × Remains n text rest (assigning (sources vars₀ flags sight page memory) (variablesOf rest) (replied n text)) (sources vars flags sight page memory) (c .at) i
 
 abbrev μ-loop : tie.MeasureT-loop
-μ-loop rest n text flags sense page vars₀ memory ops₀ values₀ c₀ i₀ vars ops values c i = length rest - i
+μ-loop rest n text flags sight page vars₀ memory ops₀ values₀ c₀ i₀ vars ops values c i = length rest - i
 
 loop-holds : tie.Need-loop-holds Inv-loop μ-loop
 loop-holds c = let a = c .before .before .before .before .before .before .before .args in (refl, refl, refl, begins (a .n) (a .text .now) (a .rest .now) _ (c .before .before .before .before .before .before .before .pre .reply))

@@ -12,7 +12,7 @@ slice-write-values c = let h = c .before .before .before .before .before .before
 returns : tie.Need-returns
 returns c =
     let a = c .before .before .before .before .before .before .before .before .before .before .before .before .args in (
-      step-is (sources (a .vars .now) (a .flags) (a .sense) (a .page .now) (a .memory .now)) (a .op) (a .values .now) (a .height)
+      step-is (sources (a .vars .now) (a .flags) (a .sight) (a .page .now) (a .memory .now)) (a .op) (a .values .now) (a .height)
           (c .before .before .before .v .given .0 .0) (c .before .taken .result) (c .below .result)
           (rw (← c .before .before .before .before .before .before .before .before .before .before .before .before .pre .2, ← c .before .before .before .before .before .before .nth .ensures) (rw (c .before .before .before .v .given .1) at (c .before .before .before .before .before .value-by .ensures))) (c .before .taken .ensures) (c .below .ensures) (c .before .before .before .before .before .before .before .before .before .before .before .before .pre .0),
       let d = c .below .ensures in omega arith,
@@ -22,7 +22,7 @@ returns c =
 returns-2 : tie.Need-returns-2
 returns-2 c =
     let a = c .before .before .before .before .before .before .before .before .before .before .args in (
-      step-no (sources (a .vars .now) (a .flags) (a .sense) (a .page .now) (a .memory .now)) (a .op) (a .values .now) (a .height) (c .before .v2 .given .0 .0)
+      step-no (sources (a .vars .now) (a .flags) (a .sight) (a .page .now) (a .memory .now)) (a .op) (a .values .now) (a .height) (c .before .v2 .given .0 .0)
           (rw (← c .before .before .before .before .before .before .before .before .before .before .pre .2, ← c .before .before .before .before .nth .ensures) (rw (c .before .v2 .given .1) at (c .before .before .before .value-by .ensures))),
       omega arith,
       top-none (a .values .now),

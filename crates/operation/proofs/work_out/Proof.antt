@@ -13,17 +13,17 @@ use Rattle.operation.proofs.work_out.Statement.{statement}
 use Rattle.operation.proofs.work_out.Tie as tie
 
 abbrev Inv-loop : tie.InvT-loop
-Inv-loop ops vars flags sense page memory values₀ height₀ top₀ i₀ values height top i =
+Inv-loop ops vars flags sight page memory values₀ height₀ top₀ i₀ values height top i =
     (height ≤ i) × (i ≤ length ops) × (length values ≡ length values₀) × (top ≡ topIn values height)
-    × (workOut (sources vars flags sense page memory) ops [] ≡ workOut (sources vars flags sense page memory) (drop i ops) (stackOf values height))
+    × (workOut (sources vars flags sight page memory) ops [] ≡ workOut (sources vars flags sight page memory) (drop i ops) (stackOf values height))
 
 abbrev μ-loop : tie.MeasureT-loop
-μ-loop ops vars flags sense page memory values₀ height₀ top₀ i₀ values height top i = length ops - i
+μ-loop ops vars flags sight page memory values₀ height₀ top₀ i₀ values height top i = length ops - i
 
 loop-holds : tie.Need-loop-holds Inv-loop μ-loop
 loop-holds c =
     let a = c .before .before .before .before .before .args in
-    (omega arith, omega arith, refl, top-none (a .values .now), ap (workOut (sources (a .vars .now) (a .flags) (a .sense) (a .page .now) (a .memory .now)) (a .ops .now)) (sym (stack-none (a .values .now))))
+    (omega arith, omega arith, refl, top-none (a .values .now), ap (workOut (sources (a .vars .now) (a .flags) (a .sight) (a .page .now) (a .memory .now)) (a .ops .now)) (sym (stack-none (a .values .now))))
 
 value-step-requires : tie.Need-value-step-requires Inv-loop μ-loop
 value-step-requires c κs = let h = c .before .before .before .before .before .before .before .before .before .pre in let v = c .before .before .before .loop .inv in let t = c .before .before .loop-test .taken in (omega arith, h .1, v .3)
@@ -46,7 +46,7 @@ loop-again c =
       omega arith,
       q .kept .1 .1 .1 .1 .1 .1 .0 ∙ l .inv .2,
       rw (c .before .r .given .1) at (q .ensures .2),
-      l .inv .4 ∙ work-on (sources (a .vars .now) (a .flags) (a .sense) (a .page .now) (a .memory .now)) (a .ops .now) (stackOf (l .values) (l .height)) (l .i) t
+      l .inv .4 ∙ work-on (sources (a .vars .now) (a .flags) (a .sight) (a .page .now) (a .memory .now)) (a .ops .now) (stackOf (l .values) (l .height)) (l .i) t
           (rw (c .before .r .given .1) at (q .ensures .0)),
     )
 
@@ -59,7 +59,7 @@ returns c =
     let l = c .before .before .before .before .before .before .before .before .before .loop in
     topmost
     (l .inv .4
-    ∙ work-off (sources (a .vars .now) (a .flags) (a .sense) (a .page .now) (a .memory .now)) (a .ops .now) (stackOf (l .values) (l .height)) (l .i) (c .before .before .before .before .before .before .before .before .loop-test .taken)
+    ∙ work-off (sources (a .vars .now) (a .flags) (a .sight) (a .page .now) (a .memory .now)) (a .ops .now) (stackOf (l .values) (l .height)) (l .i) (c .before .before .before .before .before .before .before .before .loop-test .taken)
     (rw (c .before .r2 .given .1) at (c .before .before .before .before .before .value-step .ensures .0)))
 
 returns-2 : tie.Need-returns-2 Inv-loop μ-loop
@@ -69,7 +69,7 @@ returns-2 c =
     ap is (l .inv .3)
     ∙ topmost
     (l .inv .4
-    ∙ work-end (sources (a .vars .now) (a .flags) (a .sense) (a .page .now) (a .memory .now)) (a .ops .now) (stackOf (l .values) (l .height)) (l .i) (c .loop-test .left))
+    ∙ work-end (sources (a .vars .now) (a .flags) (a .sight) (a .page .now) (a .memory .now)) (a .ops .now) (stackOf (l .values) (l .height)) (l .i) (c .loop-test .left))
 
 pub work-out-spec : {M : Type 1} → statement M
 work-out-spec =

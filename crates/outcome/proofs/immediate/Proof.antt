@@ -9,13 +9,14 @@ use Rattle.nibl.specs.found.Read.{typed}
 use Rattle.nibl.specs.found.Column.{columnOf}
 use Rattle.nibl.specs.Record.{place, mark, positionOf, partsOf, sessionOf}
 use Rattle.nibl.specs.Meaning.{World, Env, Done, done, exec}
-use Rattle.nibl.specs.Lent.{Outcome}
+use Rattle.nibl.specs.Lent.{Outcome, sightOf}
 use Rattle.nibl.specs.Runs.{runFrom, runOutcome}
 use Rattle.nibl.specs.Calls.{afterImmediate, obeyRead}
 use Rattle.nibl.specs.declared.Session.{Session}
 use Rattle.nibl.specs.declared.Call.{Call}
 use Rattle.nibl.specs.declared.Place.{Place}
 use Rattle.nibl.specs.declared.Parts.{Parts}
+use Rattle.nibl.specs.declared.access.Sight.{Sight}
 use Rattle.nibl.specs.Page.{isGood, placesOf}
 use Rattle.nibl.specs.declared.Onward.{Onward}
 use Rattle.page.specs.Standing.{Stands}
@@ -35,8 +36,11 @@ use Rattle.outcome.proofs.immediate.Tie as tie
 
 -- after the statement: what it was lent, and what it did
 module _ (r : tie.After-run-ops) where
+  abbrev sighted : tie.After-sight
+  sighted = r .before .before .before .before .before .before .before .before .before .before .before
+
   abbrev start : tie.Start
-  start = r .before .before .before .before .before .before .before .before .before .before .before .before .before .before .before .before .before .before .before .before .before
+  start = sighted .before .before .before .before .before .before .before .before .before .before .before
 
   abbrev page : List ℕ
   page = start .args .page .now
@@ -51,7 +55,7 @@ module _ (r : tie.After-run-ops) where
   vars = r .run-ops .last .1 .1 .1 .1 .1 .0
 
   abbrev env : Env
-  env = envWith (length (start .args .reply .now)) page (start .args .input .now) (start .args .call .sense) (place mark)
+  env = envWith (length (start .args .reply .now)) page (start .args .input .now) (sightOf (start .args .call)) (place mark)
 
   abbrev world : World
   world = worldAt (start .args .session) (start .args .memory .now) (start .args .output .now) (start .args .call .inpos) (start .args .call .outpos)
@@ -65,9 +69,10 @@ module _ (r : tie.After-run-ops) where
   did : left ≡ exec env (start .pre .0 .2 .tree) world
   did =
       let a = start .args in
-      executes (start .pre .0 .0) (start .pre .0 .1) (start .pre .0 .2) (a .input .now) (a .call .sense) (a .call .inpos) (a .call .outpos) (a .memory .now) (a .output .now) (r .before .before .before .before .before .before .before .before .before .parts .ensures)
+      executes (start .pre .0 .0) (start .pre .0 .1) (start .pre .0 .2) (a .input .now) (sightOf (a .call)) (a .call .inpos) (a .call .outpos) (a .memory .now) (a .output .now) (r .before .before .before .before .before .before .before .before .before .parts .ensures)
       (r .run-ops .ensures
-      ∙ ap (λ (p : Place). runOps (envWith (length (a .reply .now)) page (a .input .now) (a .call .sense) p) (take (a .n) (a .ops .now)) (worldWith (a .session .vars) (r .before .before .before .before .before .before .before .before .before .parts .result) (a .memory .now) (a .output .now)) []) (r .before .before .before .before .before .before .before .mark .ensures))
+      ∙ ap (λ (x : Sight). runOps (envWith (length (a .reply .now)) page (a .input .now) x (r .before .before .before .before .before .before .before .mark .result)) (take (a .n) (a .ops .now)) (worldWith (a .session .vars) (r .before .before .before .before .before .before .before .before .before .parts .result) (a .memory .now) (a .output .now)) []) (sighted .sight .ensures)
+      ∙ ap (λ (p : Place). runOps (envWith (length (a .reply .now)) page (a .input .now) (sightOf (a .call)) p) (take (a .n) (a .ops .now)) (worldWith (a .session .vars) (r .before .before .before .before .before .before .before .before .before .parts .result) (a .memory .now) (a .output .now)) []) (r .before .before .before .before .before .before .before .mark .ensures))
 
   -- the call's end, by the way that the statement went
   ends : {w : Way} {x : Outcome} → r .run-ops .result .way ≡ w → x ≡ afterImmediate (start .args .call .budget) env (done (wayOf w) after)
@@ -75,13 +80,13 @@ module _ (r : tie.After-run-ops) where
   ends t h =
       let a = start .args in
       h ∙ ap (λ (w : Way). afterImmediate (a .call .budget) env (done (wayOf w) after)) (sym t)
-      ∙ obeyed (start .pre .0 .0) (start .pre .0 .1) (start .pre .0 .2) (a .input .now) (a .call .sense) (a .call .inpos) (a .call .outpos) (a .memory .now) (a .output .now) did
+      ∙ obeyed (start .pre .0 .0) (start .pre .0 .1) (start .pre .0 .2) (a .input .now) (sightOf (a .call)) (a .call .inpos) (a .call .outpos) (a .memory .now) (a .output .now) did
 
   -- where it goes on, a run may stand
   stands : {o : Onward} → r .run-ops .result .way ≡ way.Go o → Stands (placesOf page) (positionOf o) × Fit (placesOf page) (after .session)
   stands t =
       let a = start .args in
-      onto (start .pre .0 .0) (start .pre .0 .1) (start .pre .0 .2) (a .input .now) (a .call .sense) (a .call .inpos) (a .call .outpos) (a .memory .now) (a .output .now) (ap (λ (w : Way). done (wayOf w) after) (sym t) ∙ did)
+      onto (start .pre .0 .0) (start .pre .0 .1) (start .pre .0 .2) (a .input .now) (sightOf (a .call)) (a .call .inpos) (a .call .outpos) (a .memory .now) (a .output .now) (ap (λ (w : Way). done (wayOf w) after) (sym t) ∙ did)
 
   -- the lists are as long as they were
   lists : Lists (r .run-ops .last .1 .1 .1 .1 .1 .1 .1 .1 .0) (r .run-ops .last .1 .1 .1 .1 .1 .1 .1 .1 .1 .0) (r .run-ops .last .1 .1 .1 .1 .1 .1 .1 .1 .1 .1 .0) (start .args .ops .now)
@@ -98,19 +103,19 @@ module _ (r : tie.After-run-ops) where
       record { short = omega arith; room = omega arith; stack = omega arith; replyOps = omega arith; replyValues = omega arith }
 
 slice-aggregate-run-ops : tie.Need-slice-aggregate-run-ops
-slice-aggregate-run-ops c = let s = c .before .before .before .before .before .before .before .before .before .before .before .before .before in sym (length-take-le (s .args .n) (s .args .ops .now) (s .pre .0 .2 .few))
+slice-aggregate-run-ops c = let s = c .before .before .before .before .before .before .before .before .before .before .before .before .before .before in sym (length-take-le (s .args .n) (s .args .ops .now) (s .pre .0 .2 .few))
 
 slice-aggregate-run-ops-2 : tie.Need-slice-aggregate-run-ops-2
-slice-aggregate-run-ops-2 c = sym (c .before .before .before .before .before .before .before .before .before .before .before .before .before .before .before .pre .0 .1 .fits .vars)
+slice-aggregate-run-ops-2 c = sym (c .before .before .before .before .before .before .before .before .before .before .before .before .before .before .before .before .pre .0 .1 .fits .vars)
 
 slice-reshare-prefix-run-ops : tie.Need-slice-reshare-prefix-run-ops
-slice-reshare-prefix-run-ops c = let s = c .before .before .before .before .before .before .before .before .before .before .before .before in s .pre .0 .2 .few
+slice-reshare-prefix-run-ops c = let s = c .before .before .before .before .before .before .before .before .before .before .before .before .before in s .pre .0 .2 .few
 
 run-ops-requires : tie.Need-run-ops-requires
 run-ops-requires c κs =
-    let s = c .before .before .before .before .before .before .before .before .before .before .before .before .before .before .before .before .before .before .before .before in
+    let s = c .before .before .before .before .before .before .before .before .before .before .before .before .before .before .before .before .before .before .before .before .before in
     let a = s .args in
-    (fair (s .pre .0 .0) (s .pre .0 .1) (s .pre .0 .2) (a .input .now) (a .call .sense) (a .call .inpos) (a .call .outpos) (a .memory .now) (a .output .now), s .pre .1)
+    (fair (s .pre .0 .0) (s .pre .0 .1) (s .pre .0 .2) (a .input .now) (sightOf (a .call)) (a .call .inpos) (a .call .outpos) (a .memory .now) (a .output .now), s .pre .1)
 
 run-from-requires : tie.Need-run-from-requires
 run-from-requires c κs =
@@ -160,8 +165,8 @@ returns-4 c =
     let p = r .run-ops .result .parts in
     ends r (c .before .before .before .before .before .before .before .before .before .before .before .before .before .before .before .before .before .before .before .before .before .way2 .given .1)
     (c .before .before .before .before .before .before .before .before .before .before .before .before .run-from .ensures
-    ∙ ap (λ (k : Call). runOutcome (runFrom (k .budget) (envWith (length (r .run-ops .last .1 .1 .1 .1 .1 .1 .1 .1 .0)) (page r) (a .input .now) (k .sense) (place mark)) q (worldAt (c .before .before .before .before .before .before .before .before .before .before .before .before .before .before .before .before .before .before .before .before .before .before .before .session .result) (memory r) (output r) (k .inpos) (k .outpos))) (page r)) (c .before .before .before .before .before .before .before .before .before .before .before .before .before .before .before .before .before .at .ensures)
-    ∙ ap (λ (n : ℕ). runOutcome (runFrom (a .call .budget) (envWith n (page r) (a .input .now) (a .call .sense) (place mark)) q (worldAt (c .before .before .before .before .before .before .before .before .before .before .before .before .before .before .before .before .before .before .before .before .before .before .before .session .result) (memory r) (output r) (p .inpos) (p .outpos))) (page r)) (r .run-ops .kept .1 .1 .1 .1 .1 .1 .1 .1 .0)
+    ∙ ap (λ (k : Call). runOutcome (runFrom (k .budget) (envWith (length (r .run-ops .last .1 .1 .1 .1 .1 .1 .1 .1 .0)) (page r) (a .input .now) (sightOf k) (place mark)) q (worldAt (c .before .before .before .before .before .before .before .before .before .before .before .before .before .before .before .before .before .before .before .before .before .before .before .session .result) (memory r) (output r) (k .inpos) (k .outpos))) (page r)) (c .before .before .before .before .before .before .before .before .before .before .before .before .before .before .before .before .before .at .ensures)
+    ∙ ap (λ (n : ℕ). runOutcome (runFrom (a .call .budget) (envWith n (page r) (a .input .now) (sightOf (a .call)) (place mark)) q (worldAt (c .before .before .before .before .before .before .before .before .before .before .before .before .before .before .before .before .before .before .before .before .before .before .before .session .result) (memory r) (output r) (p .inpos) (p .outpos))) (page r)) (r .run-ops .kept .1 .1 .1 .1 .1 .1 .1 .1 .0)
     ∙ ap (λ (x : Session). runOutcome (runFrom (a .call .budget) (env r) q (worldAt x (memory r) (output r) (p .inpos) (p .outpos))) (page r)) (c .before .before .before .before .before .before .before .before .before .before .before .before .before .before .before .before .before .before .before .before .before .before .before .session .ensures))
 
 same-length : tie.Need-same-length
@@ -231,6 +236,7 @@ pub immediate-spec : {M : Type 1} → statement M
 immediate-spec =
     tie.close
     (tie.spec
+    (λ c κs. search needs)
     (λ c κs. search needs)
     slice-reshare-prefix-run-ops
     slice-aggregate-run-ops

@@ -11,7 +11,7 @@ use Rattle.rounds.proofs.steps.Tie as tie
 
 run-steps-requires : tie.Need-run-steps-requires
 run-steps-requires c κs =
-    let d = c .before .before .before .before .before .before .before .before .before .before .before in
+    let d = c .before .before .before .before .before .before .before .before .before .before .before .before in
     let s = d .before .before .before .before .before .before .before in
     let good = sym (d .before .before .before .is-good .ensures) ∙ not-false _ (d .before .before .if2 .left) in
     let fitting = sym (d .before .fits2 .ensures) ∙ not-false _ (d .if3 .left) in
@@ -41,6 +41,7 @@ steps-spec =
     (λ c. search needs)
     (λ c κs. search needs)
     (λ c. search needs)
+    (λ c κs. search needs)
     (λ c. search needs)
     (λ c. search needs)
     (λ c. search needs)

@@ -43,15 +43,15 @@ use Rattle.run.proofs.run_steps.Statement.{statement}
 use Rattle.run.proofs.run_steps.Tie as tie
 
 abbrev Inv-loop : tie.InvT-loop
-Inv-loop budget page input sense vars₀ memory₀ output₀ reply₀ replies₀ values₀ ops₀ typed table q₀ p₀ left₀ steps₀ vars memory output reply replies values ops q p left steps =
+Inv-loop budget page input sight vars₀ memory₀ output₀ reply₀ replies₀ values₀ ops₀ typed table q₀ p₀ left₀ steps₀ vars memory output reply replies values ops q p left steps =
     (steps + left ≡ budget) × Stands (placesOf page) (positionOf q) × Fit (placesOf page) (worldWith vars p memory output .session)
     × (length vars ≡ length vars₀) × (length memory ≡ length memory₀) × (length output ≡ length output₀) × (length reply ≡ length reply₀)
     × (length replies ≡ length replies₀) × (length values ≡ length values₀) × (length ops ≡ length ops₀)
-    × (runOutcome (runFrom budget (envWith (length reply₀) page input sense (place mark)) (positionOf q₀) (worldWith vars₀ p₀ memory₀ output₀)) page
-    ≡ tally steps (runFrom left (envWith (length reply₀) page input sense (place mark)) (positionOf q) (worldWith vars p memory output)) page)
+    × (runOutcome (runFrom budget (envWith (length reply₀) page input sight (place mark)) (positionOf q₀) (worldWith vars₀ p₀ memory₀ output₀)) page
+    ≡ tally steps (runFrom left (envWith (length reply₀) page input sight (place mark)) (positionOf q) (worldWith vars p memory output)) page)
 
 abbrev μ-loop : tie.MeasureT-loop
-μ-loop budget page input sense vars₀ memory₀ output₀ reply₀ replies₀ values₀ ops₀ typed table q₀ p₀ left₀ steps₀ vars memory output reply replies values ops q p left steps = left
+μ-loop budget page input sight vars₀ memory₀ output₀ reply₀ replies₀ values₀ ops₀ typed table q₀ p₀ left₀ steps₀ vars memory output reply replies values ops q p left steps = left
 
 -- at the head of the loop: where the run stands, and its world
 module _ (l : tie.At-loop Inv-loop μ-loop) where
@@ -65,7 +65,7 @@ module _ (l : tie.At-loop Inv-loop μ-loop) where
   lim = length (start .args .reply .now)
 
   abbrev env : Env
-  env = envWith lim page (start .args .input .now) (start .args .sense) (place mark)
+  env = envWith lim page (start .args .input .now) (start .args .sight) (place mark)
 
   abbrev world : World
   world = worldWith (l .loop .vars) (l .loop .p) (l .loop .memory) (l .loop .output)
@@ -104,11 +104,11 @@ module _ (k : tie.After-known-told Inv-loop μ-loop) where
 
   -- a step, by what its operations did; the slots of the line are as many as before
   step : (d : Did) (vars memory output : List ℕ)
-      → didIn d vars memory output ≡ runOps (envWith (length (head .loop .reply)) (page head) (start head .args .input .now) (start head .args .sense) at) ops (world head) []
+      → didIn d vars memory output ≡ runOps (envWith (length (head .loop .reply)) (page head) (start head .args .input .now) (start head .args .sight) at) ops (world head) []
       → doneEnd (didIn d vars memory output) (position at) (position cr) ≡ stepOf (env head) (fetches .it) (world head)
   step d vars memory output e =
-      member-steps (envWith (length (head .loop .reply)) (page head) (start head .args .input .now) (start head .args .sense) (place mark)) (world head) (didIn d vars memory output) fetches (readable (lim head) (env head) (begun head .short) (begun head .good) (from head) (fetches .it) (head .loop .inv .1) (fetches .fetches)) e
-      ∙ ap (λ (n : ℕ). stepOf (envWith n (page head) (start head .args .input .now) (start head .args .sense) (place mark)) (fetches .it) (world head)) (head .loop .inv .6)
+      member-steps (envWith (length (head .loop .reply)) (page head) (start head .args .input .now) (start head .args .sight) (place mark)) (world head) (didIn d vars memory output) fetches (readable (lim head) (env head) (begun head .short) (begun head .good) (from head) (fetches .it) (head .loop .inv .1) (fetches .fetches)) e
+      ∙ ap (λ (n : ℕ). stepOf (envWith n (page head) (start head .args .input .now) (start head .args .sight) (place mark)) (fetches .it) (world head)) (head .loop .inv .6)
 
   fits : count ≤ length written
   fits = let c = rw (k .before .f .given .1) at (k .before .before .before .before .before .fetch .ensures .1) in let s = k .before .before .before .before .before .fetch .kept .1 .1 .1 .0 in omega arith
@@ -159,7 +159,7 @@ module _ (s : tie.After-run-plain Inv-loop μ-loop) where
 -- What a step came to, by any of its ways: its operations ended that way and left that, and what is lent is as long as before
 module _ (s : tie.After-run-plain Inv-loop μ-loop) where
   abbrev runs : Done
-  runs = runOps (envWith (length (loop s .loop .reply)) (page (loop s)) (start (loop s) .args .input .now) (start (loop s) .args .sense) (at (taken s))) (ops (taken s)) (world (loop s)) []
+  runs = runOps (envWith (length (loop s .loop .reply)) (page (loop s)) (start (loop s) .args .input .now) (start (loop s) .args .sight) (at (taken s))) (ops (taken s)) (world (loop s)) []
 
   record CameTo (vars memory output reply replies values : List ℕ) (p : Parts) (way : Way) : Type 0 where
     comes : didIn (did way p) vars memory output ≡ runs
@@ -215,7 +215,7 @@ module _ (s : tie.After-run-plain Inv-loop μ-loop) where
   -- with the parts
   needed : {i n : ℕ} (d : Did) {vars memory output reply replies values : List ℕ} → s .run-plain .result ≡ plain.Needs i n
       → didIn d vars memory output
-      ≡ runOps (envWith (length (loop s .loop .reply)) (page (loop s)) (start (loop s) .args .input .now) (start (loop s) .args .sense) (at (taken s))) (drop i (ops (taken s))) (worldWith (vars-plain s) (loop s .loop .p) (loop s .loop .memory) (loop s .loop .output)) (stackOf (values-plain s) n)
+      ≡ runOps (envWith (length (loop s .loop .reply)) (page (loop s)) (start (loop s) .args .input .now) (start (loop s) .args .sight) (at (taken s))) (drop i (ops (taken s))) (worldWith (vars-plain s) (loop s .loop .p) (loop s .loop .memory) (loop s .loop .output)) (stackOf (values-plain s) n)
       → (length vars ≡ length (vars-plain s)) × (length memory ≡ length (loop s .loop .memory)) × (length output ≡ length (loop s .loop .output)) × (length reply ≡ length (loop s .loop .reply)) × (length replies ≡ length (loop s .loop .replies)) × (length values ≡ length (values-plain s))
       → CameTo vars memory output reply replies values (d .parts) (d .way)
   needed d e h l =
@@ -282,7 +282,7 @@ loop-holds : tie.Need-loop-holds Inv-loop μ-loop
 loop-holds c =
     let a = c .before .before .before .before .before .before .before .before .before .before .before .args in
     let b = c .before .before .before .before .before .before .before .before .before .before .before .pre .0 in
-    let e = envWith (length (a .reply .now)) (a .page .now) (a .input .now) (a .sense) (place mark) in (
+    let e = envWith (length (a .reply .now)) (a .page .now) (a .input .now) (a .sight) (place mark) in (
       omega arith,
       b .stands,
       b .fits,

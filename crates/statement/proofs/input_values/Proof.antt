@@ -34,7 +34,7 @@ returns : tie.Need-returns
 returns c =
     let a = c .before .before .before .before .before .before .before .before .before .before .before .before .before .before .before .before .before .before .before .before .before .args in
     let h = rw (c .before .before .before .r .given .1) at (c .before .before .before .before .before .before .before .before .before .ask .ensures .0) in
-    rw (c .ends .ensures, c .before .at-positions .ensures) (no-reply (length (a .reply .now)) (a .input .now) (a .sense) (a .page .now) (variablesOf (a .rest .now)) (a .n) (a .parts) (a .vars .now) (a .memory .now) (a .output .now) h)
+    rw (c .ends .ensures, c .before .at-positions .ensures) (no-reply (length (a .reply .now)) (a .input .now) (a .sight) (a .page .now) (variablesOf (a .rest .now)) (a .n) (a .parts) (a .vars .now) (a .memory .now) (a .output .now) h)
 
 same-length-4 : tie.Need-same-length-4
 same-length-4 c = search (needs, c .before .before .before .before .before .before .before .before .before .before .before .before .before .before .before .before .before .before .before .output .given)
@@ -46,7 +46,7 @@ returns-2 : tie.Need-returns-2
 returns-2 c =
     let a = c .before .before .before .before .before .before .before .before .before .before .before .before .before .before .before .before .before .before .before .before .before .before .before .before .before .before .before .before .before .before .before .before .args in
     let h = rw (c .before .before .before .before .before .before .before .before .before .before .before .before .before .before .r2 .given .1) at (c .before .before .before .before .before .before .before .before .before .before .before .before .before .before .before .before .before .before .before .before .ask .ensures .0) in
-    rw (c .ends2 .ensures, c .before .at-positions2 .ensures) (reply-taken (length (a .reply .now)) (a .input .now) (a .sense) (a .page .now) (variablesOf (a .rest .now)) (a .n) (a .parts) (a .vars .now) (a .memory .now) (a .output .now) (c .before .before .before .before .before .before .before .before .take-reply .result) h (c .before .before .before .before .before .before .before .before .take-reply .ensures))
+    rw (c .ends2 .ensures, c .before .at-positions2 .ensures) (reply-taken (length (a .reply .now)) (a .input .now) (a .sight) (a .page .now) (variablesOf (a .rest .now)) (a .n) (a .parts) (a .vars .now) (a .memory .now) (a .output .now) (c .before .before .before .before .before .before .before .before .take-reply .result) h (c .before .before .before .before .before .before .before .before .take-reply .ensures))
 
 pub input-values-spec : {M : Type 1} → statement M
 input-values-spec =

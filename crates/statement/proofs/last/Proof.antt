@@ -17,9 +17,9 @@ returns : tie.Need-returns
 returns c =
     let a = c .before .before .before .before .before .before .before .before .before .before .before .before .before .before .before .args in
     rw (c .store-ends .ensures)
-    (store-in (a .parts) (a .vars .now) (a .memory .now) (a .output .now) (c .before .before .before .store-args .result) (storeAt (a .memory .now) (a .x) (argsOf (a .rest .now))) (c .before .before .before .store-args .ensures)
+    (store-in (a .parts) (a .vars .now) (a .memory .now) (a .output .now) (c .before .before .before .store-args .result) (storeAt (a .sight .access) (a .memory .now) (a .x) (argsOf (a .rest .now))) (c .before .before .before .store-args .ensures)
     ∙ sym
-    (last-stores (envWith (length (a .reply .now)) (a .page .now) (a .input .now) (a .sense) noPlace) (a .op) (a .x) (a .rest .now) (worldWith (a .vars .now) (a .parts) (a .memory .now) (a .output .now))
+    (last-stores (envWith (length (a .reply .now)) (a .page .now) (a .input .now) (a .sight) noPlace) (a .op) (a .x) (a .rest .now) (worldWith (a .vars .now) (a .parts) (a .memory .now) (a .output .now))
     (eq-eqb _ codeStoreString (c .before .before .before .before .before .if1 .taken))))
 
 returns-2 : tie.Need-returns-2
@@ -27,7 +27,7 @@ returns-2 c =
     let a = c .before .before .before .before .before .before .before .before .before .before .before .before .before .before .before .before .before .before .before .before .before .before .before .before .before .before .before .args in
     c .before .before .before .before .before .before .before .before .before .before .input-values .ensures
     ∙ sym
-    (last-asks (envWith (length (a .reply .now)) (a .page .now) (a .input .now) (a .sense) noPlace) (a .op) (a .x) (a .rest .now) (worldWith (a .vars .now) (a .parts) (a .memory .now) (a .output .now))
+    (last-asks (envWith (length (a .reply .now)) (a .page .now) (a .input .now) (a .sight) noPlace) (a .op) (a .x) (a .rest .now) (worldWith (a .vars .now) (a .parts) (a .memory .now) (a .output .now))
     (ne-eqb _ codeStoreString (c .before .before .before .before .before .before .before .before .before .before .before .before .before .before .before .before .before .if1 .left)))
 
 pub last-spec : {M : Type 1} → statement M

@@ -16,7 +16,7 @@ returns : tie.Need-returns
 returns c =
     let a = c .before .before .before .before .before .before .before .before .before .before .before .before .before .before .before .before .before .before .before .before .before .before .before .before .before .before .before .before .before .args in
     c .before .before .before .before .before .before .before .before .before .before .before .before .run-ops-from .ensures
-    ∙ ap (runOps (envWith (length (a .reply .now)) (a .page .now) (a .input .now) (a .sense) (a .here)) (a .ops .now) (worldWith (a .vars .now) (a .parts) (a .memory .now) (a .output .now))) (stack-none (a .values .now))
+    ∙ ap (runOps (envWith (length (a .reply .now)) (a .page .now) (a .input .now) (a .sight) (a .here)) (a .ops .now) (worldWith (a .vars .now) (a .parts) (a .memory .now) (a .output .now))) (stack-none (a .values .now))
 
 pub run-ops-spec : {M : Type 1} → statement M
 run-ops-spec =

@@ -18,14 +18,14 @@ use Rattle.statement.proofs.run_ops_from.Statement.{statement}
 use Rattle.statement.proofs.run_ops_from.Tie as tie
 
 abbrev Inv-loop : tie.InvT-loop
-Inv-loop ops from filled here page input sense vars₀ memory₀ output₀ reply₀ replies₀ values₀ table p₀ height₀ i₀ vars memory output reply replies values p height i =
+Inv-loop ops from filled here page input sight vars₀ memory₀ output₀ reply₀ replies₀ values₀ table p₀ height₀ i₀ vars memory output reply replies values p height i =
     (height ≤ i) × (length vars ≡ length vars₀) × (length memory ≡ length memory₀) × (length output ≡ length output₀)
     × (length reply ≡ length reply₀) × (length replies ≡ length replies₀) × (length values ≡ length values₀)
-    × (runOps (envWith (length reply₀) page input sense here) (drop from ops) (worldWith vars₀ p₀ memory₀ output₀) (stackOf values₀ filled)
-    ≡ runOps (envWith (length reply₀) page input sense here) (drop i ops) (worldWith vars p memory output) (stackOf values height))
+    × (runOps (envWith (length reply₀) page input sight here) (drop from ops) (worldWith vars₀ p₀ memory₀ output₀) (stackOf values₀ filled)
+    ≡ runOps (envWith (length reply₀) page input sight here) (drop i ops) (worldWith vars p memory output) (stackOf values height))
 
 abbrev μ-loop : tie.MeasureT-loop
-μ-loop ops from filled here page input sense vars₀ memory₀ output₀ reply₀ replies₀ values₀ table p₀ height₀ i₀ vars memory output reply replies values p height i = length ops - i
+μ-loop ops from filled here page input sight vars₀ memory₀ output₀ reply₀ replies₀ values₀ table p₀ height₀ i₀ vars memory output reply replies values p height i = length ops - i
 
 -- at the head of the loop: the list, the world, the values
 module _ (l : tie.At-loop Inv-loop μ-loop) where
@@ -36,7 +36,7 @@ module _ (l : tie.At-loop Inv-loop μ-loop) where
   slots = length (start .args .reply .now)
 
   abbrev env : Env
-  env = envWith slots (start .args .page .now) (start .args .input .now) (start .args .sense) (start .args .here)
+  env = envWith slots (start .args .page .now) (start .args .input .now) (start .args .sight) (start .args .here)
 
   abbrev ops : List ℕ
   ops = start .args .ops .now
@@ -141,7 +141,7 @@ returns-2 c =
     let a = start l .args in
     sym
     (l .loop .inv .7
-    ∙ last-run (slots l) (a .page .now) (a .input .now) (a .sense) (a .here) (ops l) (world l) (values l) (l .loop .i) (s .last .result) (s .before .before .before .before .before .before .before .before .before .before .before .before .before .before .loop-test .taken) (s .before .before .before .before .before .before .before .before .before .before .if1 .left) (l .loop .inv .4) (s .before .before .before .before .before .before .before .before .before .before .before .nth .ensures)
+    ∙ last-run (slots l) (a .page .now) (a .input .now) (a .sight) (a .here) (ops l) (world l) (values l) (l .loop .i) (s .last .result) (s .before .before .before .before .before .before .before .before .before .before .before .before .before .before .loop-test .taken) (s .before .before .before .before .before .before .before .before .before .before .if1 .left) (l .loop .inv .4) (s .before .before .before .before .before .before .before .before .before .before .before .nth .ensures)
     (sym (s .before .before .before .before .before .before .before .before .before .is-last .ensures) ∙ s .before .before .before .before .before .before .before .before .if2 .taken) (part-rest (ops l) (l .loop .i + 1)) (s .last .ensures))
 
 effect-requires : tie.Need-effect-requires Inv-loop μ-loop
@@ -154,7 +154,7 @@ returns-3 c =
     let a = start l .args in
     sym
     (l .loop .inv .7
-    ∙ effect-off (slots l) (a .page .now) (a .input .now) (a .sense) (a .here) (ops l) (world l) (values l) (l .loop .i) (s .effect .result) (s .before .before .before .before .before .before .before .before .before .before .before .before .before .before .before .loop-test .taken) (s .before .before .before .before .before .before .before .before .before .before .before .if1 .left) (l .loop .inv .4) (s .before .before .before .before .before .before .before .before .before .before .before .before .nth .ensures)
+    ∙ effect-off (slots l) (a .page .now) (a .input .now) (a .sight) (a .here) (ops l) (world l) (values l) (l .loop .i) (s .effect .result) (s .before .before .before .before .before .before .before .before .before .before .before .before .before .before .before .loop-test .taken) (s .before .before .before .before .before .before .before .before .before .before .before .if1 .left) (l .loop .inv .4) (s .before .before .before .before .before .before .before .before .before .before .before .before .nth .ensures)
     (sym (s .before .before .before .before .before .before .before .before .before .before .is-last .ensures) ∙ s .before .before .before .before .before .before .before .before .before .if2 .left) (s .before .before .before .before .before .before .before .nth2 .ensures) (s .before .before .before .before .before .nth3 .ensures) (s .effect .ensures) (sym (c .before .is-on .ensures) ∙ not-true _ (c .if3 .taken)))
 
 add-i-2 : tie.Need-add-i-2 Inv-loop μ-loop
@@ -171,16 +171,16 @@ loop-again-2 c =
     let q = s .effect in
     let t = s .before .before .before .before .before .before .before .before .before .before .before .before .before .before .before .loop-test .taken in (
       omega arith,
-      q .kept .1 .1 .1 .1 .1 .1 .1 .1 .0 ∙ l .loop .inv .1,
-      q .kept .1 .1 .1 .1 .1 .1 .1 .1 .1 .0 ∙ l .loop .inv .2,
-      q .kept .1 .1 .1 .1 .1 .1 .1 .1 .1 .1 .0 ∙ l .loop .inv .3,
-      q .kept .1 .1 .1 .1 .1 .1 .1 .1 .1 .1 .1 .0 ∙ l .loop .inv .4,
+      q .kept .1 .1 .1 .1 .1 .1 .1 .1 .1 .0 ∙ l .loop .inv .1,
+      q .kept .1 .1 .1 .1 .1 .1 .1 .1 .1 .1 .0 ∙ l .loop .inv .2,
+      q .kept .1 .1 .1 .1 .1 .1 .1 .1 .1 .1 .1 .0 ∙ l .loop .inv .3,
+      q .kept .1 .1 .1 .1 .1 .1 .1 .1 .1 .1 .1 .1 .0 ∙ l .loop .inv .4,
       l .loop .inv .5,
       l .loop .inv .6,
       l .loop .inv .7
-          ∙ effect-on (slots l) (a .page .now) (a .input .now) (a .sense) (a .here) (ops l) (world l) (values l) (l .loop .i) (q .result) t (s .before .before .before .before .before .before .before .before .before .before .before .if1 .left) (l .loop .inv .4) (s .before .before .before .before .before .before .before .before .before .before .before .before .nth .ensures)
+          ∙ effect-on (slots l) (a .page .now) (a .input .now) (a .sight) (a .here) (ops l) (world l) (values l) (l .loop .i) (q .result) t (s .before .before .before .before .before .before .before .before .before .before .before .if1 .left) (l .loop .inv .4) (s .before .before .before .before .before .before .before .before .before .before .before .before .nth .ensures)
           (sym (s .before .before .before .before .before .before .before .before .before .before .is-last .ensures) ∙ s .before .before .before .before .before .before .before .before .before .if2 .left) (s .before .before .before .before .before .before .before .nth2 .ensures) (s .before .before .before .before .before .nth3 .ensures) (q .ensures) (sym (c .before .before .is-on .ensures) ∙ not-false _ (c .before .if3 .left))
-          ∙ ap (runOps (env l) (drop (l .loop .i + 1) (ops l)) (worldWith (q .last .1 .1 .1 .1 .1 .1 .1 .1 .0) (q .result .parts) (q .last .1 .1 .1 .1 .1 .1 .1 .1 .1 .0) (q .last .1 .1 .1 .1 .1 .1 .1 .1 .1 .1 .0))) (sym (stack-none (l .loop .values))),
+          ∙ ap (runOps (env l) (drop (l .loop .i + 1) (ops l)) (worldWith (q .last .1 .1 .1 .1 .1 .1 .1 .1 .1 .0) (q .result .parts) (q .last .1 .1 .1 .1 .1 .1 .1 .1 .1 .1 .0) (q .last .1 .1 .1 .1 .1 .1 .1 .1 .1 .1 .1 .0))) (sym (stack-none (l .loop .values))),
     )
 
 returns-4 : tie.Need-returns-4 Inv-loop μ-loop
@@ -230,10 +230,10 @@ run-ops-from-spec =
     (λ c κs. search needs)
     effect-requires
     (λ c κs. search needs)
-    (λ c. let s = off c in s .effect .kept .1 .1 .1 .1 .1 .1 .1 .1 .0 ∙ off-head s .loop .inv .1)
-    (λ c. let s = off c in s .effect .kept .1 .1 .1 .1 .1 .1 .1 .1 .1 .0 ∙ off-head s .loop .inv .2)
-    (λ c. let s = off c in s .effect .kept .1 .1 .1 .1 .1 .1 .1 .1 .1 .1 .0 ∙ off-head s .loop .inv .3)
-    (λ c. let s = off c in s .effect .kept .1 .1 .1 .1 .1 .1 .1 .1 .1 .1 .1 .0 ∙ off-head s .loop .inv .4)
+    (λ c. let s = off c in s .effect .kept .1 .1 .1 .1 .1 .1 .1 .1 .1 .0 ∙ off-head s .loop .inv .1)
+    (λ c. let s = off c in s .effect .kept .1 .1 .1 .1 .1 .1 .1 .1 .1 .1 .0 ∙ off-head s .loop .inv .2)
+    (λ c. let s = off c in s .effect .kept .1 .1 .1 .1 .1 .1 .1 .1 .1 .1 .1 .0 ∙ off-head s .loop .inv .3)
+    (λ c. let s = off c in s .effect .kept .1 .1 .1 .1 .1 .1 .1 .1 .1 .1 .1 .1 .0 ∙ off-head s .loop .inv .4)
     (λ c. off-head (off c) .loop .inv .5)
     (λ c. off-head (off c) .loop .inv .6)
     returns-3

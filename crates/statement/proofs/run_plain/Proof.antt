@@ -22,11 +22,11 @@ use Rattle.statement.proofs.run_plain.Statement.{statement}
 use Rattle.statement.proofs.run_plain.Tie as tie
 
 abbrev Inv-loop : tie.InvT-loop
-Inv-loop ops page sense flags dos fors vars₀ memory values₀ table i₀ vars values i =
-    (length vars ≡ length vars₀) × (length values ≡ length values₀) × Reaches (viewOf page sense flags dos fors memory) ops vars₀ i vars
+Inv-loop ops page flags sight dos fors vars₀ memory values₀ table i₀ vars values i =
+    (length vars ≡ length vars₀) × (length values ≡ length values₀) × Reaches (viewOf page flags sight dos fors memory) ops vars₀ i vars
 
 abbrev μ-loop : tie.MeasureT-loop
-μ-loop ops page sense flags dos fors vars₀ memory values₀ table i₀ vars values i = length ops - i
+μ-loop ops page flags sight dos fors vars₀ memory values₀ table i₀ vars values i = length ops - i
 
 -- at the head of the loop: what is seen, and the list
 module _ (l : tie.At-loop Inv-loop μ-loop) where
@@ -37,7 +37,7 @@ module _ (l : tie.At-loop Inv-loop μ-loop) where
   ops = start .args .ops .now
 
   abbrev sees : InView
-  sees = viewOf (start .args .page .now) (start .args .sense) (start .args .flags) (start .args .dos) (start .args .fors) (start .args .memory .now)
+  sees = viewOf (start .args .page .now) (start .args .flags) (start .args .sight) (start .args .dos) (start .args .fors) (start .args .memory .now)
 
 loop-holds : tie.Need-loop-holds Inv-loop μ-loop
 loop-holds c = (refl, refl, record { at = λ a. refl })

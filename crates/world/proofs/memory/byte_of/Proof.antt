@@ -1,24 +1,31 @@
--- `byte_of` meets its contract: both ways out are the definition's. Assumes nothing.
+-- `byte_of` meets its contract: all ways out are the definition's. Assumes nothing.
+use mathlib.Core.Path.{sym, _∙_}
 use native.Mathlib.Omega.{arith}
 use lib.ListN.{length}
-use borrow.Author.Tests.{lt-ltb, le-ltb}
+use borrow.Author.Needs.{needs}
+use borrow.Author.Tests.{lt-ltb, le-ltb, not-true, not-false}
 use Rattle.nibl.specs.Meaning.{byteOf}
 use Rattle.world.proofs.memory.byte_of.Statement.{statement}
 use Rattle.world.proofs.memory.byte_of.Tie as tie
 
 returns : tie.Need-returns
 unfolding byteOf
-returns c = let a = c .before .args in rw (le-ltb (a .a) (length (a .memory .now)) (c .if1 .taken))
-
-shared-slice-read-t7 : tie.Need-shared-slice-read-t7
-shared-slice-read-t7 c = omega arith
-
-cast-t8 : tie.Need-cast-t8
-cast-t8 c = omega (arith, c .shared-slice-known .given (c .before .before .args .a))
+returns c = let a = c .before .before .args in rw (le-ltb (a .a) (length (a .memory .now)) (c .if1 .taken))
 
 returns-2 : tie.Need-returns-2
 unfolding byteOf
-returns-2 c = let a = c .before .before .args in rw (lt-ltb (a .a) (length (a .memory .now)) (omega arith))
+returns-2 c =
+    let a = c .before .before .before .before .args in
+    rw (lt-ltb (a .a) (length (a .memory .now)) (c .before .before .if1 .left), sym (c .before .may-read .ensures) ∙ not-true _ (c .if2 .taken))
+
+cast-t10 : tie.Need-cast-t10
+cast-t10 c = omega (arith, c .shared-slice-known2 .given (c .before .before .before .before .before .args .a))
+
+returns-3 : tie.Need-returns-3
+unfolding byteOf
+returns-3 c =
+    let a = c .before .before .before .before .before .args in
+    rw (lt-ltb (a .a) (length (a .memory .now)) (c .before .before .before .if1 .left), sym (c .before .before .may-read .ensures) ∙ not-false _ (c .before .if2 .left))
 
 pub byte-of-spec : {M : Type 1} → statement M
-byte-of-spec = tie.close (tie.spec returns shared-slice-read-t7 cast-t8 returns-2)
+byte-of-spec = tie.close (tie.spec returns (λ c κs. search needs) returns-2 (λ c. search needs) cast-t10 returns-3)

@@ -6,7 +6,7 @@ use lib.ListN.{length, take, length-set}
 use lib.Seq.{sets, take-length}
 use borrow.Author.Needs.{needs}
 use Rattle.world.specs.Stores.{argsOf}
-use Rattle.world.proofs.memory.Storing.{stored, refused, room, no-room, args-length, args-more}
+use Rattle.world.proofs.memory.Storing.{stored, refused, room, args-length, args-more}
 use Rattle.world.proofs.memory.store_args.Statement.{statement}
 use Rattle.world.proofs.memory.store_args.Tie as tie
 
@@ -19,13 +19,12 @@ abbrev μ-loop : tie.MeasureT-loop
 returns : tie.Need-returns Inv-loop μ-loop
 returns c =
     let a = c .before .before .before .before .before .args in
-    let h = no-room (a .memory .now) (a .a + length (a .ops .now)) (c .before .has-room .ensures) (c .if1 .taken) in
-    refused (a .memory .now) (argsOf (a .ops .now)) (a .a) (omega (arith, args-length (a .ops .now)))
+    refused (a .access) (a .memory .now) (argsOf (a .ops .now)) (a .a) (args-length (a .ops .now)) (c .before .before .may-store .ensures) _ (c .enum-told2 .given .1)
 
 loop-holds : tie.Need-loop-holds Inv-loop μ-loop
 loop-holds c =
     let a = c .before .before .before .before .before .args in
-    (omega arith, room (a .memory .now) (a .a + length (a .ops .now)) (c .before .has-room .ensures) (c .if1 .left), refl, refl)
+    (omega arith, room (a .access) (length (a .memory .now)) (a .a) (length (a .ops .now)) (c .before .before .may-store .ensures) (c .enum-told .given .1), refl, refl)
 
 shared-slice-read-memory : tie.Need-shared-slice-read-memory Inv-loop μ-loop
 shared-slice-read-memory c = omega arith
@@ -54,10 +53,11 @@ loop-again c =
 returns-2 : tie.Need-returns-2 Inv-loop μ-loop
 returns-2 c =
     let l = c .before .loop in
-    let a = c .before .before .before .before .before .before .before .args in
+    let t = c .before .before in
+    let a = t .before .before .before .before .before .args in
     let bs = argsOf (a .ops .now) in
     let e : l .i ≡ length bs = omega (arith, args-length (a .ops .now)) in
-    rw (l .inv .3, e, take-length bs) (stored (a .memory .now) bs (a .a) (omega (arith, args-length (a .ops .now))))
+    rw (l .inv .3, e, take-length bs) (stored (a .access) (a .memory .now) bs (a .a) (args-length (a .ops .now)) (t .before .before .may-store .ensures) (t .enum-told .given .1))
 
 pub store-args-spec : {M : Type 1} → statement M
 store-args-spec =
@@ -66,6 +66,7 @@ store-args-spec =
     Inv-loop
     μ-loop
     (λ c κs. search needs)
+    (λ c. search needs)
     (λ c. search needs)
     returns
     loop-holds
