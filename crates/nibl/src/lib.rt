@@ -10,6 +10,7 @@ ghost use Rattle.nibl.specs.Lent.{answerOf, withPositions, sightOf};
 pub mod access;
 pub mod range;
 pub mod stop;
+
 use access::Access;
 use access::Sight;
 

@@ -14,10 +14,10 @@ ghost use Rattle.table.specs.Index.{Indexed};
 ghost use Rattle.run.specs.StepEnds.{ledTo, nextAfter};
 ghost use Rattle.run.specs.Fetching.{FetchRoom, fetchOf, fetchedIn, fetchedCount};
 ghost use Rattle.run.specs.Running.{MayRun, ranTo, ranIn, pauseOf};
-use nibl::access::Sight;
 use nibl::Onward;
 use nibl::Parts;
 use nibl::Place;
+use nibl::access::Sight;
 use nibl::stop;
 use page::Begins;
 use page::Where;
@@ -150,7 +150,9 @@ pub fn run_steps<'a>(
     table: &[u16],
 ) -> Ran
     requires { ⌜ MayRun (now page) (now ops) (now values) (now reply) (now replies) (positionOf from) budget (worldWith (now vars) parts (now memory) (now output)) × Indexed (now page) (now table) ⌝ }
-    ensures { λ r. ⌜ ranIn r (now (vars .exit)) (now (page .entry)) (now (memory .exit)) (now (output .exit)) ≡ runOutcome (runFrom budget (envWith (length (now (reply .entry))) (now (page .entry)) (now (input .entry)) sight (place mark)) (positionOf from) (worldWith (now (vars .entry)) parts (now (memory .entry)) (now (output .entry)))) (now (page .entry)) ⌝ }
+    ensures { λ r. ⌜ ranIn r (now (vars .exit)) (now (page .entry)) (now (memory .exit)) (now (output .exit))
+        ≡ runOutcome (runFrom budget (envWith (length (now (reply .entry))) (now (page .entry)) (now (input .entry)) sight (place mark)) (positionOf from)
+        (worldWith (now (vars .entry)) parts (now (memory .entry)) (now (output .entry)))) (now (page .entry)) ⌝ }
 {
     let mut q = from;
     let mut p = parts;
