@@ -230,9 +230,10 @@ list-refuses us b n (r ∷ rs) w = by (λ u. list-refuses us b n rs u) (leb n (r
 pub needs-asks : (q : Stmt) → needsProgram q ≡ false → (asks q ≡ false) × (inputVars q ≡ [])
 needs-asks q h = by (roleOf q) h
   where
-    by : (r : Role) → elim r [ anywhere ↦ false | inLoop ↦ true | counts v ↦ true | asksFor vs ↦ true ] ≡ false
-        → (elim r [ anywhere ↦ false | inLoop ↦ false | counts v ↦ false | asksFor vs ↦ true ] ≡ false) × (elim r [ anywhere ↦ [] | inLoop ↦ [] | counts v ↦ [] | asksFor vs ↦ vs ] ≡ [])
+    by : (r : Role) → elim r as (λ _. Bool) [ anywhere ↦ false | inLoop ↦ true | counts v ↦ true | asksFor vs ↦ true ] ≡ false
+        → (elim r as (λ _. Bool) [ anywhere ↦ false | inLoop ↦ false | counts v ↦ false | asksFor vs ↦ true ] ≡ false)
+        × (elim r as (λ _. List ℕ) [ anywhere ↦ [] | inLoop ↦ [] | counts v ↦ [] | asksFor vs ↦ vs ] ≡ [])
     by anywhere h = (refl, refl)
-    by inLoop h = (refl, refl)
-    by (counts v) h = (refl, refl)
+    by inLoop h = absurd (true≢false h)
+    by (counts v) h = absurd (true≢false h)
     by (asksFor vs) h = absurd (true≢false h)
