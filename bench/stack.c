@@ -2,7 +2,7 @@
  * How much stack a call takes, on the compiled library, without a table of line places and with one: each call runs on a
  * stack of its own that was painted, and the deepest byte that changed is looked for. And how much is in use where a call
  * writes: the output is locked, so that the first byte written stops the call there. Bytes are counted from the caller's
- * frame on.
+ * frame on. It ends with 1 if a call takes more than the header says.
  */
 #include <signal.h>
 #include <stdio.h>
@@ -13,7 +13,7 @@
 
 #include "nibl.h"
 
-enum { PAINT = 0xA5, STACK = 1 << 20, OUTPUT = 1 << 16 };
+enum { PAINT = 0xA5, STACK = 1 << 18, OUTPUT = 1 << 16 };
 
 static uint8_t page[NIBL_PAGE_MOST], memory[NIBL_MEMORY_MOST], *output;
 static uint16_t table[NIBL_TABLE_LEAST];
@@ -23,6 +23,7 @@ static nibl_answer answer;
 static _Alignas(64) uint8_t stack[STACK];
 static ucontext_t here, there;
 static const uint8_t *frame;
+static size_t most; /* that any call took */
 
 /* What the next call is lent: makecontext hands no pointers over. */
 static const char *input;
@@ -49,7 +50,9 @@ static size_t depth(void) {
     swapcontext(&here, &there);
     while (stack[at] == PAINT)
         at++;
-    return (size_t)(frame - (stack + at));
+    const size_t took = (size_t)(frame - (stack + at));
+    most = took > most ? took : most;
+    return took;
 }
 
 static size_t typed(const char *text, size_t steps) {
@@ -68,6 +71,8 @@ static void unlock(int number, siginfo_t *info, void *context) {
     const uint8_t *hit = info->si_addr;
 #if defined __x86_64__
     const uint8_t *top = (const uint8_t *)at->uc_mcontext.gregs[REG_RSP];
+#elif defined __arm__
+    const uint8_t *top = (const uint8_t *)at->uc_mcontext.arm_sp;
 #else
     const uint8_t *top = (const uint8_t *)at->uc_mcontext.sp;
 #endif
@@ -210,5 +215,6 @@ int main(void) {
         puts(tabled ? "with a table of line places:" : "without a table of line places:");
         measure();
     }
-    return 0;
+    printf("the most: %zu of %d\n", most, NIBL_STACK);
+    return most > NIBL_STACK;
 }

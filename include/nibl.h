@@ -48,7 +48,9 @@ enum {
     NIBL_VARIABLES = 26,       /* A to Z */
     NIBL_GOSUBS = 8,           /* GOSUBs that are open at once */
     NIBL_DOS = 8,              /* DOs that are open at once */
-    NIBL_FORS = 4              /* FORs that are open at once */
+    NIBL_FORS = 4,             /* FORs that are open at once */
+    NIBL_LIST_MOST = 6140,     /* bytes that LIST writes of the longest page, at most */
+    NIBL_STACK = 86016         /* bytes of stack that are enough for a call, as tools/library compiles it: 84 KiB */
 };
 
 /* Numbers with a meaning. */
@@ -153,7 +155,9 @@ typedef struct {
  * NIBL_OUT_OF_RANGE. A call answers the same with a true table and with none. To lend none: NULL, 0, and 0 for tabled.
  */
 
-/* Give either call 72 KiB of stack: it takes less than 8 KiB, and up to 880 bytes for each open bracket, "@" or NOT. */
+/* Give either call NIBL_STACK bytes of stack: it takes less than 9 KiB, and up to 1 KiB for each open bracket, "@" or NOT.
+ * docs/EMBEDDING.md has the targets one by one. An archive that was compiled with other words than tools/library's own may
+ * take more. */
 
 /*
  * Takes one typed line from the input, from call->inpos up to its CR, and does what it says: stores or deletes a program

@@ -8,6 +8,12 @@ pub const NO_LINE: u16 = 65535;
 /// How many bytes of a typed line, or of a reply, are kept. It is the column of an over-long line.
 pub const LINE_MOST: u16 = 72;
 
+/// The bytes that LIST writes of the longest page, at most.
+pub const LIST_MOST: usize = 6140;
+
+/// The bytes of stack that are enough for a call: a thread that makes calls needs these, and its own.
+pub const STACK: usize = 84 * 1024;
+
 /// The numbers of a call.
 #[derive(Clone, Copy, Debug, Default, PartialEq, Eq)]
 pub struct Call {

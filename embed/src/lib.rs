@@ -66,7 +66,7 @@ mod table;
 #[doc = include_str!("../../docs/EMBEDDING.md")]
 struct Embedding;
 
-pub use answer::{Answer, Call, LINE_MOST, NO_LINE};
+pub use answer::{Answer, Call, LINE_MOST, LIST_MOST, NO_LINE, STACK};
 pub use controller::{empty_page, Controller};
 pub use gate::{continue_run, take_line, version, Lent};
 pub use record::{ForEntry, ForStack, PlaceStack, Record, MARK, NOWHERE, START};

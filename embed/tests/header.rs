@@ -86,6 +86,29 @@ fn the_named_numbers_are_the_same() {
         assert_eq!(header(name), usize::from(number), "{name}");
     }
     assert_eq!(header("NIBL_TABLE_LEAST"), nibl::TABLE_LEAST);
+    assert_eq!(header("NIBL_LIST_MOST"), nibl::LIST_MOST);
+    assert_eq!(header("NIBL_STACK"), nibl::STACK); // tools/hosts holds what calls take to it
+}
+
+/// The shortest lines with the longest numbers, and two bytes in the last so that the page is full: each byte of a page is one
+/// of a listing, but for the end mark, and each line has three more, the third to fifth digit and the LF.
+#[test]
+fn no_page_lists_longer_than_the_header_says() {
+    let mut gate = Controller::owned(header("NIBL_PAGE_MOST"), 0);
+    let mut typed = |line: &str, output| {
+        let mut output = vec![0; output];
+        let answer = gate.take_line(line.as_bytes(), &mut output, Call::default());
+        (answer.stop, answer.outpos)
+    };
+    for number in 10_000..10_681 {
+        assert_eq!(typed(&format!("{number}DO\r"), 0).0, Stop::Done);
+    }
+    assert_eq!(typed("10681DO  \r", 0).0, Stop::Done);
+    assert_eq!(typed("10682DO\r", 0).0, Stop::PageFull);
+    assert_eq!(typed("10681DO   \r", 0).0, Stop::PageFull);
+    let most = header("NIBL_LIST_MOST");
+    assert_eq!(typed("LIST\r", most), (Stop::Done, most));
+    assert_eq!(typed("LIST\r", most - 1).0, Stop::OutputFull);
 }
 
 #[test]

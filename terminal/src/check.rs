@@ -140,6 +140,8 @@ struct Checker {
     acted: usize,
     /// A RUN, GOTO or GOSUB was typed, so that an INPUT may wait.
     ran: bool,
+    /// A line is missing, since it was refused.
+    refused: bool,
     found: Checked,
 }
 
@@ -151,6 +153,7 @@ impl Default for Checker {
             typed: Vec::new(),
             acted: 0,
             ran: false,
+            refused: false,
             found: Checked::default(),
         }
     }
@@ -286,6 +289,7 @@ impl Checker {
             Stop::NoReading => kept.typed_at(usize::from(answer.column)),
             _ => 0,
         };
+        self.refused = true;
         let words = why::refusal(&kept.bytes, kept.over, answer);
         self.find(row, at, Grade::Error, words);
     }
@@ -372,22 +376,23 @@ impl Checker {
         }
     }
 
-    /// The statements to which no run comes; none is known where a target is worked out.
+    /// The statements to which no run comes. Where a target is worked out, it may be any line; and a line that was refused may have led to
+    /// any.
     fn lost(&self, program: &Program) -> Vec<(u16, usize, usize)> {
         let typed = self.typed.iter().flat_map(Statement::all);
         let typed: Vec<&Jump> = typed.filter_map(flow::jump).collect();
         let jumps = flow::jumps(program).into_iter().map(|(_, jump)| jump);
-        if jumps
-            .chain(typed.iter().copied())
-            .any(|jump| jump.constant().is_none())
-        {
-            return Vec::new();
-        }
+        let mut all = jumps.chain(typed.iter().copied());
+        let any = self.refused || all.any(|jump| jump.constant().is_none());
         let first = program.keys().next().copied();
-        let starts = first
-            .into_iter()
-            .chain(typed.iter().filter_map(|jump| jump.constant()));
-        flow::unreached(program, &starts.collect::<Vec<u16>>())
+        let starts: Vec<u16> = match any {
+            true => program.keys().copied().collect(),
+            false => {
+                let typed = typed.iter().filter_map(|jump| jump.constant());
+                first.into_iter().chain(typed).collect()
+            }
+        };
+        flow::unreached(program, &starts)
     }
 
     fn unreached(&mut self, lost: &[(u16, usize, usize)]) {

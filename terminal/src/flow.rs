@@ -101,9 +101,8 @@ impl<'a> Reached<'a> {
 }
 
 /// The first statement of each stretch to which no run comes that starts at one of these lines: its line, its byte, and how many lines
-/// are lost whole. A remark is not run anyway, and an END or a RETURN that is not needed does no harm.
-///
-/// Where a target is worked out, any line may be it.
+/// are lost whole. A remark is not run anyway, and an END or a RETURN that is not needed does no harm. Of a target that is worked out
+/// nothing is known here.
 pub fn unreached(program: &Program, starts: &[u16]) -> Vec<(u16, usize, usize)> {
     let reached = Reached::from(program, starts);
     let mut found = Vec::new();

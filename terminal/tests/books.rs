@@ -143,6 +143,15 @@ fn a_line_that_was_run_or_listed_may_be_changed() {
 }
 
 #[test]
+fn where_any_line_may_be_a_target_only_the_rest_of_a_line_is_lost() {
+    let lost = [":1:12: warning: no run comes to this statement [unreached]"];
+    assert_eq!(found(b"10 A=1:END:B=1\n20 B=2\n").len(), 2);
+    assert_eq!(found(b"10 A=1:END:B=1\n20 GOTO 10*A\n30 B=2\n"), lost);
+    let refused = found(b"10 A=1:END:B=1\n20 B=2\n30 GOTU 20\n");
+    assert_eq!((refused.len(), &refused[0]), (2, &lost[0].to_string()));
+}
+
+#[test]
 fn a_reply_deletes_no_line() {
     assert_eq!(found(b"10 INPUT A\n20 GOTO 10\nRUN\n10\n20\n"), [""; 0]);
 }
