@@ -232,7 +232,7 @@ needs-asks q h = by (roleOf q) h
   where
     by : (r : Role) → elim r as (λ _. Bool) [ anywhere ↦ false | inLoop ↦ true | counts v ↦ true | asksFor vs ↦ true ] ≡ false
         → (elim r as (λ _. Bool) [ anywhere ↦ false | inLoop ↦ false | counts v ↦ false | asksFor vs ↦ true ] ≡ false)
-        × (elim r as (λ _. List ℕ) [ anywhere ↦ [] | inLoop ↦ [] | counts v ↦ [] | asksFor vs ↦ vs ] ≡ [])
+        × _≡_ {A = List ℕ} (elim r [ anywhere ↦ [] | inLoop ↦ [] | counts v ↦ [] | asksFor vs ↦ vs ]) []
     by anywhere h = (refl, refl)
     by inLoop h = absurd (true≢false h)
     by (counts v) h = absurd (true≢false h)
