@@ -53,6 +53,8 @@ pub const FORS: usize = 4;
 // The flags use bits 0 to 2: so many patterns of them there are.
 pub const FLAGS: u16 = 8;
 
+const FLAG_PATTERNS: u8 = FLAGS as u8;
+
 // The immediate mark: a GOSUB that was typed saves it for a place. No page is so long.
 pub const MARK: u16 = 65535;
 
@@ -437,7 +439,7 @@ impl Session {
     {
         let mut next = self.stackless();
         next.vars = vars;
-        next.flags = self.flags % FLAGS as u8;
+        next.flags = self.flags % FLAG_PATTERNS;
         next.paused = NOWHERE;
         next
     }
