@@ -128,7 +128,7 @@ static size_t saved(void) {
 /* Of what was saved last. */
 static size_t loaded(void) {
     static uint8_t form[NIBL_SAVED_MOST];
-    length = answer.outpos;
+    length = (size_t)answer.outpos;
     memcpy(form, output, length);
     input = (const char *)form;
     made = nibl_load;
