@@ -84,7 +84,7 @@ module _ (L : Likeness) (N : ℕ → Type 0) (e e' : Env) (s : EnvsAlike L N e e
       by (is a) = g a
       by (no n) = f n
 
-  went-both : {i : ℕ} {d d' : Done} {k k' : World → Done} → Both L i d d' → ((u u' : World) → WorldsAlike L i u u' → Both L i (k u) (k' u')) → Both L i (went d k) (went d' k')
+  pub went-both : {i : ℕ} {d d' : Done} {k k' : World → Done} → Both L i d d' → ((u u' : World) → WorldsAlike L i u u' → Both L i (k u) (k' u')) → Both L i (went d k) (went d' k')
   went-both (both goOn r) f = f _ _ r
   went-both (both skips r) f = both skips r
   went-both (both (goes p) r) f = both (goes p) r
@@ -104,7 +104,7 @@ module _ (L : Likeness) (N : ℕ → Type 0) (e e' : Env) (s : EnvsAlike L N e e
     by false = g
 
   -- Output
-  put-both : {i : ℕ} {w w' : World} (bs : List ℕ) → WorldsAlike L i w w' → Both L i (put bs w) (put bs w')
+  pub put-both : {i : ℕ} {w w' : World} (bs : List ℕ) → WorldsAlike L i w w' → Both L i (put bs w) (put bs w')
   unfolding put
   put-both {i} {w} {w'} bs r =
       choice (Both L i) (leb (w .outpos + length bs) (length (w .output))) (leb (w' .outpos + length bs) (length (w' .output)))

@@ -10,7 +10,7 @@ use Rattle.nibl.specs.Tree.{Stmt, letVar, letStat, letByte, letText, letCopy, g
 use Rattle.nibl.specs.Stack.{pushOf, popOf, pushFor, popFor}
 use Rattle.nibl.specs.Record.{place, mark}
 use Rattle.nibl.specs.Page.{find}
-use Rattle.nibl.specs.Meaning.{World, Env}
+use Rattle.nibl.specs.Meaning.{World, Env, byteOf, stringAt, storeAt}
 use Rattle.nibl.specs.Runs.{Fetched, fetch, runFrom}
 use Rattle.nibl.specs.Runs as runs
 use Rattle.nibl.specs.declared.PlaceStack.{PlaceStack}
@@ -21,7 +21,7 @@ use Rattle.nibl.specs.declared.Top.{Top}
 use Rattle.nibl.specs.declared.Top.the-variants as top
 use Rattle.nibl.specs.declared.TopFor.{TopFor}
 use Rattle.nibl.specs.declared.TopFor.the-variants as topf
-use Rattle.changes.specs.Alike.{Likeness, TopsAlike, ForTopsAlike, EntriesAlike, OptionsAlike, nothing, something, Each, noMore, oneMore, FineItem, FineStmt, WorldsAlike, EnvsAlike, FetchedAlike, past, unread, here, RunsAlike}
+use Rattle.changes.specs.Alike.{Likeness, TopsAlike, ForTopsAlike, EntriesAlike, ResultsAlike, OptionsAlike, nothing, something, Each, noMore, oneMore, FineItem, FineStmt, WorldsAlike, EnvsAlike, FetchedAlike, past, unread, here, RunsAlike}
 use Rattle.changes.specs.Alike as A
 use Rattle.changes.specs.Boxes.{Sees, Printed}
 use Rattle.changes.proofs.Seen.{byte-seen, strings-seen, stores-seen, item-printed}
@@ -77,8 +77,8 @@ found-same : (o : Option ℕ) → OptionsAlike (λ (p q : ℕ). p ≡ q) o o
 found-same none = nothing
 found-same (some q) = something refl
 
--- on one page, with one record: memories by M, outputs by O
-module _ (M : List ℕ → List ℕ → Type 0) (a : ℕ) where
+-- on one page, with one record: memories by M, and outputs in which the same is written from a on
+module _ (M : List ℕ → List ℕ → Type 0) (a : ℕ) (lent lent' : List ℕ) where
   abbrev pub onePage : Likeness
   onePage =
       record {
@@ -87,7 +87,7 @@ module _ (M : List ℕ → List ℕ → Type 0) (a : ℕ) where
         G = λ (s t : PlaceStack). s ≡ t;
         F = λ (s t : ForStack). s ≡ t;
         M = M;
-        O = Printed a;
+        O = Printed a lent lent';
         Fine = Any;
         after = λ p q e. ap suc e;
         marks = λ p q e. ap (λ (n : ℕ). eqb n mark) e;
@@ -100,7 +100,7 @@ module _ (M : List ℕ → List ℕ → Type 0) (a : ℕ) where
         popForTop = λ s t e. subst (λ (u : ForStack). ForTopsAlike (λ (p q : ℕ). p ≡ q) (popFor s .top) (popFor u .top)) e (for-tops-same (popFor s .top));
         popFors = λ s t e. λ i. popFor (e i) .stack;
         outLong = λ p o o' h. h .long;
-        outPut = λ p o o' bs h. item-printed a p bs o o' h;
+        outPut = λ p o o' bs h. item-printed a lent lent' p bs o o' h;
         ofByte = λ b h. any;
         ofNot = λ b h. any;
         ofMinus = λ b h. any;
@@ -116,26 +116,33 @@ module _ (M : List ℕ → List ℕ → Type 0) (a : ℕ) where
   pub fetches-same : (page : List ℕ) (q q' : ℕ) → q ≡ q' → FetchedAlike onePage (fetch page q) (fetch page q')
   fetches-same page q q' p = subst (λ (z : ℕ). FetchedAlike onePage (fetch page q) (fetch page z)) p (fetched-same (fetch page q))
 
--- two memories that the box sees alike, and outputs that are alike from a on
-module _ (a : ℕ) (e : Env) where
-  abbrev pub seenBy : Likeness
-  seenBy = onePage (Sees (e .sight .access)) a
-
-  pub seen : EnvsAlike seenBy (λ i. ⊥) e e
-  seen =
+  -- one environment, where M is kept by reads and stores
+  pub same-page : (e : Env) → ((m m' : List ℕ) → M m m' → (p : ℕ) → byteOf (e .sight .access) m p ≡ byteOf (e .sight .access) m' p)
+      → ((m m' : List ℕ) → M m m' → (p : ℕ) → stringAt (e .sight .access) m p ≡ stringAt (e .sight .access) m' p)
+      → ((m m' : List ℕ) → M m m' → (p : ℕ) (bs : List ℕ) → ResultsAlike M (storeAt (e .sight .access) m p bs) (storeAt (e .sight .access) m' p bs))
+      → EnvsAlike onePage (λ i. ⊥) e e
+  same-page e f g h =
       record {
         sense = refl;
         gathers = λ i. inl refl;
         longs = λ i n. absurd n;
         replies = λ i n g es p q. all-any es;
         finds = λ n. found-same (find (e .page) n);
-        tops = λ f. refl;
-        bytes = byte-seen (e .sight .access);
-        strings = strings-seen (e .sight .access);
-        stores = stores-seen (e .sight .access);
+        tops = λ t. refl;
+        bytes = f;
+        strings = g;
+        stores = h;
         here = refl;
       }
 
+-- two memories that the box sees alike
+module _ (a : ℕ) (lent lent' : List ℕ) (e : Env) where
+  abbrev pub seenBy : Likeness
+  seenBy = onePage (Sees (e .sight .access)) a lent lent'
+
+  pub seen : EnvsAlike seenBy (λ i. ⊥) e e
+  seen = same-page (Sees (e .sight .access)) a lent lent' e (byte-seen (e .sight .access)) (strings-seen (e .sight .access)) (stores-seen (e .sight .access))
+
   -- "What a box answers, prints and keeps may depend on .. its own range and the shared range, and on nothing else", of a run
   pub run-of-a-box : (k i q : ℕ) (w w' : World) → WorldsAlike seenBy i w w' → RunsAlike seenBy (λ j. ⊥) e i (runFrom k e q w) (runFrom k e q w')
-  run-of-a-box k i q w w' r = run-alike seenBy (λ j. ⊥) e e seen (fetches-same (Sees (e .sight .access)) a (e .page)) k i q q w w' refl r
+  run-of-a-box k i q w w' r = run-alike seenBy (λ j. ⊥) e e seen (fetches-same (Sees (e .sight .access)) a lent lent' (e .page)) k i q q w w' refl r

@@ -15,4 +15,5 @@ pub mod AlikeStatements
 pub mod AlikeRuns
 pub mod Seen
 pub mod BoxRuns
+pub mod BoxCalls
 pub mod OneBox

@@ -3,6 +3,7 @@ use Prim.Native.Nat.{ℕ, suc, _+_, _≤_, _<_}
 use mathlib.Core.Path.{_≡_, refl, sym, _∙_, subst}
 use mathlib.Core.Bool.{Bool, true, false, not}
 use mathlib.Core.List.{List, [], _∷_}
+use mathlib.Core.Logic.{_⊎_, inl, inr}
 use native.Mathlib.Omega.{arith}
 use lib.ListN.{length, getD, drop, set, length-set, length-drop, List·getD-eq-default}
 use lib.Seq.{sets, getD-drop, getD-set-same, getD-set-other, set-out}
@@ -64,23 +65,36 @@ module _ (x : Access) where
     by true true = given (sets-seen bs m m' h a)
     by true false = refused
 
-byte-printed : (a p b : ℕ) (o o' : List ℕ) → Printed a p o o' → Printed a (suc p) (set o p b) (set o' p b)
-byte-printed a p b o o' h =
-    record {
-      long = length-set o p b ∙ h .long ∙ sym (length-set o' p b);
-      same = λ i l k.
-          by-cases (eqb i p)
-          (λ e. let q = eqb-true i p e in
-          by-cases (ltb p (length o))
-          (λ t. let u = ltb-true p (length o) t in rw q (getD-set-same o p b 0 u ∙ sym (getD-set-same o' p b 0 (omega (arith, h .long)))))
-          (λ t.
-          let u = ltb-false p (length o) t in
-          rw (q, List·getD-eq-default (set o p b) 0 {n = p} (omega (arith, length-set o p b)), List·getD-eq-default (set o' p b) 0 {n = p} (omega (arith, length-set o' p b, h .long)))))
-          (λ e. let q = eqb-false i p e in getD-set-other o p i b 0 q ∙ h .same i l (omega arith) ∙ sym (getD-set-other o' p i b 0 q));
-    }
+-- a byte more in both
+other-byte : (a p i : ℕ) → a ≤ p → (i < a) ⊎ (suc p ≤ i) → i ≡ p → ⊥
+other-byte a p i l (inl h) e = omega arith
+other-byte a p i l (inr h) e = omega arith
 
-pub item-printed : (a p : ℕ) (bs o o' : List ℕ) → Printed a p o o' → Printed a (p + length bs) (sets o p bs) (sets o' p bs)
-item-printed a p [] o o' h = subst (λ (n : ℕ). Printed a n o o') (omega arith) h
-item-printed a p (b ∷ bs) o o' h =
-    subst (λ (n : ℕ). Printed a n (sets (set o p b) (suc p) bs) (sets (set o' p b) (suc p) bs)) (omega arith)
-    (item-printed a (suc p) bs (set o p b) (set o' p b) (byte-printed a p b o o' h))
+outside-less : (a p i : ℕ) → (i < a) ⊎ (suc p ≤ i) → (i < a) ⊎ (p ≤ i)
+outside-less a p i (inl h) = inl h
+outside-less a p i (inr h) = inr (omega arith)
+
+module _ (a : ℕ) (lent lent' : List ℕ) where
+  byte-printed : (p b : ℕ) (o o' : List ℕ) → Printed a lent lent' p o o' → Printed a lent lent' (suc p) (set o p b) (set o' p b)
+  byte-printed p b o o' h =
+      record {
+        long = length-set o p b ∙ h .long ∙ sym (length-set o' p b);
+        ahead = omega (arith, h .ahead);
+        same = λ i l k.
+            by-cases (eqb i p)
+            (λ e. let q = eqb-true i p e in
+            by-cases (ltb p (length o))
+            (λ t. let u = ltb-true p (length o) t in rw q (getD-set-same o p b 0 u ∙ sym (getD-set-same o' p b 0 (omega (arith, h .long)))))
+            (λ t.
+            let u = ltb-false p (length o) t in
+            rw (q, List·getD-eq-default (set o p b) 0 {n = p} (omega (arith, length-set o p b)), List·getD-eq-default (set o' p b) 0 {n = p} (omega (arith, length-set o' p b, h .long)))))
+            (λ e. let q = eqb-false i p e in getD-set-other o p i b 0 q ∙ h .same i l (omega arith) ∙ sym (getD-set-other o' p i b 0 q));
+        held = λ i s. getD-set-other o p i b 0 (other-byte a p i (h .ahead) s) ∙ h .held i (outside-less a p i s);
+        held' = λ i s. getD-set-other o' p i b 0 (other-byte a p i (h .ahead) s) ∙ h .held' i (outside-less a p i s);
+      }
+
+  pub item-printed : (p : ℕ) (bs o o' : List ℕ) → Printed a lent lent' p o o' → Printed a lent lent' (p + length bs) (sets o p bs) (sets o' p bs)
+  item-printed p [] o o' h = subst (λ (n : ℕ). Printed a lent lent' n o o') (omega arith) h
+  item-printed p (b ∷ bs) o o' h =
+      subst (λ (n : ℕ). Printed a lent lent' n (sets (set o p b) (suc p) bs) (sets (set o' p b) (suc p) bs)) (omega arith)
+      (item-printed (suc p) bs (set o p b) (set o' p b) (byte-printed p b o o' h))

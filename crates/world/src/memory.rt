@@ -1,6 +1,7 @@
 // Memory: a byte, how far a string runs, and stores. Each answers a value or a stop number; a refused store changes nothing.
 // Here alone it is decided who may read and write a byte.
-ghost use Prim.Native.Nat.{_+_, _%_};
+ghost use Prim.Native.Nat.{_+_, _%_, _<_};
+ghost use mathlib.Core.Bool.{true};
 ghost use mathlib.Core.List.{[], _∷_, _++_};
 ghost use mathlib.Core.Path.{_≡_};
 ghost use lib.ListN.{length};
@@ -30,24 +31,26 @@ pub enum StoreEnd {
     No(u8),
 }
 
-// Whether a position lies in a range.
-fn lies_in(range: Range, i: usize) -> bool
-    ensures { λ r. ⌜ r ≡ inside range i ⌝ }
+// Whether an address lies in a range. The highest address lies in none.
+fn lies_in(range: Range, a: u16) -> bool
+    ensures { λ r. ⌜ r ≡ inside range a ⌝ }
+    ensures { λ r. ⌜ (r ≡ true → a < 65535) ⌝ }
 {
-    if i < range.from as usize {
+    if a < range.from {
         return false;
     }
-    i < range.to as usize
+    a < range.to
 }
 
-// Whether a byte may be read.
-fn may_read(access: Access, i: usize) -> bool
-    ensures { λ r. ⌜ r ≡ mayRead access i ⌝ }
+// Whether the byte at an address may be read.
+fn may_read(access: Access, a: u16) -> bool
+    ensures { λ r. ⌜ r ≡ mayRead access a ⌝ }
+    ensures { λ r. ⌜ (r ≡ true → a < 65535) ⌝ }
 {
-    if lies_in(access.own, i) {
+    if lies_in(access.own, a) {
         return true;
     }
-    lies_in(access.shared, i)
+    lies_in(access.shared, a)
 }
 
 // Whether n bytes from a position on may be written.
@@ -82,7 +85,7 @@ pub fn byte_of(access: Access, memory: &[u8], a: u16) -> Value
     if memory.len() <= i {
         return Value::No(stop::NO_MEMORY);
     }
-    if !may_read(access, i) {
+    if !may_read(access, a) {
         return Value::No(stop::NOT_ITS_OWN);
     }
     Value::Is(memory[i] as u16)
@@ -92,13 +95,13 @@ pub fn byte_of(access: Access, memory: &[u8], a: u16) -> Value
 pub fn string_end(access: Access, memory: &[u8], a: u16) -> Extent
     ensures { λ r. ⌜ extentOf r ≡ bind (stringAt access (now (memory .entry)) a) (λ bs. is (a + length bs)) ⌝ }
 {
-    let mut i = a as usize;
-    while i < memory.len() {
+    let mut i = a;
+    while (i as usize) < memory.len() {
         if !may_read(access, i) {
             return Extent::No(stop::NOT_ITS_OWN);
         }
-        if memory[i] == nibl::CR {
-            return Extent::To(i);
+        if memory[i as usize] == nibl::CR {
+            return Extent::To(i as usize);
         }
         i += 1;
     }

@@ -16,7 +16,7 @@ returns-2 : tie.Need-returns-2
 unfolding byteOf
 returns-2 c =
     let a = c .before .before .before .before .args in
-    rw (lt-ltb (a .a) (length (a .memory .now)) (c .before .before .if1 .left), sym (c .before .may-read .ensures) ∙ not-true _ (c .if2 .taken))
+    rw (lt-ltb (a .a) (length (a .memory .now)) (c .before .before .if1 .left), sym (c .before .may-read .ensures .0) ∙ not-true _ (c .if2 .taken))
 
 cast-t10 : tie.Need-cast-t10
 cast-t10 c = omega (arith, c .shared-slice-known2 .given (c .before .before .before .before .before .args .a))
@@ -25,7 +25,7 @@ returns-3 : tie.Need-returns-3
 unfolding byteOf
 returns-3 c =
     let a = c .before .before .before .before .before .args in
-    rw (lt-ltb (a .a) (length (a .memory .now)) (c .before .before .before .if1 .left), sym (c .before .before .may-read .ensures) ∙ not-false _ (c .before .if2 .left))
+    rw (lt-ltb (a .a) (length (a .memory .now)) (c .before .before .before .if1 .left), sym (c .before .before .may-read .ensures .0) ∙ not-false _ (c .before .if2 .left))
 
 pub byte-of-spec : {M : Type 1} → statement M
 byte-of-spec = tie.close (tie.spec returns (λ c κs. search needs) returns-2 (λ c. search needs) cast-t10 returns-3)
