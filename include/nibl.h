@@ -18,9 +18,9 @@ extern "C" {
 
 /*
  * The interface's number: another one for each change of a type, of a signature or of what a field means, and for each call
- * that is added. The archive has it to the calls' names, so that a host that was compiled with the header of another interface does not link, where it
- * would have lent what the calls read otherwise. A host writes the names without it. This line is the one place where it
- * stands; tools/library and the Rust crate read it here.
+ * that is added. In the archive the calls' names end with it, so that a host that was compiled with the header of another
+ * interface does not link, where it would have lent what the calls read otherwise. A host writes the names without it. This
+ * line is the one place where it stands; tools/library and the Rust crate read it here, and docs/EMBEDDING.md tells of each.
  */
 #define NIBL_VERSION 5
 #define NIBL_NUMBERED_AS(name, number) name##_##number

@@ -64,7 +64,7 @@ impl Written {
     }
 }
 
-/// Declares the library's calls, which have one signature. The archive has the interface's number to their names.
+/// Declares the library's calls, which have one signature. In the archive their names end with the interface's number.
 macro_rules! entries {
     ($($name:ident)*: $parameters:tt) => {
         type Entry = unsafe extern "C" fn $parameters;

@@ -118,7 +118,8 @@ fn paused_run(
     table: &[u16],
 ) -> Ended
     requires { ⌜ (Lists (now reply) (now replies) (now values) (now ops) × Accepted (length (now reply)) (now page) (call .budget) (unpaused rec) × (fitsPaused (placesOf (now page)) (rec .paused) ≡ true)) × Indexed (now page) (now table) ⌝ }
-    ensures { λ r. ⌜ endedIn r (now (page .entry)) (now (memory .exit)) (now (output .exit)) ≡ continueFrom (length (now (reply .entry))) (lentAll rec (now (page .entry)) (now (memory .entry)) (now (input .entry)) (now (output .entry)) call (now (table .entry))) (rec .paused) ⌝ }
+    ensures { λ r. ⌜ endedIn r (now (page .entry)) (now (memory .exit)) (now (output .exit))
+        ≡ continueFrom (length (now (reply .entry))) (lentAll rec (now (page .entry)) (now (memory .entry)) (now (input .entry)) (now (output .entry)) call (now (table .entry))) (rec .paused) ⌝ }
 {
     match Paused::of(rec.paused) {
         Paused::Nowhere => outcome::stopped(stop::DONE, rec.unpaused(), call.inpos, call.outpos),
@@ -153,7 +154,8 @@ fn accepted_call(
     table: &mut [u16],
 ) -> Ended
     requires { ⌜ (Accepted limit (now page) (call .budget) (unpaused rec) × (fitsPaused (placesOf (now page)) (rec .paused) ≡ true)) × TableLent (now page) call (now table) ⌝ }
-    ensures { λ r. ⌜ outcomeWith (r .answer) (r .session) (now (page .exit)) (now (memory .exit)) (now (output .exit)) ≡ pastRefusals typed (lentAll rec (now (page .entry)) (now (memory .entry)) (now (input .entry)) (now (output .entry)) call (now (table .entry))) ⌝ }
+    ensures { λ r. ⌜ outcomeWith (r .answer) (r .session) (now (page .exit)) (now (memory .exit)) (now (output .exit))
+        ≡ pastRefusals typed (lentAll rec (now (page .entry)) (now (memory .entry)) (now (input .entry)) (now (output .entry)) call (now (table .entry))) ⌝ }
     ensures { λ _. ⌜ now (table .exit) ≡ tablePast call (now (page .exit)) (now (table .entry)) ⌝ }
 {
     let entries = table::lent_entries(call, table);
@@ -203,7 +205,8 @@ pub fn take_line(
     call: Call,
     table: &mut [u16],
 ) -> Ended
-    ensures { λ r. ⌜ leftAll (r .answer) (r .session) (now (page .exit)) (now (memory .exit)) (now (output .exit)) (now (table .exit)) ≡ leaves takeLine (lentAll rec (now (page .entry)) (now (memory .entry)) (now (input .entry)) (now (output .entry)) call (now (table .entry))) ⌝ }
+    ensures { λ r. ⌜ leftAll (r .answer) (r .session) (now (page .exit)) (now (memory .exit)) (now (output .exit)) (now (table .exit))
+        ≡ leaves takeLine (lentAll rec (now (page .entry)) (now (memory .entry)) (now (input .entry)) (now (output .entry)) call (now (table .entry))) ⌝ }
 {
     let first = first_refusal(rec, page, memory, input, output, call, LIMIT, table);
     if first != stop::DONE {
@@ -222,7 +225,8 @@ pub fn continue_run(
     call: Call,
     table: &mut [u16],
 ) -> Ended
-    ensures { λ r. ⌜ leftAll (r .answer) (r .session) (now (page .exit)) (now (memory .exit)) (now (output .exit)) (now (table .exit)) ≡ leaves continueRun (lentAll rec (now (page .entry)) (now (memory .entry)) (now (input .entry)) (now (output .entry)) call (now (table .entry))) ⌝ }
+    ensures { λ r. ⌜ leftAll (r .answer) (r .session) (now (page .exit)) (now (memory .exit)) (now (output .exit)) (now (table .exit))
+        ≡ leaves continueRun (lentAll rec (now (page .entry)) (now (memory .entry)) (now (input .entry)) (now (output .entry)) call (now (table .entry))) ⌝ }
 {
     let refusal = first_refusal(rec, page, memory, input, output, call, LIMIT, table);
     if refusal != stop::DONE {

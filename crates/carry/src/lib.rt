@@ -18,6 +18,7 @@ use nibl::Call;
 use nibl::END_MARK;
 use nibl::LIMIT;
 use nibl::Session;
+use nibl::VARIABLES;
 use nibl::range;
 use nibl::stop;
 use outcome::Ended;
@@ -27,7 +28,7 @@ use value::write_item;
 // The form's first two bytes: its number, and how many variables follow.
 const NUMBER: u8 = 1;
 
-const VALUES: u8 = 26;
+const VALUES: u8 = VARIABLES as u8;
 
 // Where in a form the variables begin, the line count, and the records.
 const VALUES_AT: usize = 2;
@@ -71,19 +72,19 @@ fn put_two(output: &mut [u8], at: usize, x: u16)
     output[at + 1] = (x % 256) as u8;
 }
 
-fn put_values(output: &mut [u8], at: usize, vars: [u16; 26])
+fn put_values(output: &mut [u8], at: usize, vars: [u16; VARIABLES])
     requires { ⌜ at + 52 ≤ length (now output) ⌝ }
     ensures { λ _. ⌜ now (output .exit) ≡ sets (now (output .entry)) at (valuesBytes vars) ⌝ }
 {
     let mut i: usize = 0;
-    while i < 26 {
+    while i < VARIABLES {
         put_two(output, at + 2 * i, vars[i]);
         i += 1;
     }
 }
 
 // What stands before a form's records: its number, the variables, and the line count.
-fn put_head(output: &mut [u8], at: usize, vars: [u16; 26], lines: u16)
+fn put_head(output: &mut [u8], at: usize, vars: [u16; VARIABLES], lines: u16)
     requires { ⌜ at + 56 ≤ length (now output) ⌝ }
     ensures { λ _. ⌜ now (output .exit) ≡ sets (now (output .entry)) at (formNumber ∷ 26 ∷ (valuesBytes vars ++ twoBytes lines)) ⌝ }
 {
@@ -103,7 +104,7 @@ fn put_counted(output: &mut [u8], at: usize, bytes: &[u8])
 }
 
 // The form of a good page, of these variables and of this memory goes to the output, where it has room.
-fn put_form(output: &mut [u8], at: usize, vars: [u16; 26], page: &[u8], memory: &[u8])
+fn put_form(output: &mut [u8], at: usize, vars: [u16; VARIABLES], page: &[u8], memory: &[u8])
     requires { ⌜ Savable (now output) at (now page) (now memory) ⌝ }
     ensures { λ _. ⌜ now (output .exit) ≡ sets (now (output .entry)) at (savedForm (record { vars = vars; records = recordsOf (now (page .entry)); memory = now (memory .entry) })) ⌝ }
 {
@@ -214,13 +215,13 @@ fn open_form(form: &[u8], lim: usize) -> Opened
 }
 
 // The variables of a form.
-fn form_values(form: &[u8]) -> [u16; 26]
+fn form_values(form: &[u8]) -> [u16; VARIABLES]
     requires { ⌜ 54 ≤ length (now form) ⌝ }
     ensures { λ r. ⌜ r ≡ valuesIn 26 (drop 2 (now (form .entry))) ⌝ }
 {
-    let mut vars = [0u16; 26];
+    let mut vars = [0u16; VARIABLES];
     let mut i: usize = 0;
-    while i < 26 {
+    while i < VARIABLES {
         vars[i] = page::number_at(form, VALUES_AT + 2 * i);
         i += 1;
     }

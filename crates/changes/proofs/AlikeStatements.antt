@@ -16,7 +16,7 @@ use Rattle.nibl.specs.found.Read.{replied}
 use Rattle.nibl.specs.Values.{Result, is, no, Value, add16, printed}
 use Rattle.nibl.specs.Stack.{popOf, popFor}
 use Rattle.nibl.specs.Typing.{Gathered, gather}
-use Rattle.nibl.specs.Record.{place, mark, withVar, withFlags, withGosubs, withDos, withFors}
+use Rattle.nibl.specs.Record.{place, position, mark, withVar, withFlags, withGosubs, withDos, withFors}
 use Rattle.nibl.specs.Page.{find}
 use Rattle.nibl.specs.Meaning.{World, Env, withSession, withMemory, withInpos, on, skip, go, stop, Done, done, bind, given, went, eval, put, putItem, putItems, putEnd, keepIn, lineThere, after, gosubTo, returnBy, doHere, untilBy, forHere, goesOn, nextBy, gathered, asked, assign, assignReply, exec, byteOf, stringAt, storeAt, statOf}
 use Rattle.nibl.specs.declared.Session.{Session}
@@ -179,9 +179,9 @@ module _ (L : Likeness) (N : ℕ → Type 0) (e e' : Env) (s : EnvsAlike L N e e
         choice (Both L i) _ _ (L .pushOk _ _ _ _ (r .session .gosubs) (s .here))
         (both (goes p) (with-session r (with-gosubs (r .session) (L .push _ _ _ _ (r .session .gosubs) (s .here))))) (both stops r)
 
-    after-alike : (p p' : Place) → L .H (p .0) (p' .0) → NextAlike L (after p) (after p')
-    after-alike p p' h = subst (λ (x : Bool). NextAlike L (after p) (if x then stop 0 else go (suc (p' .0)))) (L .marks _ _ h) (by (eqb (p .0) mark)) where
-      by : (x : Bool) → NextAlike L (if x then stop 0 else go (suc (p .0))) (if x then stop 0 else go (suc (p' .0)))
+    after-alike : (p p' : Place) → L .H (position p) (position p') → NextAlike L (after p) (after p')
+    after-alike p p' h = subst (λ (x : Bool). NextAlike L (after p) (if x then stop 0 else go (suc (position p')))) (L .marks _ _ h) (by (eqb (position p) mark)) where
+      by : (x : Bool) → NextAlike L (if x then stop 0 else go (suc (position p))) (if x then stop 0 else go (suc (position p')))
       by true = stops
       by false = goes (L .after _ _ h)
 
@@ -219,7 +219,7 @@ module _ (L : Likeness) (N : ℕ → Type 0) (e e' : Env) (s : EnvsAlike L N e e
         let e-x : x ≡ x' = λ j. add16 (getD (r .session .vars j) v 0) (h .step j) in
         choice (Both L i) _ _ (λ j. not (eqb (h .var j) v)) (both stops r)
         (choice (Both L i) _ _ (λ j. goesOn (h .step j) (e-x j) (h .limit j))
-        (subst (λ (y : ℕ). Both L i (done (go (suc (f .place .0))) (withSession w (withVar (w .session) v x))) (done (go (suc (f' .place .0))) (withSession w' (withVar (w' .session) v y)))) e-x
+        (subst (λ (y : ℕ). Both L i (done (go (suc (position (f .place)))) (withSession w (withVar (w .session) v x))) (done (go (suc (position (f' .place)))) (withSession w' (withVar (w' .session) v y)))) e-x
         (both (goes (L .after _ _ (h .place))) (var-given r v x)))
         (subst (λ (y : ℕ). Both L i (done on (withSession w (withFors (withVar (w .session) v x) (popFor (w .session .fors) .stack)))) (done on (withSession w' (withFors (withVar (w' .session) v y) (popFor (w' .session .fors) .stack))))) e-x
         (both goOn (with-session r (with-var (with-fors (r .session) (L .popFors _ _ (r .session .fors))) v x)))))

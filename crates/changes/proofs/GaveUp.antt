@@ -15,13 +15,9 @@ use Rattle.nibl.specs.Bytes.{if_then_else_, isSpace, isDigit, isCapital, isQuot
 use Rattle.nibl.specs.Words.{Token, keywords, commands, indexFrom, indexIn, there, Word, spaced, keyword, letter, decimalDigits, hexDigits, quoted}
 use Rattle.nibl.specs.found.GaveUp.{common, mostCommon, pastLargest, wordGaveUp, gaveUp}
 use Rattle.nibl.proofs.Tests.{if-split, and-left, and-right, between, true-all, front-all, front-past, front-run}
-use Rattle.nibl.proofs.Keywords.{entries, same-self, over-all}
+use Rattle.nibl.proofs.Keywords.{same-self, over-all}
 use Rattle.nibl.proofs.GaveUp.{gave-up-within, most-short}
-use Rattle.changes.specs.Pointed.{GoesOn}
-
--- a keyword has two letters or more
-abbrev pub isSpelling : List ℕ → Bool
-isSpelling w = leb 2 (length w) && all isCapital w
+use Rattle.changes.specs.Pointed.{isSpelling, GoesOn}
 
 -- Digits: those before the one that passes 32,767
 record Fits (v : ℕ) (s r : List ℕ) : Type 0 where
@@ -53,13 +49,13 @@ record Nearest (n : ℕ) (table : List (List ℕ)) (s : List ℕ) (m : ℕ) : Ty
   listed : there (indexFrom n table spelling) ≡ true
   shared : common spelling s ≡ m
 
-nearest : (n : ℕ) (table : List (List ℕ)) (s : List ℕ) → entries isSpelling table ≡ true → (mostCommon table s ≡ 1) ⊎ Nearest n table s (mostCommon table s)
+nearest : (n : ℕ) (table : List (List ℕ)) (s : List ℕ) → all isSpelling table ≡ true → (mostCommon table s ≡ 1) ⊎ Nearest n table s (mostCommon table s)
 unfolding mostCommon
 nearest n [] s a = inl refl
 nearest n (w ∷ ws) s a =
     if-split (λ m. (m ≡ 1) ⊎ Nearest n (w ∷ ws) s m) (leb (common w s) (mostCommon ws s))
-    (λ _. later (mostCommon ws s) (nearest (suc n) ws s (and-right (isSpelling w) (entries isSpelling ws) a)))
-    (λ _. inr (record { spelling = w; fine = and-left (isSpelling w) (entries isSpelling ws) a; listed = rw (same-self w); shared = refl }))
+    (λ _. later (mostCommon ws s) (nearest (suc n) ws s (and-right (isSpelling w) (all isSpelling ws) a)))
+    (λ _. inr (record { spelling = w; fine = and-left (isSpelling w) (all isSpelling ws) a; listed = rw (same-self w); shared = refl }))
   where
     later : (m : ℕ) → (m ≡ 1) ⊎ Nearest (suc n) ws s m → (m ≡ 1) ⊎ Nearest n (w ∷ ws) s m
     later m (inl e) = inl e
@@ -108,7 +104,7 @@ module _ (table : List (List ℕ)) where
   letter-alone : (b : ℕ) → isCapital b ≡ true → GoesOn table (b ∷ [])
   letter-alone b c = record { rest = []; word = _; after = []; begun = letter {c = b} {s = []} (record { some = c; each = each c done; longest = refl }) }
 
-  letters-late : (b : ℕ) (s : List ℕ) → entries isSpelling table ≡ true → isCapital b ≡ true → GoesOn table (take (mostCommon table (b ∷ s)) (b ∷ s))
+  letters-late : (b : ℕ) (s : List ℕ) → all isSpelling table ≡ true → isCapital b ≡ true → GoesOn table (take (mostCommon table (b ∷ s)) (b ∷ s))
   letters-late b s a c = go (mostCommon table (b ∷ s)) (nearest 128 table (b ∷ s) a)
     where
       go : (m : ℕ) → (m ≡ 1) ⊎ Nearest 128 table (b ∷ s) m → GoesOn table (take m (b ∷ s))
@@ -155,7 +151,7 @@ module _ (table : List (List ℕ)) where
   nothing-late : GoesOn table []
   nothing-late = sooner [] (65 ∷ []) (letter-alone 65 refl)
 
-  word-late : entries isSpelling table ≡ true → (b : ℕ) (s : List ℕ) → GoesOn table (take (suc (length s) - wordGaveUp table b s) (b ∷ s))
+  word-late : all isSpelling table ≡ true → (b : ℕ) (s : List ℕ) → GoesOn table (take (suc (length s) - wordGaveUp table b s) (b ∷ s))
   unfolding wordGaveUp
   word-late a b s =
       let P : ℕ → Type 0 = λ k. GoesOn table (take (suc (length s) - k) (b ∷ s)) in
@@ -171,7 +167,7 @@ module _ (table : List (List ℕ)) where
   space-late s g = record { rest = g .rest; word = g .word; after = g .after; begun = spaced (g .begun) }
 
   -- up to that byte some word could still go on. This holds of every text, so also where no word was found, which is where the byte counts
-  pub gave-up-late : entries isSpelling table ≡ true → (s : List ℕ) → GoesOn table (take (length s - gaveUp table s) s)
+  pub gave-up-late : all isSpelling table ≡ true → (s : List ℕ) → GoesOn table (take (length s - gaveUp table s) s)
   unfolding gaveUp
   gave-up-late a [] = nothing-late
   gave-up-late a (b ∷ s) = go (isSpace b) refl (gave-up-late a s)

@@ -15,7 +15,7 @@ use Rattle.nibl.specs.found.Read.{replied}
 use Rattle.nibl.specs.Values.{Result, is, no}
 use Rattle.nibl.specs.Stack.{pushOf, popOf, pushFor, popFor}
 use Rattle.nibl.specs.Typing.{Gathered, gather}
-use Rattle.nibl.specs.Record.{place, mark}
+use Rattle.nibl.specs.Record.{place, position, mark}
 use Rattle.nibl.specs.Page.{find, used}
 use Rattle.nibl.specs.Meaning.{World, Env, Next, on, skip, go, stop, Done, done, byteOf, stringAt, storeAt}
 use Rattle.nibl.specs.Runs.{Ran, Standing, Fetched}
@@ -34,13 +34,13 @@ use Rattle.demands.specs.Leaves.{WholeLines}
 -- the tops of two stacks, whose places are alike by H
 pub data TopsAlike (H : ℕ → ℕ → Type 0) : Top → Top → Type 0 where
   empty : TopsAlike H top.Empty top.Empty
-  places : {p p' : Place} → H (p .0) (p' .0) → TopsAlike H (top.At p) (top.At p')
+  places : {p p' : Place} → H (position p) (position p') → TopsAlike H (top.At p) (top.At p')
 
 pub record EntriesAlike (H : ℕ → ℕ → Type 0) (f f' : ForEntry) : Type 0 where
   pub var : f .var ≡ f' .var
   pub limit : f .limit ≡ f' .limit
   pub step : f .step ≡ f' .step
-  pub place : H (f .place .0) (f' .place .0)
+  pub place : H (position (f .place)) (position (f' .place))
 
 pub data ForTopsAlike (H : ℕ → ℕ → Type 0) : TopFor → TopFor → Type 0 where
   empty : ForTopsAlike H topf.Empty topf.Empty

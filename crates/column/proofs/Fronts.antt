@@ -1,25 +1,24 @@
 -- Whether a text is the front of a line, a spelling and a byte at a time. Assumes nothing.
-use Prim.Native.Nat.{ℕ, zero, suc, _+_, _-_, _≤_, _<_, min, max}
+use Prim.Native.Nat.{ℕ, zero, suc, _+_, _-_, _/_, _%_, _≤_, _<_, min, max}
 use mathlib.Core.Path.{_≡_, refl, sym, ap, _∙_}
-use mathlib.Core.Bool.{Bool, true, false, false≢true, _&&_}
+use mathlib.Core.Bool.{Bool, true, false, false≢true, _&&_, _||_}
 use mathlib.Core.List.{List, [], _∷_, _++_}
 use native.Mathlib.Nat.{add-zero}
 use native.Mathlib.Omega.{arith}
 use borrow.Author.Tests.{leb-true, leb-false, le-leb, lt-leb, eq-eqb, ne-eqb}
 use lib.Dec.{eqb, leb}
 use lib.ListN.{length, take, drop, getD, set, length-drop, drop-of-length-le, take-append-drop}
-use lib.Seq.{paste, paste-zero, paste-suc, length-paste, take-paste, length-take-le, take-all, take-take, take-append-le, drop-drop, getD-take, getD-drop}
-use Rattle.nibl.specs.Bytes.{if_then_else_, same, all}
+use lib.Seq.{sets, sets-eq, length-sets, take-append-seam, paste, paste-zero, paste-suc, length-paste, take-paste, length-take-le, take-all, take-take, take-append-le, getD-take, getD-drop}
+use Rattle.nibl.specs.Bytes.{if_then_else_, same}
 use Rattle.nibl.specs.Words.{keywords, commands}
 use Rattle.nibl.specs.found.Column.{typedLine, typedCommand, Verdict, alive, stuck, isAlive, lineRun, allTaken, spellings, endsWith, begunBy, begunIn, isFront, columnDown, columnOf}
-use Rattle.nibl.proofs.Words.{and-left, and-right}
 use Rattle.nibl.proofs.Bound.{begun-hit, begun-miss, begun-here, begun-later, front-taken, front-begun, column-hit, column-miss, column-bound}
 use Rattle.nibl.proofs.FrontSound.{front-of-front}
 use Rattle.nibl.proofs.Spot.{front-exact}
-use Rattle.word.specs.Found.{spellingsOf}
+use Rattle.word.specs.Found.{spellingsOf, longestKeyword, spelledKey}
 use Rattle.word.proofs.Runs.{at-byte}
 use Rattle.column.specs.Runs.{VerdictIs, lineSymbol}
-use Rattle.column.specs.Fronts.{cut, total, Spare, Kept, bytesLeft, ReachIs, lastTried}
+use Rattle.column.specs.Fronts.{spelledAll, Spare, Kept, bytesLeft, ReachIs, lastTried}
 use Rattle.column.specs.declared.run.Verdict.the-variants.{Alive, Stuck}
 
 -- What a verdict says
@@ -209,71 +208,95 @@ module _ {before : List ℕ} {n : ℕ} {z bottom text stack : List ℕ} {i : ℕ
   unfolding begunBy
   beginning-last h = let d : i - 1 ≡ 0 = omega arith in rw d at (p .same)
 
--- All spellings, one behind the other
-pub record Trying (before : List ℕ) (n : ℕ) (spelled lengths bottom text stack : List ℕ) (from i : ℕ) : Type 0 where
+-- All spellings of a list, one after the other
+pub record Trying (before : List ℕ) (n : ℕ) (keys bottom text stack : List ℕ) (i : ℕ) : Type 0 where
   pub kept : Kept before n text
   pub size : length stack ≡ length bottom
-  pub high : i ≤ length lengths
-  pub sum : from + total (drop i lengths) ≡ total lengths
-  pub same : begunIn (cut (drop from spelled) (drop i lengths)) (take n before) ≡ begunIn (cut spelled lengths) (take n before)
+  pub same : begunIn (spelledAll (drop i keys)) (take n before) ≡ begunIn (spelledAll keys) (take n before)
 
-pub trying-first : (text : List ℕ) (n : ℕ) (spelled lengths stack : List ℕ) → Trying text n spelled lengths stack text stack 0 0
-trying-first text n spelled lengths stack =
-    record { kept = kept-all text n; size = refl; high = omega arith; sum = omega arith; same = refl }
+pub trying-first : (text : List ℕ) (n : ℕ) (keys stack : List ℕ) → Trying text n keys stack text stack 0
+trying-first text n keys stack = record { kept = kept-all text n; size = refl; same = refl }
 
-all-at : (p : ℕ → Bool) (l : List ℕ) (i : ℕ) → all p l ≡ true → i < length l → p (getD l i 0) ≡ true
-all-at p [] i a h = absurd (omega arith)
-all-at p (b ∷ l) zero a h = and-left (p b) (all p l) a
-all-at p (b ∷ l) (suc i) a h = all-at p l i (and-right (p b) (all p l) a) (omega arith)
+-- no spelling is longer than its room
+spelled-more : (m k : ℕ) (t : Bool) → length (spelledKey m (k / 256)) ≤ m → length (if t then [] else k % 256 ∷ spelledKey m (k / 256)) ≤ suc m
+spelled-more m k true h = omega arith
+spelled-more m k false h = omega arith
 
-pub short-at : (lengths : List ℕ) (i : ℕ) → all (λ k. leb k 6) lengths ≡ true → i < length lengths → getD lengths i 0 ≤ 6
-short-at lengths i a h = leb-true (getD lengths i 0) 6 (all-at (λ k. leb k 6) lengths i a h)
+pub spelled-short : (m k : ℕ) → length (spelledKey m k) ≤ m
+spelled-short zero k = omega arith
+spelled-short (suc m) k = spelled-more m k (eqb k 0) (spelled-short m (k / 256))
 
-module _ {before : List ℕ} {n : ℕ} {spelled lengths bottom text stack : List ℕ} {from i : ℕ} (p : Trying before n spelled lengths bottom text stack from i) where
-  module _ (h : i < length lengths) where
-    pub trying-within : total lengths ≤ length spelled → from + getD lengths i 0 ≤ length spelled
-    trying-within l = omega (arith, p .sum, ap total (at-byte lengths i h))
+-- a key spelled into an empty room stands at its front
+abbrev pub emptyRoom : List ℕ
+emptyRoom = 0 ∷ 0 ∷ 0 ∷ 0 ∷ 0 ∷ 0 ∷ []
 
-    -- the part of the code is the spelling that stands there
-    pub spelling-at : take (from + getD lengths i 0 - from) (drop from spelled) ≡ take (getD lengths i 0) (drop from spelled)
-    spelling-at = let d : from + getD lengths i 0 - from ≡ getD lengths i 0 = omega arith in rw d
+module _ (k : ℕ) {room : List ℕ} {to : ℕ} (e : to ≡ length (spelledKey longestKeyword k)) (f : room ≡ sets emptyRoom 0 (spelledKey longestKeyword k)) where
+  pub spelled-at : take to room ≡ spelledKey longestKeyword k
+  spelled-at =
+      let z : List ℕ = spelledKey longestKeyword k in
+      rw (e, f, sets-eq z emptyRoom 0 (omega (arith, spelled-short longestKeyword k))) (take-append-seam z (drop (0 + length z) emptyRoom))
 
+  pub spelled-within : (to ≤ longestKeyword) × (length room ≡ longestKeyword)
+  spelled-within = (omega (arith, spelled-short longestKeyword k), ap length f ∙ length-sets emptyRoom 0 (spelledKey longestKeyword k))
+
+module _ {before : List ℕ} {n : ℕ} {keys bottom text stack : List ℕ} {i : ℕ} (p : Trying before n keys bottom text stack i) where
+  module _ (h : i < length keys) where
     -- the spelling, and those behind it
-    here-first : begunIn (take (getD lengths i 0) (drop from spelled) ∷ cut (drop (from + getD lengths i 0) spelled) (drop (i + 1) lengths)) (take n before)
-        ≡ begunIn (cut spelled lengths) (take n before)
-    here-first = rw (at-byte lengths i h, drop-drop (getD lengths i 0) from spelled) at (p .same)
+    here-first : begunIn (spelledKey longestKeyword (getD keys i 0) ∷ spelledAll (drop (i + 1) keys)) (take n before) ≡ begunIn (spelledAll keys) (take n before)
+    here-first = rw (at-byte keys i h) at (p .same)
 
-    module _ {b : Bool} {z : List ℕ} (e : z ≡ take (getD lengths i 0) (drop from spelled)) (a : b ≡ begunBy (take n text) z (length z - 1)) where
+    module _ {b : Bool} {z : List ℕ} (e : z ≡ spelledKey longestKeyword (getD keys i 0)) (a : b ≡ begunBy (take n text) z (length z - 1)) where
       answer : begunBy (take n before) z (length z - 1) ≡ b
       answer = rw (p .kept .front) at (sym a)
 
-      pub trying-hit : true ≡ b → true ≡ begunIn (cut spelled lengths) (take n before)
-      trying-hit t =
-          sym (begun-here z (cut (drop (from + getD lengths i 0) spelled) (drop (i + 1) lengths)) (take n before) (answer ∙ sym t))
-          ∙ (rw e here-first)
+      pub trying-hit : true ≡ b → true ≡ begunIn (spelledAll keys) (take n before)
+      trying-hit t = sym (begun-here z (spelledAll (drop (i + 1) keys)) (take n before) (answer ∙ sym t)) ∙ (rw e here-first)
 
       pub trying-on : false ≡ b → {text' stack' : List ℕ} → Kept text n text' → length stack' ≡ length stack
-          → Trying before n spelled lengths bottom text' stack' (from + getD lengths i 0) (i + 1)
+          → Trying before n keys bottom text' stack' (i + 1)
       trying-on t k q = record {
         kept = kept-then (p .kept) k;
         size = q ∙ p .size;
-        high = omega arith;
-        sum = omega (arith, p .sum, ap total (at-byte lengths i h));
-        same =
-            sym (begun-later z (cut (drop (from + getD lengths i 0) spelled) (drop (i + 1) lengths)) (take n before) (answer ∙ sym t))
-            ∙ (rw e here-first);
+        same = sym (begun-later z (spelledAll (drop (i + 1) keys)) (take n before) (answer ∙ sym t)) ∙ (rw e here-first);
       }
 
-  pub trying-last : length lengths ≤ i → false ≡ begunIn (cut spelled lengths) (take n before)
+  pub trying-last : length keys ≤ i → false ≡ begunIn (spelledAll keys) (take n before)
   unfolding begunIn
-  trying-last h = let d : drop i lengths ≡ [] = drop-of-length-le lengths h in rw d at (p .same)
+  trying-last h = let d : drop i keys ≡ [] = drop-of-length-le keys h in rw d at (p .same)
 
 -- Fronts
 pub is-front-taken : (s : List ℕ) → true ≡ allTaken s → true ≡ isFront s
 is-front-taken s e = sym (front-taken s (sym e))
 
-pub is-front-begun : (s : List ℕ) {b : Bool} → false ≡ allTaken s → b ≡ begunIn spellings s → b ≡ isFront s
-is-front-begun s e f = f ∙ sym (front-begun s (sym e))
+-- two lists of spellings, one behind the other
+begun-both : (ys zs : List (List ℕ)) (s : List ℕ) → begunIn (ys ++ zs) s ≡ (begunIn ys s || begunIn zs s)
+unfolding begunIn
+begun-both [] zs s = refl
+begun-both (y ∷ ys) zs s = go (begunBy s y (length y - 1)) (begun-both ys zs s)
+  where
+    go : (t : Bool) → begunIn (ys ++ zs) s ≡ (begunIn ys s || begunIn zs s)
+        → elim t as (λ _. Bool) [ true ↦ true | false ↦ begunIn (ys ++ zs) s ] ≡ (elim t as (λ _. Bool) [ true ↦ true | false ↦ begunIn ys s ] || begunIn zs s)
+    go true ih = refl
+    go false ih = ih
+
+-- keywords, commands, and the others
+abbrev pub others : List (List ℕ)
+others = drop (length keywords + length commands) spellings
+
+module _ (s : List ℕ) (e : false ≡ allTaken s) where
+  front-by : isFront s ≡ (begunIn keywords s || (begunIn commands s || begunIn others s))
+  front-by =
+      front-begun s (sym e) ∙ begun-both keywords (commands ++ others) s ∙ ap (λ (b : Bool). begunIn keywords s || b) (begun-both commands others s)
+
+  pub front-keyword : true ≡ begunIn keywords s → true ≡ isFront s
+  front-keyword f = rw (front-by, ← f)
+
+  module _ (f : false ≡ begunIn keywords s) where
+    pub front-command : true ≡ begunIn commands s → true ≡ isFront s
+    front-command g = rw (front-by, ← f, ← g)
+
+    pub front-other : false ≡ begunIn commands s → {b : Bool} → b ≡ begunIn others s → b ≡ isFront s
+    front-other g h = rw (front-by, ← f, ← g) h
 
 -- A front part of a front is a front; so behind one that is none there is none
 front-part : (s : List ℕ) (n m : ℕ) → n ≤ m → isFront (take m s) ≡ true → isFront (take n s) ≡ true

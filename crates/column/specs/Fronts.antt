@@ -1,19 +1,15 @@
 -- What the contracts of the search for the column say, beyond the definition.
 use Prim.Native.Nat.{ℕ, _+_, _-_, _*_, _≤_, _<_, min}
 use mathlib.Core.Path.{_≡_}
-use mathlib.Core.List.{List, [], _∷_}
-use lib.ListN.{length, take, drop}
+use mathlib.Core.List.{List, map}
+use lib.ListN.{length, take}
 use Rattle.nibl.specs.Words.{keywords, commands}
+use Rattle.word.specs.Found.{longestKeyword, spelledKey}
 use Rattle.nibl.specs.found.Column.{typedLine, typedCommand, Verdict, alive, stuck, lineRun}
 
--- spellings that stand one behind the other, by their lengths
-abbrev pub cut : List ℕ → List ℕ → List (List ℕ)
-cut xs [] = []
-cut xs (n ∷ ns) = take n xs ∷ cut (drop n xs) ns
-
-abbrev pub total : List ℕ → ℕ
-total [] = 0
-total (n ∷ ns) = n + total ns
+-- the spellings that are handed on as numbers
+abbrev pub spelledAll : List ℕ → List (List ℕ)
+spelledAll keys = map (spelledKey longestKeyword) keys
 
 -- room behind the first n bytes of a text for the rest of a word, and on the stack for what may come
 abbrev pub most : ℕ

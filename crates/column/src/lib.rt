@@ -4,78 +4,43 @@ use run::Verdict;
 use run::run;
 ghost use Prim.Native.Nat.{_+_, _-_, _*_, _≤_, _<_, max};
 ghost use mathlib.Core.Path.{_≡_};
-ghost use mathlib.Core.Bool.{true, _&&_};
+ghost use mathlib.Core.Bool.{_&&_};
 ghost use mathlib.Core.List.{_++_};
 ghost use lib.ListN.{length, take, drop};
 ghost use lib.Seq.{paste};
-ghost use lib.Dec.{leb};
-ghost use Rattle.nibl.specs.Bytes.{all};
 ghost use Rattle.nibl.specs.found.Column.{lineRun, isAlive, allTaken, endsWith, begunBy, begunIn, isFront, columnDown, columnOf};
 ghost use Rattle.nibl.specs.Typing.{limit};
 ghost use Rattle.word.specs.Found.{spellingsOf, longestKeyword};
 ghost use Rattle.column.specs.Runs.{lineSymbol};
-ghost use Rattle.column.specs.Fronts.{cut, total, most, Spare, Kept, ReachIs, lastTried};
+ghost use Rattle.column.specs.Fronts.{spelledAll, most, Spare, Kept, ReachIs, lastTried};
 
 mod rules;
 mod run;
 
-// A text may end within a word. The words that it may have begun, one behind the other, and how long each is; of a hex constant "#"
-// and a digit are enough.
-const SPELLED: [u8; 138] =
-    *b"LETGOTOSUBGOTOGOSUBRETURNPRPRINTIFTHENDOUNTILFORSTEPNEXTINPUTREMENDSTATTOPMODANDORNOTNEWCLEARLISTRUN<=>=<>#0#1#2#3#4#5#6#7#8#9#A#B#C#D#E#F";
-
-const LENGTHS: [u8; 48] = [
-    3, // LET
-    2, // GO
-    2, // TO
-    3, // SUB
-    4, // GOTO
-    5, // GOSUB
-    6, // RETURN
-    2, // PR
-    5, // PRINT
-    2, // IF
-    4, // THEN
-    2, // DO
-    5, // UNTIL
-    3, // FOR
-    4, // STEP
-    4, // NEXT
-    5, // INPUT
-    3, // REM
-    3, // END
-    4, // STAT
-    3, // TOP
-    3, // MOD
-    3, // AND
-    2, // OR
-    3, // NOT
-    3, // NEW
-    5, // CLEAR
-    4, // LIST
-    3, // RUN
-    2, // <=
-    2, // >=
-    2, // <>
-    2, // #0
-    2, // #1
-    2, // #2
-    2, // #3
-    2, // #4
-    2, // #5
-    2, // #6
-    2, // #7
-    2, // #8
-    2, // #9
-    2, // #A
-    2, // #B
-    2, // #C
-    2, // #D
-    2, // #E
-    2, // #F
+// A text may end within a word: a keyword or a command, or one of these, spelled in the same way. Of a hex constant "#" and a digit are enough.
+const OTHERS: [u64; 19] = [
+    0x3d3c, // <=
+    0x3d3e, // >=
+    0x3e3c, // <>
+    0x3023, // #0
+    0x3123, // #1
+    0x3223, // #2
+    0x3323, // #3
+    0x3423, // #4
+    0x3523, // #5
+    0x3623, // #6
+    0x3723, // #7
+    0x3823, // #8
+    0x3923, // #9
+    0x4123, // #A
+    0x4223, // #B
+    0x4323, // #C
+    0x4423, // #D
+    0x4523, // #E
+    0x4623, // #F
 ];
 
-// The most that is written behind a front part to end the word that it has begun.
+// The most that is written behind a front part to end the word that it has begun: all but a first byte of the longest.
 const COMPLETION: usize = 5;
 
 // How much may come: a word takes a byte at least, and leaves at most three more of it.
@@ -171,21 +136,20 @@ fn begun_by(text: &mut [u8], n: usize, z: &[u8], stack: &mut [u8]) -> bool
     false
 }
 
-// The same for each of the spellings that stand one behind the other.
-fn begun_in(text: &mut [u8], n: usize, spelled: &[u8], lengths: &[u8], stack: &mut [u8]) -> bool
-    requires { ⌜ Spare (now text) n (now stack) × (total (now lengths) ≤ length (now spelled)) × (all (λ k. leb k longestKeyword) (now lengths) ≡ true) ⌝ }
-    ensures answer { λ r. ⌜ r ≡ begunIn (cut (now (spelled .entry)) (now (lengths .entry))) (take n (now (text .entry))) ⌝ }
+// The same for each of a list of spellings, each one number.
+fn begun_in(text: &mut [u8], n: usize, keys: &[u64], stack: &mut [u8]) -> bool
+    requires { ⌜ Spare (now text) n (now stack) ⌝ }
+    ensures answer { λ r. ⌜ r ≡ begunIn (spelledAll (now (keys .entry))) (take n (now (text .entry))) ⌝ }
     ensures text { λ r. ⌜ Kept (now (text .entry)) n (now (text .exit)) ⌝ }
     ensures size { λ r. ⌜ length (now (stack .exit)) ≡ length (now (stack .entry)) ⌝ }
 {
-    let mut from = 0;
     let mut i = 0;
-    while i < lengths.len() {
-        let to = from + lengths[i] as usize;
-        if begun_by(text, n, &spelled[from..to], stack) {
+    while i < keys.len() {
+        let mut room = [0u8; COMPLETION + 1];
+        let to = word::spell(keys[i], &mut room);
+        if begun_by(text, n, &room[..to], stack) {
             return true;
         }
-        from = to;
         i += 1;
     }
     false
@@ -201,7 +165,13 @@ fn is_front(text: &mut [u8], n: usize, stack: &mut [u8]) -> bool
     if all_taken(&text[..n], stack) {
         return true;
     }
-    begun_in(text, n, &SPELLED, &LENGTHS, stack)
+    if begun_in(text, n, &word::KEYWORDS, stack) {
+        return true;
+    }
+    if begun_in(text, n, &word::COMMANDS, stack) {
+        return true;
+    }
+    begun_in(text, n, &OTHERS, stack)
 }
 
 // The longest front of at most so many bytes. A front part of a front is a front: so by halves, in a room into which the text is laid anew

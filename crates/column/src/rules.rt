@@ -94,7 +94,7 @@ const A_RELATION: u32 = (DIGIT + FIRST_FACTOR) * DIGIT + MORE_OF_RELATION;
 // come has its own here, and may have those of another too (ALSO).
 const WORD: u32 = 2097152;
 
-const RULES: [u32; 88] = [
+const RULES: [u32; LIST_NUMBER_END] = [
     // FACTOR
     WORD * NAME as u32 + NOTHING,
     WORD * DECIMAL as u32 + NOTHING,
@@ -212,38 +212,95 @@ const RULES: [u32; 88] = [
     WORD * DECIMAL as u32 + NOTHING,
 ];
 
-// Where the rules of each thing that may come begin.
+// How many rules each thing that may come has, and where they end: behind those of the ones before it.
+const FACTOR_END: usize = 9;
+
+const FIRST_FACTOR_END: usize = FACTOR_END + 2;
+
+const CLOSING_END: usize = FIRST_FACTOR_END + 1;
+
+const MOD_OPEN_END: usize = CLOSING_END + 1;
+
+const MOD_COMMA_END: usize = MOD_OPEN_END + 1;
+
+const TARGET_END: usize = MOD_COMMA_END + 4;
+
+const EQUALS_END: usize = TARGET_END + 1;
+
+const TEXT_EQUALS_END: usize = EQUALS_END + 1;
+
+const TEXT_VALUE_END: usize = TEXT_EQUALS_END + 2;
+
+const STATEMENT_END: usize = TEXT_VALUE_END + 15;
+
+const AFTER_GO_END: usize = STATEMENT_END + 2;
+
+const ITEM_END: usize = AFTER_GO_END + 13;
+
+const CONSEQUENCE_END: usize = ITEM_END + 1;
+
+const FOR_VARIABLE_END: usize = CONSEQUENCE_END + 1;
+
+const FOR_EQUALS_END: usize = FOR_VARIABLE_END + 1;
+
+const FOR_TO_END: usize = FOR_EQUALS_END + 1;
+
+const ONE_VARIABLE_END: usize = FOR_TO_END + 1;
+
+const INPUT_TARGET_END: usize = ONE_VARIABLE_END + 2;
+
+const TYPED_LINE_END: usize = INPUT_TARGET_END + 1;
+
+const TYPED_COMMAND_END: usize = TYPED_LINE_END + 4;
+
+const REMARK_END: usize = TYPED_COMMAND_END;
+
+const MORE_OF_RELATION_END: usize = REMARK_END + 12;
+
+const MORE_OF_SUM_END: usize = MORE_OF_RELATION_END + 6;
+
+const MORE_ITEMS_END: usize = MORE_OF_SUM_END + 2;
+
+const FOR_STEP_END: usize = MORE_ITEMS_END + 1;
+
+const MORE_VARIABLES_END: usize = FOR_STEP_END + 1;
+
+const MORE_MEMBERS_END: usize = MORE_VARIABLES_END + 1;
+
+const LIST_NUMBER_END: usize = MORE_MEMBERS_END + 1;
+
+// Where the rules of each thing that may come begin, and the last one's end.
 const FIRST_RULE: [usize; 30] = [
     0, // nothing
     0, // FACTOR
-    9, // FIRST_FACTOR
-    11, // CLOSING
-    12, // MOD_OPEN
-    13, // MOD_COMMA
-    14, // TARGET
-    18, // EQUALS
-    19, // TEXT_EQUALS
-    20, // TEXT_VALUE
-    22, // STATEMENT
-    37, // AFTER_GO
-    39, // ITEM
-    52, // CONSEQUENCE
-    53, // FOR_VARIABLE
-    54, // FOR_EQUALS
-    55, // FOR_TO
-    56, // ONE_VARIABLE
-    57, // INPUT_TARGET
-    59, // TYPED_LINE
-    60, // TYPED_COMMAND
-    64, // REMARK
-    64, // MORE_OF_RELATION
-    76, // MORE_OF_SUM
-    82, // MORE_ITEMS
-    84, // FOR_STEP
-    85, // MORE_VARIABLES
-    86, // MORE_MEMBERS
-    87, // LIST_NUMBER
-    88, // the end
+    FACTOR_END, // FIRST_FACTOR
+    FIRST_FACTOR_END, // CLOSING
+    CLOSING_END, // MOD_OPEN
+    MOD_OPEN_END, // MOD_COMMA
+    MOD_COMMA_END, // TARGET
+    TARGET_END, // EQUALS
+    EQUALS_END, // TEXT_EQUALS
+    TEXT_EQUALS_END, // TEXT_VALUE
+    TEXT_VALUE_END, // STATEMENT
+    STATEMENT_END, // AFTER_GO
+    AFTER_GO_END, // ITEM
+    ITEM_END, // CONSEQUENCE
+    CONSEQUENCE_END, // FOR_VARIABLE
+    FOR_VARIABLE_END, // FOR_EQUALS
+    FOR_EQUALS_END, // FOR_TO
+    FOR_TO_END, // ONE_VARIABLE
+    ONE_VARIABLE_END, // INPUT_TARGET
+    INPUT_TARGET_END, // TYPED_LINE
+    TYPED_LINE_END, // TYPED_COMMAND
+    TYPED_COMMAND_END, // REMARK
+    REMARK_END, // MORE_OF_RELATION
+    MORE_OF_RELATION_END, // MORE_OF_SUM
+    MORE_OF_SUM_END, // MORE_ITEMS
+    MORE_ITEMS_END, // FOR_STEP
+    FOR_STEP_END, // MORE_VARIABLES
+    MORE_VARIABLES_END, // MORE_MEMBERS
+    MORE_MEMBERS_END, // LIST_NUMBER
+    LIST_NUMBER_END, // the end
 ];
 
 // Whose rules each thing that may come has too, behind its own; 0 for none. It is always one with a smaller number.

@@ -11,7 +11,7 @@ use borrow.Author.Tests.{eqb-true}
 use Rattle.nibl.specs.Bytes.{if_then_else_}
 use Rattle.nibl.specs.Tree.{Stmt}
 use Rattle.nibl.specs.Page.{isAmong}
-use Rattle.nibl.specs.Record.{mark}
+use Rattle.nibl.specs.Record.{position, mark}
 use Rattle.nibl.specs.Meaning.{World, Env, on, skip, go, stop, Done, done, exec}
 use Rattle.nibl.specs.Runs.{Ran, stepped, Standing, Fetched, past, unread, here, fetch, envAt, afterStep, step, runFrom}
 use Rattle.demands.proofs.Does.{refusals, GivesVariables, gave, refused, gives, Does, writes, takes, refuses, passes, skips, assigns, assignsFlags, stores, goesTo, saves, returns, loops, repeats, leaves, begins, again, finishes, inputs}
@@ -63,7 +63,7 @@ does-stops (assignsFlags x) = goes
 does-stops (stores m h) = goes
 does-stops (goesTo n h) = jumped
 does-stops (saves n h g) = jumped
-does-stops (returns p h) = after-stops (eqb (p .0) mark) _ _
+does-stops (returns p h) = after-stops (eqb (position p) mark) _ _
 does-stops (loops h) = goes
 does-stops (repeats p h) = jumped
 does-stops (leaves p h) = goes

@@ -12,7 +12,7 @@ use Rattle.nibl.specs.Stack.{pushOf, popOf, pushFor, popFor}
 use Rattle.nibl.specs.Typing.{Gathered, gather}
 use Rattle.nibl.specs.Page.{isAmong, find}
 use Rattle.nibl.specs.Meaning.{World, Env, on, skip, go, stop, Done, done, withSession, withMemory, withOutput, withInpos, after, goesOn}
-use Rattle.nibl.specs.Record.{withVar, withFlags, withGosubs, withDos, withFors, place}
+use Rattle.nibl.specs.Record.{withVar, withFlags, withGosubs, withDos, withFors, place, position}
 use Rattle.nibl.specs.declared.Place.{Place}
 use Rattle.nibl.specs.declared.ForEntry.{ForEntry}
 use Rattle.nibl.specs.declared.Top.the-variants as top
@@ -49,7 +49,7 @@ pub data Does (e : Env) (vs : List ℕ) (W : List ℕ → Type 0) : World → Do
       → Does e vs W w (done (after p) (withSession w (withGosubs (w .session) (popOf (w .session .gosubs) .stack))))
   loops : {w : World} → pushOf (w .session .dos) (place (e .here)) .ok ≡ true
       → Does e vs W w (done on (withSession w (withDos (w .session) (pushOf (w .session .dos) (place (e .here)) .stack))))
-  repeats : {w : World} (p : Place) → popOf (w .session .dos) .top ≡ top.At p → Does e vs W w (done (go (suc (p .0))) w)
+  repeats : {w : World} (p : Place) → popOf (w .session .dos) .top ≡ top.At p → Does e vs W w (done (go (suc (position p))) w)
   leaves : {w : World} (p : Place) → popOf (w .session .dos) .top ≡ top.At p
       → Does e vs W w (done on (withSession w (withDos (w .session) (popOf (w .session .dos) .stack))))
   begins : {w : World} (v first limit step : ℕ) → isAmong vs v ≡ true
@@ -58,7 +58,7 @@ pub data Does (e : Env) (vs : List ℕ) (W : List ℕ → Type 0) : World → Do
       (pushFor (w .session .fors) (record { var = v; limit = limit; step = step; place = place (e .here) }) .stack)) v first)))
   again : {w : World} (v : ℕ) (f : ForEntry) → popFor (w .session .fors) .top ≡ topf.Entry f
       → goesOn (f .step) (add16 (getD (w .session .vars) v 0) (f .step)) (f .limit) ≡ true
-      → Does e vs W w (done (go (suc (f .place .0))) (withSession w (withVar (w .session) v (add16 (getD (w .session .vars) v 0) (f .step)))))
+      → Does e vs W w (done (go (suc (position (f .place)))) (withSession w (withVar (w .session) v (add16 (getD (w .session .vars) v 0) (f .step)))))
   finishes : {w : World} (v : ℕ) (f : ForEntry) → popFor (w .session .fors) .top ≡ topf.Entry f
       → goesOn (f .step) (add16 (getD (w .session .vars) v 0) (f .step)) (f .limit) ≡ false
       → Does e vs W w (done on (withSession w (withFors (withVar (w .session) v (add16 (getD (w .session .vars) v 0) (f .step))) (popFor (w .session .fors) .stack))))

@@ -10,6 +10,7 @@ use Rattle.nibl.specs.Tree.{Typed}
 use Rattle.nibl.specs.Readings.{LineReading}
 use Rattle.nibl.specs.found.Read.{typed}
 use Rattle.nibl.specs.Typing.{Gathered, gather}
+use Rattle.nibl.specs.Page.{placesOf}
 use Rattle.nibl.specs.Meaning.{World, Env}
 use Rattle.nibl.specs.Lent.{Lent, Outcome}
 use Rattle.nibl.specs.Runs.{runFrom}
@@ -31,7 +32,7 @@ use Rattle.demands.proofs.Sound.{unrefused, Settled, settled, goings-nu
 use Rattle.demands.proofs.Fixed.{five-takes-the-line}
 
 -- Of a run, from wherever one may stand: the program's start, the record of a line, after a saved or a paused place
-pub no-grammar-refusal-while-running : (lim : ℕ) (e : Env) → lim ≤ 251 → (k q : ℕ) (w : World) → Sound lim (e .page) (w .session) → Stands (e .page) q
+pub no-grammar-refusal-while-running : (lim : ℕ) (e : Env) → lim ≤ 251 → (k q : ℕ) (w : World) → Sound lim (e .page) (w .session) → Stands (placesOf (e .page)) q
     → runFrom k e q w .stop ≡ 5 → ⊥
 no-grammar-refusal-while-running lim e short k q w h s f = false≢true (rw f at (goings-number (run-goes lim e short (h .good) k q w s (sound-fit h))))
 

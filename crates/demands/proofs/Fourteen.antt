@@ -10,7 +10,7 @@ use Rattle.nibl.specs.Tree.{Typed, run, immediate}
 use Rattle.nibl.specs.Typing.{Gathered}
 use Rattle.nibl.specs.Readings.{LineReading}
 use Rattle.nibl.specs.Meaning.{World, Env, Next, stop}
-use Rattle.nibl.specs.Page.{isGood}
+use Rattle.nibl.specs.Page.{isGood, placesOf}
 use Rattle.nibl.specs.Lent.{Lent, Outcome}
 use Rattle.nibl.specs.Runs.{runFrom}
 use Rattle.nibl.specs.Typing.{limit}
@@ -55,7 +55,7 @@ module _ (x : Lent) (From : ℕ → World → Type 0) (o' o : Outcome) where
   abbrev Left : Type 0
   Left = LeftToRun From env budget o' o
 
-  waiting : (q : ℕ) (w : World) → From q w → isGood limit (x .page) ≡ true → Stands (x .page) q → o ≡ ranFrom x q w → o .answer .steps ≡ 0 → o .answer .stop ≡ 14
+  waiting : (q : ℕ) (w : World) → From q w → isGood limit (x .page) ≡ true → Stands (placesOf (x .page)) q → o ≡ ranFrom x q w → o .answer .steps ≡ 0 → o .answer .stop ≡ 14
       → (o .answer .steps ≡ budget) × Left
   waiting q w b good s e z i =
       by (no-step budget env q w (sym (ap (λ o. o .answer .steps) e) ∙ z) .still) (sym (ap (λ o. o .answer .stop) e) ∙ i)

@@ -15,7 +15,7 @@ use Rattle.nibl.specs.Grammar.{Members, lastMember, moreMembers}
 use Rattle.nibl.specs.found.Read.{reading}
 use Rattle.nibl.specs.Values.{digits}
 use Rattle.nibl.specs.Page.{Stored, isEnd, lineAt, lengthAt, textAt, isStorable, isRecord, goodN, isGood, recordsOf, size, lineIn, lineOf, endsFrom, endsOf, placesIn, placesOf, isAmong, fitsPaused, fits}
-use Rattle.nibl.specs.Record.{mark}
+use Rattle.nibl.specs.Record.{position, mark}
 use Rattle.nibl.specs.declared.Place.{Place}
 use Rattle.nibl.specs.declared.ForEntry.{ForEntry}
 use Rattle.nibl.specs.declared.Session.{Session}
@@ -33,7 +33,7 @@ use Rattle.page.proofs.Laid.{Whole, Laid, good-laid}
 use Rattle.page.proofs.Laid as laid
 use Rattle.record.specs.Fits.{isSaved, isUnderWay}
 use Rattle.record.specs.Fit.{isPlace}
-use Rattle.record.proofs.Fitted.{fits-tests}
+use Rattle.record.proofs.Fitted.{page-tests}
 use Rattle.demands.specs.Items.{In, first, further}
 use Rattle.demands.specs.Good.{RecordAt, Boundary, start, behind, GoodText, GoodFrom, ends, goesOn, GoodPage, IsPlace, endsMember, PauseFits, nothingPaused, atStart, afterPlace, Fits}
 
@@ -263,28 +263,28 @@ module _ {A : Type 0} (f : A → Bool) where
 module _ (lim : ℕ) (short : lim ≤ 251) (page : List ℕ) (good : GoodPage lim page) (s : Session) where
   fits-so : fits page s ≡ true → Fits page s
   fits-so h =
-      let t = fits-tests page s h in
+      let t = page-tests page s h in
       record {
         gosubsDeep = t .gosubs-deep;
         dosDeep = t .dos-deep;
         forsDeep = t .fors-deep;
         gosubs = λ p i.
-            or-cases (isAmong (placesOf page) (p .0)) (eqb (p .0) mark) (all-in (isSaved (placesOf page) true) i (t .gosubs))
-            (λ e. inl (place-exact lim page short good (p .0) .0 e)) (λ e. inr (eqb-true (p .0) mark e));
-        dos = λ p i. place-exact lim page short good (p .0) .0 (all-in (isPlace (placesOf page)) i (t .dos));
+            or-cases (isAmong (placesOf page) (position p)) (eqb (position p) mark) (all-in (isSaved (placesOf page) true) i (t .gosubs))
+            (λ e. inl (place-exact lim page short good (position p) .0 e)) (λ e. inr (eqb-true (position p) mark e));
+        dos = λ p i. place-exact lim page short good (position p) .0 (all-in (isPlace (placesOf page)) i (t .dos));
         fors = λ f i.
             let b = both (ltb (f .var) 26) _ (all-in (isUnderWay (placesOf page)) i (t .fors)) in
-            (ltb-true _ _ (b .0), place-exact lim page short good (f .place .0) .0 (b .1));
+            (ltb-true _ _ (b .0), place-exact lim page short good (position (f .place)) .0 (b .1));
         flags = ltb-true _ _ (t .flags);
         paused = stands-exact lim page short good (s .paused) .0 (t .paused);
       }
 
-  saved : (p : Place) → IsPlace page (p .0) ⊎ (p .0 ≡ mark) → isSaved (placesOf page) true p ≡ true
-  saved p (inl i) = rw (place-exact lim page short good (p .0) .1 i)
-  saved p (inr e) = or-right (isAmong (placesOf page) (p .0)) (eqb (p .0) mark) (eq-eqb (p .0) mark e)
+  saved : (p : Place) → IsPlace page (position p) ⊎ (position p ≡ mark) → isSaved (placesOf page) true p ≡ true
+  saved p (inl i) = rw (place-exact lim page short good (position p) .1 i)
+  saved p (inr e) = or-right (isAmong (placesOf page) (position p)) (eqb (position p) mark) (eq-eqb (position p) mark e)
 
-  under-way : (f : ForEntry) → (f .var < 26) × IsPlace page (f .place .0) → isUnderWay (placesOf page) f ≡ true
-  under-way f h = rw (lt-ltb (f .var) 26 (h .0), place-exact lim page short good (f .place .0) .1 (h .1))
+  under-way : (f : ForEntry) → (f .var < 26) × IsPlace page (position (f .place)) → isUnderWay (placesOf page) f ≡ true
+  under-way f h = rw (lt-ltb (f .var) 26 (h .0), place-exact lim page short good (position (f .place)) .1 (h .1))
 
   fits-is : Fits page s → fits page s ≡ true
   unfolding fits
@@ -294,7 +294,7 @@ module _ (lim : ℕ) (short : lim ≤ 251) (page : List ℕ) (good : GoodPage li
         le-leb (s .dos .depth) 8 (f .dosDeep),
         le-leb (s .fors .depth) 4 (f .forsDeep),
         in-all (isSaved (placesOf page) true) (take (s .gosubs .depth) (s .gosubs .places)) (λ p i. saved p (f .gosubs p i)),
-        in-all (isPlace (placesOf page)) (take (s .dos .depth) (s .dos .places)) (λ p i. place-exact lim page short good (p .0) .1 (f .dos p i)),
+        in-all (isPlace (placesOf page)) (take (s .dos .depth) (s .dos .places)) (λ p i. place-exact lim page short good (position p) .1 (f .dos p i)),
         in-all (isUnderWay (placesOf page)) (take (s .fors .depth) (s .fors .entries)) (λ e i. under-way e (f .fors e i)),
         lt-ltb (s .flags) 8 (f .flags),
       ) (stands-exact lim page short good (s .paused) .1 (f .paused))

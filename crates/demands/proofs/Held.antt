@@ -13,7 +13,7 @@ use Rattle.nibl.specs.Tree.{Stmt}
 use Rattle.nibl.specs.Stack.{popOf}
 use Rattle.nibl.specs.Page.{Stored, isAmong}
 use Rattle.nibl.specs.Meaning.{World, Env, on, skip, go, stop, Done, done, withSession, exec}
-use Rattle.nibl.specs.Record.{mark, withGosubs}
+use Rattle.nibl.specs.Record.{position, mark, withGosubs}
 use Rattle.nibl.specs.Runs.{Ran, envAt, afterStep, runFrom}
 use Rattle.nibl.specs.Calls.{listFrom}
 use Rattle.nibl.specs.declared.Place.{Place}
@@ -62,9 +62,9 @@ module _ (e : Env) (W : List ℕ → Type 0) where
   gives-leave v k a (gives x y g) =
       gives-leave v (record { flags = k .flags; gosubs = k .gosubs; dos = k .dos; fors = k .fors; paused = k .paused }) (record { memory = a .memory; items = a .items; lines = a .lines }) g
 
-  return-leaves : (w : World) (p : Place) → popOf (w .session .gosubs) .top ≡ top.At p → (b : Bool) → eqb (p .0) mark ≡ b
-      → Leaves e W w (done (if b then stop 0 else go (suc (p .0))) (withSession w (withGosubs (w .session) (popOf (w .session .gosubs) .stack))))
-  return-leaves w p h true m = returned (record { place = p; top = h; mark = eqb-true (p .0) mark m; rest = refl }) (record { memory = refl; items = noItem; lines = noneTaken })
+  return-leaves : (w : World) (p : Place) → popOf (w .session .gosubs) .top ≡ top.At p → (b : Bool) → eqb (position p) mark ≡ b
+      → Leaves e W w (done (if b then stop 0 else go (suc (position p))) (withSession w (withGosubs (w .session) (popOf (w .session .gosubs) .stack))))
+  return-leaves w p h true m = returned (record { place = p; top = h; mark = eqb-true (position p) mark m; rest = refl }) (record { memory = refl; items = noItem; lines = noneTaken })
   return-leaves w p h false m = jumped
 
   does-leave : {vs : List ℕ} {w : World} {d : Done} → Does e vs W w d → Leaves e W w d
@@ -78,7 +78,7 @@ module _ (e : Env) (W : List ℕ → Type 0) where
   does-leave (stores m h) = wentOn
   does-leave (goesTo n h) = jumped
   does-leave (saves n h g) = jumped
-  does-leave (returns {w = w} p h) = return-leaves w p h (eqb (p .0) mark) refl
+  does-leave (returns {w = w} p h) = return-leaves w p h (eqb (position p) mark) refl
   does-leave (loops h) = wentOn
   does-leave (repeats p h) = jumped
   does-leave (leaves p h) = wentOn

@@ -86,7 +86,7 @@ module _ (lim : ℕ) (e : Env) (short : lim ≤ 251) (good : isGood lim (e .page
       (itsLine m o (some-step g m o) (s .place) (place-lies lim (e .page) short good (r .at) (s .place)) (lines-low lim (e .page) short good (r .at))))
 
 -- "when an answer has a line number, it is that of the record the last step's place lies in"
-pub run-shows : (lim : ℕ) (e : Env) → lim ≤ 251 → (k q : ℕ) (w : World) → Sound lim (e .page) (w .session) → Stands (e .page) q
+pub run-shows : (lim : ℕ) (e : Env) → lim ≤ 251 → (k q : ℕ) (w : World) → Sound lim (e .page) (w .session) → Stands (placesOf (e .page)) q
     → Shows (e .page) (runFrom k e q w) (stopAt (runFrom k e q w .stop) (runFrom k e q w .lines))
 run-shows lim e short k q w h s = goings-show lim e short (h .good) (runFrom k e q w) (run-goes lim e short (h .good) k q w s (sound-fit h))
 
@@ -95,7 +95,7 @@ pub record LineOf {e : Env} {k q : ℕ} {w : World} {r : Ran} (t : LastStep e k 
   pub line : stopAt (r .stop) (r .lines) ≡ t .last .line
   pub lies : LiesIn (e .page) (t .last .place) (t .last .line)
 
-module _ (lim : ℕ) (e : Env) (short : lim ≤ 251) (k q : ℕ) (w : World) (h : Sound lim (e .page) (w .session)) (s : Stands (e .page) q)
+module _ (lim : ℕ) (e : Env) (short : lim ≤ 251) (k q : ℕ) (w : World) (h : Sound lim (e .page) (w .session)) (s : Stands (placesOf (e .page)) q)
     (m : runFrom k e q w .stop ≡ 0 → ⊥) (n : runFrom k e q w .stop ≡ 14 → ⊥) where
   abbrev r : Ran
   r = runFrom k e q w

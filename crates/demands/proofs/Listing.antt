@@ -42,7 +42,7 @@ use Rattle.page.proofs.Stored.{stored-read, stored-undigit, stored-short}
 use Rattle.page.proofs.Laid.{good-bytes}
 use Rattle.page.proofs.Listings.{listed-length}
 use Rattle.page.proofs.Changes.{lower, onto-good, onto-records}
-use Rattle.record.proofs.Fitted.{fits-tests}
+use Rattle.record.proofs.Fitted.{page-tests}
 use Rattle.demands.specs.Lent.{Typing}
 use Rattle.demands.specs.Listing.{listingOf, listingRoom, written, ListsWhole, lentNext, afterLines, answers, Stops0, lastLF, RoundTrip}
 use Rattle.demands.specs.Listing as listings
@@ -272,7 +272,7 @@ module _ (m : Lent) (ds rs : List Stored) (r : Stored) (p : Program limit 0 (ds 
           };
           good = onto-good (m .page) more-program;
           table = true-after limit y stored accepted;
-          fit = stackless-fits (onto (m .page) more) (y .session) (fits-tests (y .page) (y .session) (t .sound .fit) .flags);
+          fit = stackless-fits (onto (m .page) more) (y .session) (page-tests (y .page) (y .session) (t .sound .fit) .flags);
         };
         page = refl;
         memory = t .memory;

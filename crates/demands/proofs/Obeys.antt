@@ -50,7 +50,7 @@ pub data Obeyed (lim : ℕ) (e : Env) (v : World) (From : ℕ → World → Type
   edits : {w : World} {rs : List Stored} → Program lim 0 rs → w .session .paused ≡ nowhere → Fit (placesOf (e .page)) (w .session)
       → Obeyed lim e v From (λ k. stops 0 (withSession w (stackless (w .session))) (onto (e .page) rs))
   -- a run within the budget
-  runs : (q : ℕ) (w : World) → Stands (e .page) q → Fit (placesOf (e .page)) (w .session) → Placed (e .input) w → Steady v w → From q w
+  runs : (q : ℕ) (w : World) → Stands (placesOf (e .page)) q → Fit (placesOf (e .page)) (w .session) → Placed (e .input) w → Steady v w → From q w
       → Obeyed lim e v From (λ k. runOutcome (runFrom k e q w) (e .page))
 
 module _ (lim : ℕ) (e : Env) (v : World) (From : ℕ → World → Type 0) where
@@ -59,10 +59,10 @@ module _ (lim : ℕ) (e : Env) (v : World) (From : ℕ → World → Type 0) whe
   edit-ways w rs n f p =
       if-split (λ (o : Outcome). Obeyed lim e v From (λ k. o)) (leb (length (programBytes rs)) (length (e .page))) (λ h. edits p n f) (λ h. stands refl f)
 
-  left-ways : (d : Done) → LeavesFit (e .page) d → Placed (e .input) (worldAfter d) → Steady v (worldAfter d) → ((q : ℕ) (w : World) → d ≡ done (go q) w → From q w)
+  left-ways : (d : Done) → LeavesFit (placesOf (e .page)) d → Placed (e .input) (worldAfter d) → Steady v (worldAfter d) → ((q : ℕ) (w : World) → d ≡ done (go q) w → From q w)
       → Obeyed lim e v From (λ k. afterImmediate k e d)
   left-ways d l i j b = by d (l .goes) (l .stops) i j b where
-    by : (d : Done) → Goes (e .page) d → StopsWith d → Placed (e .input) (worldAfter d) → Steady v (worldAfter d)
+    by : (d : Done) → Goes (placesOf (e .page)) d → StopsWith d → Placed (e .input) (worldAfter d) → Steady v (worldAfter d)
         → ((q : ℕ) (w : World) → d ≡ done (go q) w → From q w) → Obeyed lim e v From (λ k. afterImmediate k e d)
     by (done on w) (toNext f) s i j b = stands refl f
     by (done skip w) (toRecord f) s i j b = stands refl f

@@ -14,6 +14,7 @@ use Rattle.nibl.specs.Tree.{Typed}
 use Rattle.nibl.specs.found.Read.{typed}
 use Rattle.nibl.specs.found.Column.{columnOf}
 use Rattle.nibl.specs.Typing.{Gathered}
+use Rattle.nibl.specs.Page.{placesOf}
 use Rattle.nibl.specs.Meaning.{World, Env}
 use Rattle.nibl.specs.Lent.{Lent, Outcome, refusedLine}
 use Rattle.nibl.specs.Runs.{Ran, ran, Standing, here, fetch, runFrom}
@@ -55,7 +56,7 @@ goings-pause (steps p h g) e = let s = goings-pause g e in record { spent = ap s
 abbrev pub Exactly : ℕ → ℕ → ℕ → ℕ → Type 0
 Exactly stop k spent more = (stop ≡ 14) ↔ ((spent ≡ k) × (more ≡ suc k))
 
-module _ (lim : ℕ) (e : Env) (short : lim ≤ 251) (q : ℕ) (w : World) (h : Sound lim (e .page) (w .session)) (s : Stands (e .page) q) where
+module _ (lim : ℕ) (e : Env) (short : lim ≤ 251) (q : ℕ) (w : World) (h : Sound lim (e .page) (w .session)) (s : Stands (placesOf (e .page)) q) where
   paused-where : (k : ℕ) → runFrom k e q w .stop ≡ 14 → Pause (e .page) k (runFrom k e q w)
   paused-where k i = goings-pause (run-goes lim e short (h .good) k q w s (sound-fit h)) i
 

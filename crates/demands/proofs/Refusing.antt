@@ -9,6 +9,7 @@ use lib.Seq.{sets}
 use lib.Dec.{leb, eqb}
 use Rattle.nibl.specs.Bytes.{if_then_else_, bytes}
 use Rattle.nibl.specs.Tree.{Expr, Item, text, stored, value}
+use Rattle.nibl.specs.Tree.{Role, anywhere, inLoop, counts, asksFor, roleOf}
 use Rattle.nibl.specs.Tree.{Stmt, letVar, letStat, letByte, letCopy, letText, goto, gosub, until, return, doLoop, remark, end, print, ifThen, for, next, input, inputText}
 use Rattle.nibl.specs.found.Read.{replied}
 use Rattle.nibl.specs.Values.{Result, is, no, printed}
@@ -16,7 +17,7 @@ use Rattle.nibl.specs.Stack.{pushOf, pushFor}
 use Rattle.nibl.specs.Typing.{Gathered, gather}
 use Rattle.nibl.specs.Page.{Stored, isAmong, find}
 use Rattle.nibl.specs.Meaning.{World, Env, on, skip, go, stop, Done, done, withSession, withInpos, withOutput, bind, given, went, stringAt, eval, put, putItem, putItems, putEnd, keepIn, lineThere, gosubTo, returnBy, doHere, untilBy, forHere, goesOn, nextBy, gathered, asked, assign, assignReply, exec}
-use Rattle.nibl.specs.Record.{mark, withVar, place}
+use Rattle.nibl.specs.Record.{mark, withVar, place, position}
 use Rattle.nibl.specs.Calls.{needsProgram, listed, listFrom}
 use Rattle.nibl.specs.declared.Top.{Top}
 use Rattle.nibl.specs.declared.Top.the-variants as top
@@ -121,7 +122,7 @@ module _ (us : List ℕ) (b : Bool) where
   return-refuses : (w : World) (t : Top) → R (w .session .vars) (returnBy w t)
   unfolding returnBy
   return-refuses w top.Empty = refuse 9 w refl
-  return-refuses w (top.At p) = after-refuses (eqb (p .0) mark) (suc (p .0)) _ _
+  return-refuses w (top.At p) = after-refuses (eqb (position p) mark) (suc (position p)) _ _
 
   do-refuses : (e : Env) (w : World) → R (w .session .vars) (doHere e w)
   unfolding doHere
@@ -227,21 +228,12 @@ list-refuses us b n (r ∷ rs) w = by (λ u. list-refuses us b n rs u) (leb n (r
 
 -- 7 is never an immediate statement's, and it gives no variables by INPUT
 pub needs-asks : (q : Stmt) → needsProgram q ≡ false → (asks q ≡ false) × (inputVars q ≡ [])
-needs-asks (letVar v a) h = (refl, refl)
-needs-asks (letStat a) h = (refl, refl)
-needs-asks (letByte a b) h = (refl, refl)
-needs-asks (letCopy a b) h = (refl, refl)
-needs-asks (letText a bs) h = (refl, refl)
-needs-asks (goto a) h = (refl, refl)
-needs-asks (gosub a) h = (refl, refl)
-needs-asks (until a) h = (refl, refl)
-needs-asks return h = (refl, refl)
-needs-asks doLoop h = (refl, refl)
-needs-asks remark h = (refl, refl)
-needs-asks end h = (refl, refl)
-needs-asks (print is′ b) h = (refl, refl)
-needs-asks (ifThen a q) h = needs-asks q h
-needs-asks (for v a b c) h = (refl, refl)
-needs-asks (next v) h = (refl, refl)
-needs-asks (input vs) h = absurd (true≢false h)
-needs-asks (inputText a) h = absurd (true≢false h)
+needs-asks q h = by (roleOf q) h
+  where
+    by : (r : Role) → elim r as (λ _. Bool) [ anywhere ↦ false | inLoop ↦ true | counts v ↦ true | asksFor vs ↦ true ] ≡ false
+        → (elim r as (λ _. Bool) [ anywhere ↦ false | inLoop ↦ false | counts v ↦ false | asksFor vs ↦ true ] ≡ false)
+        × _≡_ {A = List ℕ} (elim r [ anywhere ↦ [] | inLoop ↦ [] | counts v ↦ [] | asksFor vs ↦ vs ]) []
+    by anywhere h = (refl, refl)
+    by inLoop h = absurd (true≢false h)
+    by (counts v) h = absurd (true≢false h)
+    by (asksFor vs) h = absurd (true≢false h)

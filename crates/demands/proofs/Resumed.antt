@@ -54,7 +54,7 @@ goings-line (pauses h s f) ks = silent 14 (ks ++ []) refl
 goings-line (halts h m f) ks = line-joined _ _ ks []
 goings-line (steps {r = r} p h g) ks = line-joined (r .stop) _ ks (r .lines)
 
-module _ (lim : ℕ) (short : lim ≤ 251) (x : Lent) (good : isGood lim (x .page) ≡ true) (q : ℕ) (w : World) (s : Stands (x .page) q)
+module _ (lim : ℕ) (short : lim ≤ 251) (x : Lent) (good : isGood lim (x .page) ≡ true) (q : ℕ) (w : World) (s : Stands (placesOf (x .page)) q)
     (f : Fit (placesOf (x .page)) (w .session)) (p : Placed (x .input) w) (l : Steady (begun x 0) w) where
   abbrev r : ℕ → Ran
   r a = runFrom a (lentEnv lim x) q w

@@ -36,7 +36,7 @@ goings-fit (pauses h s f) = f
 goings-fit (halts h n f) = f
 goings-fit (steps p h g) = goings-fit g
 
-pub goings-stands : {page : List ℕ} {k : ℕ} {r : Ran} → Goings page k r → r .stop ≡ 14 → Stands page (r .at)
+pub goings-stands : {page : List ℕ} {k : ℕ} {r : Ran} → Goings page k r → r .stop ≡ 14 → Stands (placesOf page) (r .at)
 goings-stands (runsOut h f) e = absurd (omega arith)
 goings-stands (pauses h s f) e = s
 goings-stands (halts h m f) e = absurd (false≢true (rw e at m))
@@ -61,7 +61,7 @@ pub record Settled (lim : ℕ) (o : Outcome) : Type 0 where
   pub number : isAmong obeyNumbers (o .answer .stop) ≡ true
 
 module _ (lim : ℕ) (e : Env) (short : lim ≤ 251) (good : isGood lim (e .page) ≡ true) where
-  pub run-settled : (k q : ℕ) (w : World) → Stands (e .page) q → Fit (placesOf (e .page)) (w .session) → Settled lim (runOutcome (runFrom k e q w) (e .page))
+  pub run-settled : (k q : ℕ) (w : World) → Stands (placesOf (e .page)) q → Fit (placesOf (e .page)) (w .session) → Settled lim (runOutcome (runFrom k e q w) (e .page))
   run-settled k q w s f =
       let r : Ran = runFrom k e q w in
       let g = run-goes lim e short good k q w s f in

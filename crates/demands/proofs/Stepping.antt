@@ -38,17 +38,17 @@ module _ (lim : ℕ) (e : Env) (short : lim ≤ 251) (good : isGood lim (e .page
   page-good : GoodPage lim (e .page)
   page-good = good-exact lim (e .page) short .0 good
 
-  stands-so : (q : ℕ) → Stands (e .page) q → PauseFits (e .page) (pausedAt q)
+  stands-so : (q : ℕ) → Stands (placesOf (e .page)) q → PauseFits (e .page) (pausedAt q)
   stands-so q s = stands-exact lim (e .page) short page-good (pausedAt q) .0 s
 
   -- what is fetched where nothing follows is the end mark, and else the member that is next
-  pub nothing-past : (q : ℕ) → Stands (e .page) q → fetch (e .page) q ≡ nothing → PastTheLast (e .page) q
+  pub nothing-past : (q : ℕ) → Stands (placesOf (e .page)) q → fetch (e .page) q ≡ nothing → PastTheLast (e .page) q
   nothing-past q s h = fetched-past lim (e .page) short page-good (stands-so q s) h
 
-  pub some-next : {P : Type 0} (q : ℕ) → Stands (e .page) q → (fetch (e .page) q ≡ nothing → ⊥) → ((x : Standing) → NextAt (e .page) q x → P) → P
+  pub some-next : {P : Type 0} (q : ℕ) → Stands (placesOf (e .page)) q → (fetch (e .page) q ≡ nothing → ⊥) → ((x : Standing) → NextAt (e .page) q x → P) → P
   some-next q s n f = some-fetched lim e short good q s n (λ x h. f x (fetched-next lim (e .page) short page-good (stands-so q s) h))
 
-  module _ (q : ℕ) (x : Standing) (w : World) (s : Stands (e .page) q) (h : fetch (e .page) q ≡ here x) where
+  module _ (q : ℕ) (x : Standing) (w : World) (s : Stands (placesOf (e .page)) q) (h : fetch (e .page) q ≡ here x) where
     pub its-next : NextAt (e .page) q x
     its-next = fetched-next lim (e .page) short page-good (stands-so q s) h
 
@@ -57,14 +57,14 @@ module _ (lim : ℕ) (e : Env) (short : lim ≤ 251) (good : isGood lim (e .page
 
     -- where it goes on, a run may stand
     pub goes-stands : Fit (placesOf (e .page)) (w .session) → {how : Next} {u : World} {q' : ℕ} → exec (envAt e (x .place)) (x .statement) w ≡ done how u
-        → GoesTo (x .place) (x .cr) how q' → Stands (e .page) q'
+        → GoesTo (x .place) (x .cr) how q' → Stands (placesOf (e .page)) q'
     goes-stands f d to = by (rw d at (fetched-goes lim e short good q x w s h f)) to where
-      by : {how : Next} {u : World} {q' : ℕ} → Goes (e .page) (done how u) → GoesTo (x .place) (x .cr) how q' → Stands (e .page) q'
+      by : {how : Next} {u : World} {q' : ℕ} → Goes (placesOf (e .page)) (done how u) → GoesTo (x .place) (x .cr) how q' → Stands (placesOf (e .page)) q'
       by (toNext i) afterIt = readable .end
       by (toRecord i) afterRecord = readable .cr
       by (toPlace c i) jumps = c
 
-    its-runs : (k : ℕ) → Fit (placesOf (e .page)) (w .session) → ((q : ℕ) (u : World) → Stands (e .page) q → Fit (placesOf (e .page)) (u .session) → Runs e k q u (runFrom k e q u))
+    its-runs : (k : ℕ) → Fit (placesOf (e .page)) (w .session) → ((q : ℕ) (u : World) → Stands (placesOf (e .page)) q → Fit (placesOf (e .page)) (u .session) → Runs e k q u (runFrom k e q u))
         → Runs e (suc k) q w (stepped (x .line) (afterStep (exec (envAt e (x .place)) (x .statement) w) (x .place) (x .cr) (runFrom k e)))
     its-runs k f more = by (exec (envAt e (x .place)) (x .statement) w) refl (fetched-goes lim e short good q x w s h f) where
       step : {how : Next} {u : World} → exec (envAt e (x .place)) (x .statement) w ≡ done how u → OneStep e q w x how u
@@ -75,16 +75,16 @@ module _ (lim : ℕ) (e : Env) (short : lim ≤ 251) (good : isGood lim (e .page
             writes = subst (λ c. StatementWrote (envAt e (x .place)) (x .statement) w (worldAfter c)) d (a-statement-writes (envAt e (x .place)) (x .statement) w);
           }
 
-      by : (d : Done) → exec (envAt e (x .place)) (x .statement) w ≡ d → Goes (e .page) d
+      by : (d : Done) → exec (envAt e (x .place)) (x .statement) w ≡ d → Goes (placesOf (e .page)) d
           → Runs e (suc k) q w (stepped (x .line) (afterStep d (x .place) (x .cr) (runFrom k e)))
       by (done on u) d (toNext i) = goesOn (step d) afterIt (more (suc (x .place)) u (readable .end) i)
       by (done skip u) d (toRecord i) = goesOn (step d) afterRecord (more (suc (x .cr)) u (readable .cr) i)
       by (done (go p) u) d (toPlace c i) = goesOn (step d) jumps (more p u c i)
       by (done (stop n) u) d (toEnd i) = halts (step d)
 
-  pub runs-so : (k q : ℕ) (w : World) → Stands (e .page) q → Fit (placesOf (e .page)) (w .session) → Runs e k q w (runFrom k e q w)
+  pub runs-so : (k q : ℕ) (w : World) → Stands (placesOf (e .page)) q → Fit (placesOf (e .page)) (w .session) → Runs e k q w (runFrom k e q w)
   runs-so k q w =
-      every-run e (λ k q w r. Stands (e .page) q → Fit (placesOf (e .page)) (w .session) → Runs e k q w r)
+      every-run e (λ k q w r. Stands (placesOf (e .page)) q → Fit (placesOf (e .page)) (w .session) → Runs e k q w r)
       (λ k q w h s f. over (nothing-past q s h))
       (λ q w n s f. some-next q s n (λ x i. pauses i))
       (λ k q w a h s f. absurd (fetches-read lim (e .page) short good q a s h))
@@ -116,7 +116,7 @@ one-run {e = e} g a b =
 -- Of the calls: where a run begins, one may stand, and the record fits
 pub record Begun (x : Lent) (q : ℕ) (w : World) : Type 0 where
   pub good : isGood limit (x .page) ≡ true
-  pub stands : Stands (x .page) q
+  pub stands : Stands (placesOf (x .page)) q
   pub fit : Fit (placesOf (x .page)) (w .session)
 
 module _ (x : Lent) (sized : Sized (x .session)) where
@@ -139,7 +139,7 @@ module _ (x : Lent) (sized : Sized (x .session)) where
       good : isGood limit (x .page) ≡ true
       good = sound-at (h .sound) .good
 
-      by : Goes (x .page) (done (go q) w) → Begun x q w
+      by : Goes (placesOf (x .page)) (done (go q) w) → Begun x q w
       by (toPlace c i) = record { good = good; stands = c; fit = i }
 
   pub typed-begun : {q : ℕ} {w : World} → StartsTyped limit x q w → Begun x q w
@@ -148,7 +148,7 @@ module _ (x : Lent) (sized : Sized (x .session)) where
   pub paused-begun : {q : ℕ} {w : World} → StartsPaused limit x q w → Begun x q w
   paused-begun (paused {q = q} z h) =
       let s = sound-at z in
-      record { good = s .good; stands = paused-stands (x .page) (x .session) (sound-fit s) q h; fit = begun-fits z 0 }
+      record { good = s .good; stands = paused-stands (placesOf (x .page)) (x .session) (sound-fit s) q h; fit = begun-fits z 0 }
 
   leaves-run : {q : ℕ} {w : World} {o : Outcome} → Begun x q w → o ≡ ranFrom x q w → LeavesRun x q w o
   leaves-run {q = q} {w = w} b e =

@@ -13,7 +13,7 @@ use Rattle.page.proofs.Walk.{by-cases}
 use Rattle.nibl.specs.Bytes.{if_then_else_}
 use Rattle.nibl.specs.Tree.{Typed, blank, new, clear, run, delete, list, store, immediate}
 use Rattle.nibl.specs.found.Read.{typed}
-use Rattle.nibl.specs.Page.{Stored, isGood, recordsOf, usedBy, hasLine, with, without}
+use Rattle.nibl.specs.Page.{Stored, isGood, recordsOf, usedBy, hasLine, with, without, placesOf}
 use Rattle.nibl.specs.Meaning.{World, Env, Next, on, skip, go, stop, Done, done, withSession, exec}
 use Rattle.nibl.specs.Lent.{Lent, Outcome, noLine, stops}
 use Rattle.nibl.specs.Runs.{Ran, envAt, runFrom, runOutcome}
@@ -70,14 +70,14 @@ set-or-not true w p h = record { session = unpaused-same (w .session) h; memory 
 set-or-not false w p h = record { session = unpaused-same (w .session) h; memory = refl; output = refl; outpos = refl; inpos = refl }
 
 -- Of a run
-module _ (e : Env) (k q : ℕ) (w : World) (sound : Sound limit (e .page) (w .session)) (stands : Stands (e .page) q) (h : w .session .paused ≡ nowhere) where
+module _ (e : Env) (k q : ℕ) (w : World) (sound : Sound limit (e .page) (w .session)) (stands : Stands (placesOf (e .page)) q) (h : w .session .paused ≡ nowhere) where
   abbrev r : Ran
   r = runFrom k e q w
 
   five : r .stop ≡ 5 → ⊥
   five = no-grammar-refusal-while-running limit e (omega arith) k q w sound stands
 
-  run-ends : {p cr : ℕ} {how : Next} → ((q : ℕ) → GoesTo p cr how q → Stands (e .page) q) → RunEnds (e .page) p cr how k r
+  run-ends : {p cr : ℕ} {how : Next} → ((q : ℕ) → GoesTo p cr how q → Stands (placesOf (e .page)) q) → RunEnds (e .page) p cr how k r
       → EndsCall (e .page) p cr how (r .world) k (runOutcome r (e .page))
   run-ends s (lastStep.halts i m) = halts i (λ c. false≢true (rw c at m)) (rw (ne-eqb (r .stop) 14 (λ c. false≢true (rw c at m))))
   run-ends s (lastStep.runsOut p g i c) = runsOut p g (nothing-past limit e (omega arith) (sound .good) p (s p g) i) c (rw c)

@@ -19,7 +19,7 @@ use Rattle.nibl.specs.Values.{Result, is, no, Value}
 use Rattle.nibl.specs.Stack.{noPlace, noEntry, onTop, topOf, topFor}
 use Rattle.nibl.specs.Typing.{Gathered, gather}
 use Rattle.nibl.specs.Page.{Stored, recordsOf, size, positionIn, find}
-use Rattle.nibl.specs.Record.{mark}
+use Rattle.nibl.specs.Record.{position, mark}
 use Rattle.nibl.specs.Access.{mayWrite}
 use Rattle.nibl.specs.Meaning.{World, Env, on, skip, stop, Done, done, withMemory, bind, given, went, storeAt, eval, put, putItem, putItems, putEnd, keepIn, lineThere, after, gosubTo, returnBy, doHere, untilBy, forHere, goesOn, nextBy, gathered, asked, assign, assignReply, exec}
 use Rattle.nibl.specs.declared.access.Access.{Access}
@@ -185,7 +185,7 @@ module _ (e : Env) (w : World) where
     to : (p : Place) → TopPlace (w .session .gosubs) p → P return (returnBy w (top.At p))
     to p t =
         rw (some-top 8 (w .session .gosubs .depth) (w .session .gosubs .depth) (w .session .gosubs .depth - 1) (t .some) (t .within))
-        (by-cases (eqb (p .0) mark) (λ b. rw b (returnsToMark t (eqb-true _ _ b))) (λ b. rw b (returns t (eqb-false _ _ b))))
+        (by-cases (eqb (position p) mark) (λ b. rw b (returnsToMark t (eqb-true _ _ b))) (λ b. rw b (returns t (eqb-false _ _ b))))
 
   until-works : (a : Expr) → P (until a) (exec e (until a) w)
   unfolding exec untilBy
@@ -554,9 +554,9 @@ module _ (e : Env) (w : World) where
   performs-one (begins f) = rw (lt-ltb (w .session .dos .depth) 8 f)
   performs-one (counts h g f l) = rw (value-one e w h, value-one e w g, value-one e w f) (rw (lt-ltb (w .session .fors .depth) 4 l))
   performs-one (returns {p = p} t h) =
-      ap (returnBy w) (top-one t) ∙ rw (ne-eqb (p .0) mark h, depth-one 8 (w .session .gosubs .depth) (t .some) (t .within))
+      ap (returnBy w) (top-one t) ∙ rw (ne-eqb (position p) mark h, depth-one 8 (w .session .gosubs .depth) (t .some) (t .within))
   performs-one (returnsToMark {p = p} t h) =
-      ap (returnBy w) (top-one t) ∙ rw (eq-eqb (p .0) mark h, depth-one 8 (w .session .gosubs .depth) (t .some) (t .within))
+      ap (returnBy w) (top-one t) ∙ rw (eq-eqb (position p) mark h, depth-one 8 (w .session .gosubs .depth) (t .some) (t .within))
   performs-one (repeats h t) = rw (value-one e w h) (ap (untilBy w 0) (top-one t))
   performs-one (leaves {x = x} h n t) =
       rw (value-one e w h) (ap (untilBy w x) (top-one t) ∙ rw (ne-eqb x 0 n, depth-one 8 (w .session .dos .depth) (t .some) (t .within)))

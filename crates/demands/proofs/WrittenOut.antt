@@ -7,7 +7,7 @@ use lib.ListN.{length, replicate, set}
 use Rattle.nibl.specs.Values.{digits}
 use Rattle.nibl.specs.Page.{Stored, recordsOf, usedBy, used}
 use Rattle.nibl.specs.Meaning.{World, Env, withSession, withMemory, withOutput, withInpos}
-use Rattle.nibl.specs.Record.{place, mark, nowhere, withVar, withFlags, withGosubs, withDos, withFors, withPaused, unpaused, stackless, cleared}
+use Rattle.nibl.specs.Record.{place, position, mark, nowhere, withVar, withFlags, withGosubs, withDos, withFors, withPaused, unpaused, stackless, cleared}
 use Rattle.nibl.specs.Lent.{Lent, Outcome, lentAll, outcomeWith, leftAll, answerOf, noLine, stops, refusedLine}
 use Rattle.nibl.specs.Runs.{Ran, ran, stepped, runOutcome, envAt}
 use Rattle.nibl.specs.Typing.{limit}
@@ -83,7 +83,7 @@ pub what-a-programs-statement-sees : (e : Env) (p : ℕ) → envAt e p ≡ recor
 what-a-programs-statement-sees e p = refl
 
 -- a saved place is that number
-pub a-saved-place : (p : ℕ) → place p .0 ≡ p
+pub a-saved-place : (p : ℕ) → position (place p) ≡ p
 a-saved-place p = refl
 
 -- a stop that no program statement gave leaves the world as it is, with no line, no steps and no column

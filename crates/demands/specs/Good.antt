@@ -9,7 +9,7 @@ use Rattle.nibl.specs.Bytes.{isDigit, isText, All, starts, byteCR}
 use Rattle.nibl.specs.Tree.{Member}
 use Rattle.nibl.specs.Readings.{ListReading}
 use Rattle.nibl.specs.Values.{digits}
-use Rattle.nibl.specs.Record.{mark, nowhere, pausedAt}
+use Rattle.nibl.specs.Record.{position, mark, nowhere, pausedAt}
 use Rattle.nibl.specs.Lent.{Lent, Outcome}
 use Rattle.nibl.specs.declared.Place.{Place}
 use Rattle.nibl.specs.declared.ForEntry.{ForEntry}
@@ -94,9 +94,9 @@ module _ (R : List ℕ → List Member → Type 0) where
     pub gosubsDeep : s .gosubs .depth ≤ 8
     pub dosDeep : s .dos .depth ≤ 8
     pub forsDeep : s .fors .depth ≤ 4
-    pub gosubs : (p : Place) → In p (take (s .gosubs .depth) (s .gosubs .places)) → IsPlaceBy page (p .0) ⊎ (p .0 ≡ mark)
-    pub dos : (p : Place) → In p (take (s .dos .depth) (s .dos .places)) → IsPlaceBy page (p .0)
-    pub fors : (f : ForEntry) → In f (take (s .fors .depth) (s .fors .entries)) → (f .var < 26) × IsPlaceBy page (f .place .0)
+    pub gosubs : (p : Place) → In p (take (s .gosubs .depth) (s .gosubs .places)) → IsPlaceBy page (position p) ⊎ (position p ≡ mark)
+    pub dos : (p : Place) → In p (take (s .dos .depth) (s .dos .places)) → IsPlaceBy page (position p)
+    pub fors : (f : ForEntry) → In f (take (s .fors .depth) (s .fors .entries)) → (f .var < 26) × IsPlaceBy page (position (f .place))
     pub flags : s .flags < 8
     pub paused : PauseFitsBy page (s .paused)
 

@@ -14,7 +14,7 @@ use Rattle.nibl.specs.Stack.{popOf}
 use Rattle.nibl.specs.Tree.{Typed, blank, new, clear, run, delete, list, store, immediate}
 use Rattle.nibl.specs.Page.{Stored, recordsOf, programBytes, used}
 use Rattle.nibl.specs.Meaning.{World, Env, Done, done, withSession}
-use Rattle.nibl.specs.Record.{mark, withGosubs, unpaused, stackless, cleared}
+use Rattle.nibl.specs.Record.{position, mark, withGosubs, unpaused, stackless, cleared}
 use Rattle.nibl.specs.Lent.{Lent, Outcome, Left, leftAll, answerOf, noLine}
 pub use Rattle.nibl.specs.Lent.{unchanged}
 use Rattle.nibl.specs.Typing.{limit}
@@ -138,7 +138,7 @@ pub record Refused (e : Env) (us : List ℕ) (W : List ℕ → Type 0) (w u : Wo
 pub record Returned (s t : Session) : Type 0 where
   pub place : Place
   pub top : popOf (s .gosubs) .top ≡ top.At place
-  pub mark : place .0 ≡ mark
+  pub mark : position place ≡ mark
   pub rest : t ≡ withGosubs s (popOf (s .gosubs) .stack)
 
 -- what a call wrote and took, from a position of the input on

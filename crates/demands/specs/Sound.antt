@@ -29,7 +29,7 @@ pub data Answered (lim : ℕ) (x : Lent) (From : ℕ → World → Type 0) (o : 
   -- with a stop that no program statement gave: it has no line, no step was counted, and it is no pause
   byLine : o .answer .line ≡ noLine → o .answer .steps ≡ 0 → (o .answer .stop ≡ 14 → ⊥) → Answered lim x From o
   -- as the run ended that it began
-  byRun : (q : ℕ) (w : World) → From q w → Stands (x .page) q → Sound lim (x .page) (w .session) → o ≡ runOutcome (runFrom (x .call .budget) (lentEnv lim x) q w) (x .page)
+  byRun : (q : ℕ) (w : World) → From q w → Stands (placesOf (x .page)) q → Sound lim (x .page) (w .session) → o ≡ runOutcome (runFrom (x .call .budget) (lentEnv lim x) q w) (x .page)
       → Shows (x .page) (runFrom (x .call .budget) (lentEnv lim x) q w) (o .answer .line) → Answered lim x From o
 
 -- a call that paused, and the one that continued it, as one

@@ -14,7 +14,7 @@ use Rattle.nibl.specs.Stack.{noPlace, noEntry}
 use Rattle.nibl.specs.Typing.{Gathered, gather}
 use Rattle.nibl.specs.Readings.{ReplyReading}
 use Rattle.nibl.specs.Page.{Stored, recordsOf, size}
-use Rattle.nibl.specs.Record.{place, mark, withVar, withFlags, withGosubs, withDos, withFors}
+use Rattle.nibl.specs.Record.{place, position, mark, withVar, withFlags, withGosubs, withDos, withFors}
 use Rattle.nibl.specs.Meaning.{World, Env, on, skip, go, stop, Done, done, withSession, withMemory, withInpos}
 use Rattle.nibl.specs.declared.Place.{Place}
 use Rattle.nibl.specs.declared.PlaceStack.{PlaceStack}
@@ -224,17 +224,17 @@ pub data Performs (e : Env) (w : World) : Stmt → Done → Type 0 where
       → Performs e w (for v a b c) (done on (withSession w (withVar (withFors (w .session)
       (pushedFor (w .session .fors) (record { var = v; limit = y; step = z; place = place (e .here) }))) v x)))
   -- back to the saved place; "RETURN to the immediate mark" is 0
-  returns : {p : Place} → TopPlace (w .session .gosubs) p → (p .0 ≡ mark → ⊥)
-      → Performs e w return (done (go (suc (p .0))) (withSession w (withGosubs (w .session) (popped (w .session .gosubs)))))
-  returnsToMark : {p : Place} → TopPlace (w .session .gosubs) p → p .0 ≡ mark
+  returns : {p : Place} → TopPlace (w .session .gosubs) p → (position p ≡ mark → ⊥)
+      → Performs e w return (done (go (suc (position p))) (withSession w (withGosubs (w .session) (popped (w .session .gosubs)))))
+  returnsToMark : {p : Place} → TopPlace (w .session .gosubs) p → position p ≡ mark
       → Performs e w return (done (stop 0) (withSession w (withGosubs (w .session) (popped (w .session .gosubs)))))
   -- "UNTIL returns to its DO's place on 0 and pops otherwise"
-  repeats : {a : Expr} {p : Place} → ValueOf e w a (is 0) → TopPlace (w .session .dos) p → Performs e w (until a) (done (go (suc (p .0))) w)
+  repeats : {a : Expr} {p : Place} → ValueOf e w a (is 0) → TopPlace (w .session .dos) p → Performs e w (until a) (done (go (suc (position p))) w)
   leaves : {a : Expr} {x : ℕ} {p : Place} → ValueOf e w a (is x) → (x ≡ 0 → ⊥) → TopPlace (w .session .dos) p
       → Performs e w (until a) (done on (withSession w (withDos (w .session) (popped (w .session .dos)))))
   -- "NEXT adds the step, then returns to the saved place while ..; otherwise it pops and runs on"
   countsOn : {v : ℕ} {f : ForEntry} → TopEntry (w .session .fors) f → f .var ≡ v → Within f (stepAdded w v f)
-      → Performs e w (next v) (done (go (suc (f .place .0))) (withSession w (withVar (w .session) v (stepAdded w v f))))
+      → Performs e w (next v) (done (go (suc (position (f .place)))) (withSession w (withVar (w .session) v (stepAdded w v f))))
   finishes : {v : ℕ} {f : ForEntry} → TopEntry (w .session .fors) f → f .var ≡ v → Past f (stepAdded w v f)
       → Performs e w (next v) (done on (withSession w (withFors (withVar (w .session) v (stepAdded w v f)) (poppedFor (w .session .fors)))))
   -- "PRINT ends with CR LF unless ';'"

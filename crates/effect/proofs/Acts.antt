@@ -9,6 +9,7 @@ use native.Mathlib.Omega.{arith}
 use borrow.Author.Tests.{eqb-true}
 use lib.Dec.{eqb}
 use Rattle.nibl.specs.Meaning.{Next, on, skip, Done, done}
+use Rattle.nibl.specs.Record.{place}
 use Rattle.nibl.specs.declared.Place.{Place}
 use Rattle.nibl.specs.declared.PlaceStack.{PlaceStack}
 use Rattle.nibl.specs.declared.ForStack.{ForStack}
@@ -108,7 +109,7 @@ module _ (page : List ℕ) (dos : PlaceStack) (fors : ForStack) (arg x : ℕ) (v
 -- A turn does what its operation does, by the code
 module _ (g : Given) where
   abbrev here : Place
-  here = record { 0 = g .env .here }
+  here = place (g .env .here)
 
   abbrev call : ℕ → Done
   call code = gosubsIn (world g) (callTurn (g .env .page) here (g .parts .gosubs) code (g .x))

@@ -28,7 +28,7 @@ use Rattle.operation.specs.Operations.{effectBy}
 use Rattle.nibl.specs.declared.Parts.{Parts}
 use Rattle.effect.specs.declared.Did.{Did}
 use Rattle.effect.specs.Worlds.{unsensing, envWith, worldWith, did, didIn, storedWay, wroteIn, KeepsVars, putStored, keepText, keepReply}
-use Rattle.nibl.specs.Record.{withFlagsIn, withGosubsIn, withDosIn, withForsIn}
+use Rattle.nibl.specs.Record.{place, withFlagsIn, withGosubsIn, withDosIn, withForsIn}
 use Rattle.effect.proofs.Answers.{done-if, put-in, store-in}
 
 -- an operation that changes the world does not see the sense byte
@@ -89,7 +89,7 @@ module _ (g : Given) where
   unfolding effectBy
   goto r h = ap (λ n. done n world) h ∙ sym (goto-called world (g .env .page) (g .x) (g .short))
 
-  pub gosub : (t : Turn) → turned t ≡ gosubTurn (record { 0 = g .env .here }) (g .parts .gosubs) (reached (find (g .env .page) (g .x)))
+  pub gosub : (t : Turn) → turned t ≡ gosubTurn (place (g .env .here)) (g .parts .gosubs) (reached (find (g .env .page) (g .x)))
       → alone (did (t .way) (withGosubsIn (g .parts) (t .stack))) ≡ code codeGosub
   unfolding effectBy
   gosub t h = ap (gosubsIn world) h ∙ sym (gosub-called (g .env) world (g .env .page) (g .x) (g .short))
@@ -122,7 +122,7 @@ module _ (g : Given) where
   unfolding effectBy
   if-then r h = ap (λ n. done n world) h ∙ done-if (eqb (g .x) 0) skip on world
 
-  pub do-here : (t : Turn) → turned t ≡ doTurn (record { 0 = g .env .here }) (g .parts .dos) → alone (did (t .way) (withDosIn (g .parts) (t .stack))) ≡ code codeDo
+  pub do-here : (t : Turn) → turned t ≡ doTurn (place (g .env .here)) (g .parts .dos) → alone (did (t .way) (withDosIn (g .parts) (t .stack))) ≡ code codeDo
   unfolding effectBy
   do-here t h = ap (dosIn world) h ∙ sym (do-in (g .env) world)
 
@@ -131,7 +131,7 @@ module _ (g : Given) where
   until t h = ap (dosIn world) h ∙ sym (until-in world (g .x))
 
   pub for : (t : ForTurn) {vars : List ℕ}
-      → turnedFor t vars ≡ forTurn (record { 0 = g .env .here }) (g .parts .fors) (g .vars) (g .arg % 256) (g .z) (g .y) (g .x)
+      → turnedFor t vars ≡ forTurn (place (g .env .here)) (g .parts .fors) (g .vars) (g .arg % 256) (g .z) (g .y) (g .x)
       → didIn (did (t .way) (withForsIn (g .parts) (t .stack))) vars (g .memory) (g .output) ≡ code codeFor
   unfolding effectBy
   for t h = ap (forsIn world) h ∙ sym (for-in (g .env) world (g .arg % 256) (g .z) (g .y) (g .x))

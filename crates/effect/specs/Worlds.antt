@@ -4,7 +4,7 @@ use mathlib.Core.List.{List, [], _∷_, _++_}
 use mathlib.Core.Path.{_≡_}
 use Rattle.nibl.specs.Bytes.{byteCR}
 use Rattle.nibl.specs.Meaning.{World, Env, Done, done, given, put, stringAt, storeAt, keepIn}
-use Rattle.nibl.specs.Record.{nowhere, sessionOf, partsAt}
+use Rattle.nibl.specs.Record.{position, nowhere, sessionOf, partsAt}
 use Rattle.nibl.specs.declared.Place.{Place}
 use Rattle.nibl.specs.declared.access.Access.{Access}
 use Rattle.nibl.specs.declared.access.Sight.{Sight}
@@ -25,7 +25,7 @@ worldWith vars p memory output =
     record { session = sessionOf p vars nowhere; memory = memory; output = output; outpos = p .outpos; inpos = p .inpos }
 
 abbrev pub envWith : ℕ → List ℕ → List ℕ → Sight → Place → Env
-envWith lim page input sight here = record { lim = lim; page = page; input = input; sight = sight; here = here .0 }
+envWith lim page input sight here = record { lim = lim; page = page; input = input; sight = sight; here = position here }
 
 -- what is seen by one that does not ask for the sense byte
 abbrev pub unsensing : Access → Sight

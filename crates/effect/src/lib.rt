@@ -14,12 +14,12 @@ ghost use Rattle.operation.specs.Operations.{effectBy};
 ghost use Rattle.effect.specs.Worlds.{unsensing, envWith, worldWith, did, didIn, storedWay, wroteIn, KeepsVars, putStored, keepReply};
 ghost use Rattle.nibl.specs.Record.{withFlagsIn, withGosubsIn, withDosIn, withForsIn, partsAt};
 ghost use Rattle.effect.specs.Acts.{acted, actBy, goesBack, wayAtOnce, callTurn, loopTurn, countTurn};
-use nibl::access::Access;
 use nibl::ForStack;
 use nibl::Onward;
 use nibl::Parts;
 use nibl::Place;
 use nibl::PlaceStack;
+use nibl::access::Access;
 use nibl::stop;
 use value::Wrote;
 use world::input;
@@ -166,13 +166,7 @@ fn print_end(output: &mut [u8], at: usize) -> Wrote
 }
 
 // PRINT of a stored string: 16 comes before 17.
-fn print_string(
-    access: Access,
-    memory: &[u8],
-    a: u16,
-    output: &mut [u8],
-    parts: Parts,
-) -> Did
+fn print_string(access: Access, memory: &[u8], a: u16, output: &mut [u8], parts: Parts) -> Did
     ensures { λ r. ⌜ KeepsVars parts (now (memory .entry)) (now (output .entry)) (putStored access a) r (now (memory .entry)) (now (output .exit)) ⌝ }
 {
     match memory::string_end(access, memory, a) {
@@ -329,7 +323,8 @@ pub fn effect(
     table: &[u16],
 ) -> Did
     requires { ⌜ (length (now page) ≤ 65535) × Indexed (now page) (now table) ⌝ }
-    ensures { λ r. ⌜ didIn r (now (vars .exit)) (now (memory .exit)) (now (output .exit)) ≡ effectBy (envWith (length (now (reply .entry))) (now (page .entry)) (now (input .entry)) (unsensing access) here) code arg x y z (worldWith (now (vars .entry)) parts (now (memory .entry)) (now (output .entry))) ⌝ }
+    ensures { λ r. ⌜ didIn r (now (vars .exit)) (now (memory .exit)) (now (output .exit))
+        ≡ effectBy (envWith (length (now (reply .entry))) (now (page .entry)) (now (input .entry)) (unsensing access) here) code arg x y z (worldWith (now (vars .entry)) parts (now (memory .entry)) (now (output .entry))) ⌝ }
 {
     match code {
         codes::SET_VARIABLE => set_variable(vars, arg, x, parts),

@@ -20,7 +20,8 @@ pub extern "C" fn nibl_take_line(
     answer: &mut Answer,
     table: &mut [u16],
 )
-    ensures { λ _. ⌜ leftAll (now (answer .exit)) (now (rec .exit)) (now (page .exit)) (now (memory .exit)) (now (output .exit)) (now (table .exit)) ≡ leaves takeLine (lentAll (now (rec .entry)) (now (page .entry)) (now (memory .entry)) (now (input .entry)) (now (output .entry)) (now (call .entry)) (now (table .entry))) ⌝ }
+    ensures { λ _. ⌜ leftAll (now (answer .exit)) (now (rec .exit)) (now (page .exit)) (now (memory .exit)) (now (output .exit)) (now (table .exit))
+        ≡ leaves takeLine (lentAll (now (rec .entry)) (now (page .entry)) (now (memory .entry)) (now (input .entry)) (now (output .entry)) (now (call .entry)) (now (table .entry))) ⌝ }
 {
     let done = calls::take_line(*rec, page, memory, input, output, *call, table);
     *rec = done.session;
@@ -38,7 +39,8 @@ pub extern "C" fn nibl_continue_run(
     answer: &mut Answer,
     table: &mut [u16],
 )
-    ensures { λ _. ⌜ leftAll (now (answer .exit)) (now (rec .exit)) (now (page .exit)) (now (memory .exit)) (now (output .exit)) (now (table .exit)) ≡ leaves continueRun (lentAll (now (rec .entry)) (now (page .entry)) (now (memory .entry)) (now (input .entry)) (now (output .entry)) (now (call .entry)) (now (table .entry))) ⌝ }
+    ensures { λ _. ⌜ leftAll (now (answer .exit)) (now (rec .exit)) (now (page .exit)) (now (memory .exit)) (now (output .exit)) (now (table .exit))
+        ≡ leaves continueRun (lentAll (now (rec .entry)) (now (page .entry)) (now (memory .entry)) (now (input .entry)) (now (output .entry)) (now (call .entry)) (now (table .entry))) ⌝ }
 {
     let done = calls::continue_run(*rec, page, memory, input, output, *call, table);
     *rec = done.session;

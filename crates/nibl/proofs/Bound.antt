@@ -15,7 +15,6 @@ use Rattle.nibl.specs.Words.{Token, keywords, commands, pairsWith, begin
 use Rattle.nibl.specs.found.Read.{FrontWord, atEnd, wrong, got, stepIn}
 use Rattle.nibl.specs.found.GaveUp.{gaveUp}
 use Rattle.nibl.specs.found.Column.{sortOf, aText, turn, isSome, isRemark, isOpenString, Verdict, alive, stuck, isAlive, turned, byStep, advance, remarkAt, runN, lineRun, allTaken, spellings, endsWith, begunBy, begunIn, isFront, columnDown, columnOf, typedLine, typedCommand}
-use Rattle.nibl.proofs.Keywords.{entries}
 use Rattle.nibl.proofs.Words.{if-split, and-left, and-right, word-sound, word-complete}
 use Rattle.nibl.proofs.Over.{word-short}
 use Rattle.nibl.proofs.GaveUp.{past-short, run-ends, gave-up-within, gave-up, gave-up-string}
@@ -44,12 +43,12 @@ begins-taken p (c ∷ w) (b ∷ s) (suc n) h = go (p b) (begins-taken p w s n (o
     go true e = rw e
     go false e = refl
 
-none-taken : (n : ℕ) (table : List (List ℕ)) (s : List ℕ) → entries isShort table ≡ true
+none-taken : (n : ℕ) (table : List (List ℕ)) (s : List ℕ) → all isShort table ≡ true
     → noneOver n table (front isCapital (take 6 s)) ≡ noneOver n table (front isCapital s)
 unfolding noneOver
 none-taken n [] s a = refl
 none-taken n (w ∷ ws) s a =
-    rw (begins-taken isCapital w s 6 (leb-true (length w) 6 (and-left (isShort w) (entries isShort ws) a)), none-taken n ws s (and-right (isShort w) (entries isShort ws) a))
+    rw (begins-taken isCapital w s 6 (leb-true (length w) 6 (and-left (isShort w) (all isShort ws) a)), none-taken n ws s (and-right (isShort w) (all isShort ws) a))
 
 -- a text in which the word w stands, with any other text behind it that begins as the one that follows it
 record Settled (table : List (List ℕ)) (s : List ℕ) (w : Token) (u : List ℕ) : Type 0 where
@@ -65,7 +64,7 @@ agree n (suc m) (x ∷ xs) u v h e = ap (λ (l : List ℕ). x ∷ l) (agree n m 
 starts-agree : (p : ℕ → Bool) (u v : List ℕ) → take 4 u ≡ take 4 v → starts p v ≡ starts p u
 starts-agree p u v e = sym (starts-taken p 3 v) ∙ ap (starts p) (sym e) ∙ starts-taken p 3 u
 
-module _ (table : List (List ℕ)) (short : entries isShort table ≡ true) where
+module _ (table : List (List ℕ)) (short : all isShort table ≡ true) where
   settled : {s u : List ℕ} {w : Token} → Word table s w u → Settled table s w u
   settled (spaced w) =
       let r = settled w in
@@ -159,7 +158,7 @@ abbrev Bounded : (List ℕ → List ℕ → Verdict) → (List ℕ → List ℕ 
 Bounded go go' k =
     (stack s t : List ℕ) (n m : ℕ) → length s < k → go stack s ≡ stuck m → n ≤ length s → length s + 4 < n + m → isAlive (go' stack (take n s ++ t)) ≡ false
 
-module _ (table : List (List ℕ)) (short : entries isShort table ≡ true) (f g : ℕ) (ih : Bounded (runN f) (runN g) f) where
+module _ (table : List (List ℕ)) (short : all isShort table ≡ true) (f g : ℕ) (ih : Bounded (runN f) (runN g) f) where
   advance-bound : Bounded (advance table (runN f)) (advance table (runN g)) (suc f)
   unfolding advance
   advance-bound stack s t n m l e b h = step (stepIn table s) refl e
@@ -201,7 +200,7 @@ run-bound (suc f) (suc g) stack s t n m l e b h = go (isRemark stack) e (advance
     go true k ih = remarked (all isText s) k
     go false k ih = ih k b h
 
-line-bound : (table : List (List ℕ)) → entries isShort table ≡ true → (x : ℕ) (s : List ℕ) (m : ℕ) → lineRun table x s ≡ stuck m → (n : ℕ) → n ≤ length s
+line-bound : (table : List (List ℕ)) → all isShort table ≡ true → (x : ℕ) (s : List ℕ) (m : ℕ) → lineRun table x s ≡ stuck m → (n : ℕ) → n ≤ length s
     → length s + 4 < n + m → (t : List ℕ) → isAlive (lineRun table x (take n s ++ t)) ≡ false
 unfolding lineRun
 line-bound table short x s m e n b h t =

@@ -15,12 +15,12 @@ use Rattle.nibl.specs.Words.{Token, Word, indexIn, there, keywords, comm
 use Rattle.nibl.specs.found.Read.{wrong, wordStep, stepIn}
 use Rattle.nibl.specs.found.Column.{sortOf, aText, typedLine, typedCommand, turn, isSome, isRemark, opened, isOpenString, Verdict, alive, isAlive, advance, runN, lineRun, allTaken, spellings, endsWith, begunBy, begunIn, isFront}
 use Rattle.nibl.proofs.Tests.{and-left, and-right, or-cases, or-true, all-true, true-all, past-run}
-use Rattle.nibl.proofs.Keywords.{same-self, entries, of-table}
+use Rattle.nibl.proofs.Keywords.{same-self, of-table}
 use Rattle.nibl.proofs.Words.{step-space, step-word, word-complete, ended-complete}
 use Rattle.nibl.proofs.Over.{word-short}
 use Rattle.nibl.proofs.Ends.{spaces-text}
 use Rattle.nibl.proofs.Taken.{Taken, ended, remarked, inString, takes, LineTaken, byKeywords, byCommand}
-use Rattle.nibl.proofs.CutWord.{all-first, isSpelling, Begun, whole, part, begun-behind, Cut, spaces, within, leftOpen, begun, word-cut}
+use Rattle.nibl.proofs.CutWord.{all-first, isListed, Begun, whole, part, begun-behind, Cut, spaces, within, leftOpen, begun, word-cut}
 
 -- The relation, cut
 
@@ -52,12 +52,12 @@ some-turn : (o : Option (List ℕ)) (next : List ℕ) → o ≡ some next → is
 some-turn none next e = let z : _≡_ {A = ℕ} 0 1 = cc in absurd (omega arith)
 some-turn (some r) next e = refl
 
-keywords-known : entries isSpelling keywords ≡ true
-unfolding isSpelling
+keywords-known : all isListed keywords ≡ true
+unfolding isListed
 keywords-known = refl
 
-commands-known : entries isSpelling commands ≡ true
-unfolding isSpelling
+commands-known : all isListed commands ≡ true
+unfolding isListed
 commands-known = refl
 
 -- P by a word of the sort of w and then Q: from the word's own cut and that of Q
@@ -189,18 +189,18 @@ begun-by p a c (suc i) l h t = go (eqb (length a) (suc i)) refl (λ k. begun-by 
         or-else (endsWith (take (suc i) (a ++ c)) (p ++ a) && allTaken (p ++ a ++ drop (suc i) (a ++ c))) _ (f (omega arith))
 
 -- where none is found, none is begun
-none-begun : (zs : List (List ℕ)) (s : List ℕ) → begunIn zs s ≡ false → entries (λ z. not (begunBy s z (length z - 1))) zs ≡ true
+none-begun : (zs : List (List ℕ)) (s : List ℕ) → begunIn zs s ≡ false → all (λ (z : List ℕ). not (begunBy s z (length z - 1))) zs ≡ true
 unfolding begunIn
 none-begun [] s e = refl
 none-begun (z ∷ zs) s e = go (begunBy s z (length z - 1)) (none-begun zs s) e
   where
-    go : (t : Bool) → (begunIn zs s ≡ false → entries (λ z. not (begunBy s z (length z - 1))) zs ≡ true)
-        → elim t as (λ _. Bool) [ true ↦ true | false ↦ begunIn zs s ] ≡ false → not t && entries (λ z. not (begunBy s z (length z - 1))) zs ≡ true
+    go : (t : Bool) → (begunIn zs s ≡ false → all (λ (z : List ℕ). not (begunBy s z (length z - 1))) zs ≡ true)
+        → elim t as (λ _. Bool) [ true ↦ true | false ↦ begunIn zs s ] ≡ false → not t && all (λ (z : List ℕ). not (begunBy s z (length z - 1))) zs ≡ true
     go true f h = absurd (false≢true (sym h))
     go false f h = f h
 
-begun-in : (s z : List ℕ) → isSpelling z ≡ true → begunBy s z (length z - 1) ≡ true → begunIn spellings s ≡ true
-unfolding isSpelling
+begun-in : (s z : List ℕ) → isListed z ≡ true → begunBy s z (length z - 1) ≡ true → begunIn spellings s ≡ true
+unfolding isListed
 begun-in s z e b = go (begunIn spellings s) refl (indexIn spellings z) refl e
   where
     go : (t : Bool) → begunIn spellings s ≡ t → (o : Option ℕ) → indexIn spellings z ≡ o → there o ≡ true → t ≡ true

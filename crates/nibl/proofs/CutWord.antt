@@ -13,7 +13,7 @@ use Rattle.nibl.specs.Bytes.{if_then_else_, isSpace, isDigit, isCapital,
 use Rattle.nibl.specs.Words.{Token, variable, decimal, hex, string, sign, indexIn, there, pairs, pairsWith, isSymbol, ByteRun, begins, noneOver, Keyword, Word, spaced, keyword, letter, decimalDigits, hexDigits, quoted, pair, symbol}
 use Rattle.nibl.specs.found.Column.{sortOf, aText, isOpenString, spellings}
 use Rattle.nibl.proofs.Tests.{and-left, and-right, or-cases, or-true, of-pairs, between, all-true}
-use Rattle.nibl.proofs.Keywords.{entries, of-table, first-of}
+use Rattle.nibl.proofs.Keywords.{of-table, first-of}
 
 -- One text, p ++ u and s ++ t: p ends within s, or s within p
 data Split (p u s t : List ℕ) : Type 0 where
@@ -76,9 +76,9 @@ value-shorter : (n : ℕ) (s t : List ℕ) → decimalValue n s ≤ decimalValue
 value-shorter n [] t = value-grows n t
 value-shorter n (d ∷ s) t = value-shorter (n * 10 + (d - 48)) s t
 
--- Spellings
-unfoldable pub isSpelling : List ℕ → Bool
-isSpelling z = there (indexIn spellings z)
+-- A word that a text may have begun
+unfoldable pub isListed : List ℕ → Bool
+isListed z = there (indexIn spellings z)
 
 -- what holds of each of n numbers from lo on
 abbrev count : ℕ → ℕ → List ℕ
@@ -95,10 +95,10 @@ of-count p lo (suc n) b h l a =
     go false e f = let d = eqb-false lo b e in f (omega arith)
 
 -- "#" and a digit
-hex-spelling : (d : ℕ) → isHexDigit d ≡ true → isSpelling (35 ∷ d ∷ []) ≡ true
-unfolding isSpelling
+hex-spelling : (d : ℕ) → isHexDigit d ≡ true → isListed (35 ∷ d ∷ []) ≡ true
+unfolding isListed
 hex-spelling d e =
-    let p : ℕ → Bool = λ x. isSpelling (35 ∷ x ∷ []) in
+    let p : ℕ → Bool = λ x. isListed (35 ∷ x ∷ []) in
     or-cases (isDigit d) (leb 65 d && leb d 70) e
     (λ h. let i = between 48 57 d h in of-count p 48 10 d (i .0) (omega arith) refl)
     (λ h. let i = between 65 70 d h in of-count p 65 6 d (i .0) (omega arith) refl)
@@ -106,7 +106,7 @@ hex-spelling d e =
 -- the text ends with a word, or with the front of a spelling of which c is the rest
 pub data Begun : List ℕ → List ℕ → Type 0 where
   whole : {s : List ℕ} → Begun s []
-  part : (p a c : List ℕ) (x y : ℕ) → isSpelling ((x ∷ a) ++ (y ∷ c)) ≡ true → Begun (p ++ (x ∷ a)) (y ∷ c)
+  part : (p a c : List ℕ) (x y : ℕ) → isListed ((x ∷ a) ++ (y ∷ c)) ≡ true → Begun (p ++ (x ∷ a)) (y ∷ c)
 
 pub begun-behind : (q : List ℕ) {s c : List ℕ} → Begun s c → Begun (q ++ s) c
 begun-behind [] h = h
@@ -124,7 +124,7 @@ pub data Cut (table : List (List ℕ)) (s t : List ℕ) (w : Token) (u : List �
   leftOpen : isOpenString s ≡ true → sortOf w ≡ aText → Cut table s t w u
   begun : (c d : List ℕ) {w' : Token} → t ≡ c ++ d → Begun s c → Word table (s ++ c) w' [] → sortOf w' ≡ sortOf w → Cut table s t w u
 
-module _ (table : List (List ℕ)) (known : entries isSpelling table ≡ true) where
+module _ (table : List (List ℕ)) (known : all isListed table ≡ true) where
   space-cut : {s t u : List ℕ} {w : Token} → Cut table s t w u → Cut table (32 ∷ s) t w u
   unfolding isOpenString
   space-cut (spaces a) = spaces (each refl a)
@@ -151,7 +151,7 @@ module _ (table : List (List ℕ)) (known : entries isSpelling table ≡ true) w
       go : Split (c ∷ d ∷ cs) u (b ∷ s) t → Cut table (b ∷ s) t (sign k) u
       go (before v e f) = before-cut (c ∷ d ∷ cs) v (b ∷ s) t u (sign k) e f shorter
       go (across x y e f) =
-          begun (x ∷ y) u {w' = sign k} f (part [] s y b x (rw (← e) (of-table isSpelling 128 table (c ∷ d ∷ cs) k known (r .spelled))))
+          begun (x ∷ y) u {w' = sign k} f (part [] s y b x (rw (← e) (of-table isListed 128 table (c ∷ d ∷ cs) k known (r .spelled))))
           (rw (← e) (rw append-nil at (shorter [] u refl))) refl
 
   letter-cut : (c : ℕ) (u : List ℕ) → ByteRun isCapital (c ∷ []) u → (b : ℕ) (s t : List ℕ) → c ∷ u ≡ b ∷ s ++ t → Cut table (b ∷ s) t (variable (c - 65)) u
@@ -194,10 +194,10 @@ module _ (table : List (List ℕ)) (known : entries isSpelling table ≡ true) w
   quoted-cut bs u a s t (across x y e f) = leftOpen (all-true (all-first s (x ∷ y) (rw e at a))) refl
 
   pair-cut : (a c k : ℕ) (u : List ℕ) → pairs a c ≡ some k → (b : ℕ) (s t : List ℕ) → a ∷ c ∷ u ≡ b ∷ s ++ t → Cut table (b ∷ s) t (sign k) u
-  unfolding isSpelling
+  unfolding isListed
   pair-cut a c k u e b [] t h =
       let i : a ≡ b = cc in
-      let z : isSpelling (b ∷ c ∷ []) ≡ true = rw (← i) (of-pairs (λ x y n. isSpelling (x ∷ y ∷ []) ≡ true) a c k refl refl refl e) in
+      let z : isListed (b ∷ c ∷ []) ≡ true = rw (← i) (of-pairs (λ x y n. isListed (x ∷ y ∷ []) ≡ true) a c k refl refl refl e) in
       begun (c ∷ []) u {w' = sign k} (cc) (part [] [] [] b c z) (rw (← i) (pair e)) refl
   pair-cut a c k u e b (x ∷ s) t h = before-cut (a ∷ c ∷ []) s (b ∷ x ∷ s) t u (sign k) (cc) (cc) λ y z g. pair e
 

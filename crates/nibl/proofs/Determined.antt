@@ -16,7 +16,7 @@ use Rattle.nibl.specs.declared.Onward.{Onward}
 use Rattle.nibl.specs.declared.Onward.the-variants.{Start, After}
 use Rattle.nibl.specs.declared.Paused.{Paused}
 use Rattle.nibl.specs.declared.Paused.the-variants.{Nowhere, At}
-use Rattle.nibl.specs.Record.{positionOf, pauseNumber}
+use Rattle.nibl.specs.Record.{place, position, positionOf, pauseNumber}
 use Rattle.nibl.specs.Stack.{pushOf, topOf, popOf, pushFor, topFor, popFor}
 
 -- for every promise that is an equation
@@ -46,7 +46,7 @@ pub onward-same : (a b : Onward) → positionOf a ≡ positionOf b → a ≡ b
 onward-same Start Start e = refl
 onward-same Start (After q) e = absurd (omega arith)
 onward-same (After p) Start e = absurd (omega arith)
-onward-same (After p) (After q) e = let k : p .0 ≡ q .0 = omega arith in λ i. After (record { 0 = k i })
+onward-same (After p) (After q) e = let k : position p ≡ position q = omega arith in λ i. After (place (k i))
 
 -- and so is a pause by its number
 pub pause-same : (a b : Paused) → pauseNumber a ≡ pauseNumber b → a ≡ b

@@ -9,7 +9,7 @@ use borrow.Author.Tests.{leb-true, le-leb, lt-leb, eqb-true, eqb-false, eq-eqb}
 use lib.Dec.{leb, eqb}
 use lib.ListN.{length, take}
 use lib.Seq.{length-take-le}
-use Rattle.nibl.specs.Bytes.{if_then_else_, same, isCapital, All, none as done, each, front}
+use Rattle.nibl.specs.Bytes.{if_then_else_, same, isCapital, All, none as done, each, front, all}
 use Rattle.nibl.specs.Words.{indexFrom, indexIn, there, begins, noneOver, keyword}
 use Rattle.nibl.specs.found.Read.{lettersStep}
 use Rattle.nibl.proofs.Tests.{if-split, and-left, and-right, or-cases, or-true}
@@ -24,16 +24,12 @@ same-spelling (x ∷ xs) (y ∷ ys) e =
     let h = eqb-true x y (and-left (eqb x y) (same xs ys) e) in
     let i = same-spelling xs ys (and-right (eqb x y) (same xs ys) e) in cc
 
-abbrev pub entries : (List ℕ → Bool) → List (List ℕ) → Bool
-entries p [] = true
-entries p (w ∷ ws) = p w && entries p ws
-
-pub of-table : (p : List ℕ → Bool) (n : ℕ) (table : List (List ℕ)) (w : List ℕ) (k : ℕ) → entries p table ≡ true → indexFrom n table w ≡ some k → p w ≡ true
+pub of-table : (p : List ℕ → Bool) (n : ℕ) (table : List (List ℕ)) (w : List ℕ) (k : ℕ) → all p table ≡ true → indexFrom n table w ≡ some k → p w ≡ true
 of-table p n [] w k a e = let z : _≡_ {A = ℕ} 0 1 = cc in absurd (omega arith)
-of-table p n (v ∷ vs) w k a e = go (same v w) refl (of-table p (suc n) vs w k (and-right (p v) (entries p vs) a)) e
+of-table p n (v ∷ vs) w k a e = go (same v w) refl (of-table p (suc n) vs w k (and-right (p v) (all p vs) a)) e
   where
     go : (t : Bool) → same v w ≡ t → (indexFrom (suc n) vs w ≡ some k → p w ≡ true) → (if t then some n else indexFrom (suc n) vs w) ≡ some k → p w ≡ true
-    go true h f i = subst (λ (x : List ℕ). p x ≡ true) (same-spelling v w h) (and-left (p v) (entries p vs) a)
+    go true h f i = subst (λ (x : List ℕ). p x ≡ true) (same-spelling v w h) (and-left (p v) (all p vs) a)
     go false h f i = f i
 
 -- its number is its place from there on

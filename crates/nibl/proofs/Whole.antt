@@ -16,7 +16,7 @@ use Rattle.nibl.specs.Grammar.{Statement, aLetVar, aLetStat, aLetByte, a
 use Rattle.nibl.specs.Tree.{Expr, Item, Stmt, letVar, letStat, letByte, goto, gosub, until, for, Member, Typed, immediate}
 use Rattle.nibl.specs.found.Read.{Found, nothing, found, give, _>>=_, relation, factor, read, aRelation, assigned, letOf, anItem, joined, printing, statementOf, aStatement, statement, endsMember, member, reading, replied, typed, key, consSome, orElse, choose, stepIn, wrong, got, aDecimal, commandCases, aloneStatement, numbered, unnumbered}
 use Rattle.nibl.specs.found.Read.{aVariable as variableRead}
-use Rattle.nibl.proofs.Keywords.{first-of, rest-of, run-begins, entries, of-table}
+use Rattle.nibl.proofs.Keywords.{first-of, rest-of, run-begins, of-table}
 use Rattle.nibl.proofs.Words.{and-left, and-right, or-true, all-true, word-unspaced, word-complete, word-unique, retabled, of-pairs, no-symbol, no-word}
 use Rattle.nibl.proofs.Rules.{W, it, Ok, nil, one, none-found, decimal-same}
 use Rattle.nibl.proofs.Statements.{joined-eq, items-join, variables-join, statement-eq}
@@ -220,7 +220,7 @@ both-begin (c ∷ v) (d ∷ w) (b ∷ s) p q =
     let f = eqb-true d b (and-left (eqb d b) (begins w s) q) in
     rw (e, f, eq-eqb b b refl) (both-begin v w s (and-right (eqb c b) (begins v s) p) (and-right (eqb d b) (begins w s) q))
 
-apart : (w s : List ℕ) → begins w s ≡ true → (vs : List (List ℕ)) → entries (λ v. not (meets v w)) vs ≡ true → noneOver 1 vs s ≡ true
+apart : (w s : List ℕ) → begins w s ≡ true → (vs : List (List ℕ)) → all (λ (v : List ℕ). not (meets v w)) vs ≡ true → noneOver 1 vs s ≡ true
 unfolding noneOver
 apart w s h [] a = refl
 apart w s h (v ∷ vs) a = rw (go (begins v s) refl) (apart w s h vs (and-right (not (meets v w)) _ a))
@@ -234,7 +234,7 @@ no-keyword c b k cs s r =
     let w : List ℕ = c ∷ b ∷ cs in
     no-word keywords c (b ∷ cs ++ s) (first-of (r .each)) (first-of (rest-of (r .each)))
     (apart w (front isCapital (w ++ s)) (run-begins (r .each) s) keywords
-    (of-table (λ x. entries (λ v. not (meets v x)) keywords) 128 commands w k refl (r .spelled)))
+    (of-table (λ x. all (λ (v : List ℕ). not (meets v x)) keywords) 128 commands w k refl (r .spelled)))
 
 no-command : {s t u : List ℕ} {k : ℕ} {w : Token} (d : List ℕ → Option Typed) → C s (sign k) t → stepIn keywords s ≡ got w u → choose commandCases d k ≡ d
 unfolding stepIn

@@ -6,7 +6,7 @@ use mathlib.Core.Option.{Option, none, some}
 use lib.ListN.{length, drop}
 use lib.Dec.{leb, eqb}
 use Rattle.nibl.specs.Bytes.{if_then_else_, byteCR, byteLF}
-use Rattle.nibl.specs.Tree.{Stmt, letVar, letStat, letByte, letText, letCopy, goto, gosub, return, print, ifThen, doLoop, until, for, next, input, inputText, remark, end}
+use Rattle.nibl.specs.Tree.{Stmt, anywhere, inLoop, counts, asksFor, roleOf}
 use Rattle.nibl.specs.Tree.{Typed, blank, new, clear, run, delete, list, store, immediate}
 use Rattle.nibl.specs.found.Read.{typed}
 use Rattle.nibl.specs.found.Column.{columnOf}
@@ -23,24 +23,7 @@ use Rattle.nibl.specs.declared.Call.{Call}
 
 -- "DO, UNTIL, FOR, NEXT or INPUT in an immediate line"
 abbrev pub needsProgram : Stmt → Bool
-needsProgram (letVar v a) = false
-needsProgram (letStat a) = false
-needsProgram (letByte a b) = false
-needsProgram (letText a bs) = false
-needsProgram (letCopy a b) = false
-needsProgram (goto a) = false
-needsProgram (gosub a) = false
-needsProgram return = false
-needsProgram (print is b) = false
-needsProgram (ifThen a q) = needsProgram q
-needsProgram doLoop = true
-needsProgram (until a) = true
-needsProgram (for v a b c) = true
-needsProgram (next v) = true
-needsProgram (input vs) = true
-needsProgram (inputText a) = true
-needsProgram remark = false
-needsProgram end = false
+needsProgram s = elim (roleOf s) [ anywhere ↦ false | inLoop ↦ true | counts v ↦ true | asksFor vs ↦ true ]
 
 -- "2: the edited program would not fit the page"; "An edit that changes the page, or replaces a line by itself, clears the three stacks"
 unfoldable pub edited : List ℕ → World → List Stored → Outcome

@@ -14,7 +14,7 @@ use Rattle.nibl.specs.found.Read.{replied}
 use Rattle.nibl.specs.Values.{Result, is, no, Value, add16, sub16, not16, mod16, apply, isNegative, less16, printed}
 use Rattle.nibl.specs.Stack.{pushOf, popOf, pushFor, popFor}
 use Rattle.nibl.specs.Typing.{Gathered, gather}
-use Rattle.nibl.specs.Record.{place, mark, withVar, withFlags, withGosubs, withDos, withFors}
+use Rattle.nibl.specs.Record.{place, position, mark, withVar, withFlags, withGosubs, withDos, withFors}
 use Rattle.nibl.specs.Page.{find, used}
 use Rattle.nibl.specs.Access.{mayRead, mayWrite}
 use Rattle.nibl.specs.declared.Place.{Place}
@@ -156,7 +156,7 @@ lineThere (some q) = is q
 
 -- "RETURN to the immediate mark" is 0; else the run goes on after the place
 abbrev pub after : Place → Next
-after p = if eqb (p .0) mark then stop 0 else go (suc (p .0))
+after p = if eqb (position p) mark then stop 0 else go (suc (position p))
 
 unfoldable pub gosubTo : Env → World → ℕ → Done
 gosubTo e w q =
@@ -176,7 +176,7 @@ doHere e w =
 unfoldable pub untilBy : World → ℕ → Top → Done
 untilBy w x top.Empty = done (stop 15) w
 untilBy w x (top.At p) =
-    if eqb x 0 then done (go (suc (p .0))) w else done on (withSession w (withDos (w .session) (popOf (w .session .dos) .stack)))
+    if eqb x 0 then done (go (suc (position p))) w else done on (withSession w (withDos (w .session) (popOf (w .session .dos) .stack)))
 
 unfoldable pub forHere : Env → World → ℕ → ℕ → ℕ → ℕ → Done
 forHere e w v first limit step =
@@ -194,7 +194,7 @@ nextBy w v (topf.Entry f) =
     let x = add16 (getD (w .session .vars) v 0) (f .step) in
     let s = withVar (w .session) v x in
     if not (eqb (f .var) v) then done (stop 12) w
-    else if goesOn (f .step) x (f .limit) then done (go (suc (f .place .0))) (withSession w s)
+    else if goesOn (f .step) x (f .limit) then done (go (suc (position (f .place)))) (withSession w s)
     else done on (withSession w (withFors s (popFor (w .session .fors) .stack)))
 
 -- "INPUT writes '?', gathers a line": what is done with the line, if it is not over-long

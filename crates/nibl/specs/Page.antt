@@ -9,7 +9,7 @@ use Rattle.nibl.specs.Bytes.{if_then_else_, isDigit, starts, all, byteCR
 use Rattle.nibl.specs.Tree.{Member}
 use Rattle.nibl.specs.found.Read.{reading}
 use Rattle.nibl.specs.Values.{digits}
-use Rattle.nibl.specs.Record.{mark}
+use Rattle.nibl.specs.Record.{position, mark}
 use Rattle.nibl.specs.declared.Place.{Place}
 use Rattle.nibl.specs.declared.ForEntry.{ForEntry}
 use Rattle.nibl.specs.declared.Session.{Session}
@@ -136,9 +136,9 @@ fitsPaused ps (suc (suc p)) = isAmong ps p
 abbrev pub fitsWith : List ℕ → Session → Bool
 fitsWith ps s =
     leb (s .gosubs .depth) 8 && (leb (s .dos .depth) 8 && (leb (s .fors .depth) 4
-    && (all (λ (p : Place). isAmong ps (p .0) || eqb (p .0) mark) (take (s .gosubs .depth) (s .gosubs .places))
-    && (all (λ (p : Place). isAmong ps (p .0)) (take (s .dos .depth) (s .dos .places))
-    && (all (λ (e : ForEntry). ltb (e .var) 26 && isAmong ps (e .place .0)) (take (s .fors .depth) (s .fors .entries))
+    && (all (λ (p : Place). isAmong ps (position p) || eqb (position p) mark) (take (s .gosubs .depth) (s .gosubs .places))
+    && (all (λ (p : Place). isAmong ps (position p)) (take (s .dos .depth) (s .dos .places))
+    && (all (λ (e : ForEntry). ltb (e .var) 26 && isAmong ps (position (e .place))) (take (s .fors .depth) (s .fors .entries))
     && (ltb (s .flags) 8 && fitsPaused ps (s .paused)))))))
 
 unfoldable pub fits : List ℕ → Session → Bool

@@ -14,8 +14,12 @@ use Rattle.nibl.specs.declared.Paused.the-variants.{Nowhere, At}
 use Rattle.nibl.specs.declared.Session.{Session}
 use Rattle.nibl.specs.declared.Parts.{Parts}
 
+-- A place is made and opened here and nowhere else: of a position of the page, and as one
 abbrev pub place : ℕ → Place
 place p = record { 0 = p }
+
+abbrev pub position : Place → ℕ
+position p = p .0
 
 -- the immediate mark, which is no position of a page
 abbrev pub mark : ℕ
@@ -24,7 +28,7 @@ mark = 65535
 -- Where a run goes on, as a position of the page: the program's start, or what stands after a place
 abbrev pub positionOf : Onward → ℕ
 positionOf Start = 0
-positionOf (After p) = suc (p .0)
+positionOf (After p) = suc (position p)
 
 -- The pause is one number: 0 where nothing is paused, else one more than the position at which the run goes on. So 1 is the
 -- program's start and p + 2 is after the place p, and every number is a pause.

@@ -1,6 +1,6 @@
 -- What a text is read as.
 use Prim.Native.Nat.{ℕ}
-use mathlib.Core.List.{List}
+use mathlib.Core.List.{List, []}
 use mathlib.Core.Bool.{Bool}
 
 pub data Op : Type 0 where
@@ -36,6 +36,33 @@ pub data Stmt : Type 0 where
   input : List ℕ → Stmt
   inputText : Expr → Stmt
   remark end : Stmt
+
+-- What a statement is to the calls and to a run, behind any IFs. In a program only: one that opens or ends a loop, FOR with the variable that
+-- it counts, INPUT with the variables that a reply gives
+pub data Role : Type 0 where
+  anywhere inLoop : Role
+  counts : ℕ → Role
+  asksFor : List ℕ → Role
+
+abbrev pub roleOf : Stmt → Role
+roleOf (letVar v a) = anywhere
+roleOf (letStat a) = anywhere
+roleOf (letByte a b) = anywhere
+roleOf (letText a bs) = anywhere
+roleOf (letCopy a b) = anywhere
+roleOf (goto a) = anywhere
+roleOf (gosub a) = anywhere
+roleOf return = anywhere
+roleOf (print is b) = anywhere
+roleOf (ifThen a q) = roleOf q
+roleOf doLoop = inLoop
+roleOf (until a) = inLoop
+roleOf (for v a b c) = counts v
+roleOf (next v) = inLoop
+roleOf (input vs) = asksFor vs
+roleOf (inputText a) = asksFor []
+roleOf remark = anywhere
+roleOf end = anywhere
 
 -- a member of a statement list, and how many bytes of the text stand from the place that ends it on: 0 at the text's end
 pub record Member : Type 0 where

@@ -26,14 +26,8 @@ impl Access {
     pub fn whole() -> Access
         ensures { λ r. ⌜ r ≡ everyAddress ⌝ }
     {
-        let own = Range {
-            from: 0,
-            to: 65535,
-        };
-        let shared = Range {
-            from: 0,
-            to: 0,
-        };
+        let own = Range { from: 0, to: 65535 };
+        let shared = Range { from: 0, to: 0 };
         Access {
             own: own,
             shared: shared,

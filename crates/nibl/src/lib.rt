@@ -4,12 +4,13 @@ ghost use Prim.Native.Nat.{_-_, _≤_};
 ghost use mathlib.Core.Path.{_≡_};
 ghost use lib.Dec.{eqb};
 ghost use Rattle.nibl.specs.Stack.{onTop, pushOf, topOf, popOf, pushFor, topFor, popFor};
-ghost use Rattle.nibl.specs.Record.{place, mark, positionOf, nowhere, pausedAt, pauseNumber, freshPlaces, freshFors, fresh, unpaused, stackless, cleared, loadedSession, partsOf, sessionOf, withFlags};
+ghost use Rattle.nibl.specs.Record.{place, position, mark, positionOf, nowhere, pausedAt, pauseNumber, freshPlaces, freshFors, fresh, unpaused, stackless, cleared, loadedSession, partsOf, sessionOf, withFlags};
 ghost use Rattle.nibl.specs.Lent.{answerOf, withPositions, sightOf};
 
 pub mod access;
 pub mod range;
 pub mod stop;
+
 use access::Access;
 use access::Sight;
 
@@ -52,6 +53,8 @@ pub const FORS: usize = 4;
 // The flags use bits 0 to 2: so many patterns of them there are.
 pub const FLAGS: u16 = 8;
 
+const FLAG_PATTERNS: u8 = FLAGS as u8;
+
 // The immediate mark: a GOSUB that was typed saves it for a place. No page is so long.
 pub const MARK: u16 = 65535;
 
@@ -79,7 +82,7 @@ impl Place {
 
     // And the one that opens it.
     pub fn position(self) -> usize
-        ensures { λ r. ⌜ r ≡ self .0 ⌝ }
+        ensures { λ r. ⌜ r ≡ position self ⌝ }
     {
         self.0 as usize
     }
@@ -91,7 +94,7 @@ impl Place {
     }
 
     pub fn is_mark(self) -> bool
-        ensures { λ r. ⌜ r ≡ eqb (self .0) mark ⌝ }
+        ensures { λ r. ⌜ r ≡ eqb (position self) mark ⌝ }
     {
         self.0 == MARK
     }
@@ -431,12 +434,12 @@ impl Session {
     }
 
     // A load brings its own variables. The stacks are emptied, a pause is ended, and of the flags bits 0 to 2 are kept.
-    pub fn loaded(self, vars: [u16; 26]) -> Session
+    pub fn loaded(self, vars: [u16; VARIABLES]) -> Session
         ensures { λ r. ⌜ r ≡ loadedSession self vars ⌝ }
     {
         let mut next = self.stackless();
         next.vars = vars;
-        next.flags = self.flags % 8;
+        next.flags = self.flags % FLAG_PATTERNS;
         next.paused = NOWHERE;
         next
     }

@@ -41,7 +41,9 @@ fn obey(
     table: &mut [u16],
 ) -> Ended
     requires { ⌜ (Lists (now reply) (now replies) (now values) (now ops) × Accepted (length (now reply)) (now page) (call .budget) session × ReadAs (now typed) kind (now ops)) × Indexed (now page) (now table) ⌝ }
-    ensures { λ r. ⌜ endedIn r (now (page .exit)) (now (memory .exit)) (now (output .exit)) ≡ obeyRead (call .budget) (envWith (length (now (reply .entry))) (now (page .entry)) (now (input .entry)) (sightOf call) (place mark)) (worldAt session (now (memory .entry)) (now (output .entry)) (call .inpos) (call .outpos)) (columnOf (now (typed .entry))) (readingOf (now (typed .entry))) ⌝ }
+    ensures { λ r. ⌜ endedIn r (now (page .exit)) (now (memory .exit)) (now (output .exit))
+        ≡ obeyRead (call .budget) (envWith (length (now (reply .entry))) (now (page .entry)) (now (input .entry)) (sightOf call) (place mark))
+        (worldAt session (now (memory .entry)) (now (output .entry)) (call .inpos) (call .outpos)) (columnOf (now (typed .entry))) (readingOf (now (typed .entry))) ⌝ }
     ensures { λ _. ⌜ now (table .exit) ≡ keptTrue (now (page .exit)) (now (table .entry)) ⌝ }
 {
     let inpos = call.inpos;
@@ -136,8 +138,11 @@ pub fn typed_line(
     ops: &mut [u32],
     table: &mut [u16],
 ) -> Ended
-    requires { ⌜ (Lists (now reply) (now replies) (now values) (now ops) × (length (now line) ≡ length (now reply)) × Accepted (length (now reply)) (now page) (call .budget) (unpaused rec) × (length (now reply) ≤ limit)) × Indexed (now page) (now table) ⌝ }
-    ensures { λ r. ⌜ endedIn r (now (page .exit)) (now (memory .exit)) (now (output .exit)) ≡ obeyLine (length (now (reply .entry))) (lentAll rec (now (page .entry)) (now (memory .entry)) (now (input .entry)) (now (output .entry)) call (now (table .entry))) (gathered (length (now (reply .entry))) (drop (call .inpos) (now (input .entry)))) ⌝ }
+    requires { ⌜ (Lists (now reply) (now replies) (now values) (now ops) × (length (now line) ≡ length (now reply)) × Accepted (length (now reply)) (now page) (call .budget) (unpaused rec) × (length (now reply) ≤ limit))
+        × Indexed (now page) (now table) ⌝ }
+    ensures { λ r. ⌜ endedIn r (now (page .exit)) (now (memory .exit)) (now (output .exit))
+        ≡ obeyLine (length (now (reply .entry))) (lentAll rec (now (page .entry)) (now (memory .entry)) (now (input .entry)) (now (output .entry)) call (now (table .entry)))
+        (gathered (length (now (reply .entry))) (drop (call .inpos) (now (input .entry)))) ⌝ }
     ensures { λ _. ⌜ now (table .exit) ≡ keptTrue (now (page .exit)) (now (table .entry)) ⌝ }
 {
     let g = letter::gather(input, call.inpos, line);

@@ -132,7 +132,9 @@ pub fn value_step(
     top: u16,
 ) -> Height
     requires { ⌜ (height < length (now values)) × (used (now page) < 65536) × (top ≡ topIn (now values) height) ⌝ }
-    ensures { λ r. ⌜ (stackAfter r (now (values .exit)) ≡ valueStep (sources (now (vars .entry)) flags sight (now (page .entry)) (now (memory .entry))) op (stackOf (now (values .entry)) height)) × (heightOf r ≤ height + 1) × (topAfter r ≡ topIn (now (values .exit)) (heightOf r)) ⌝ }
+    ensures { λ r. ⌜ (stackAfter r (now (values .exit))
+        ≡ valueStep (sources (now (vars .entry)) flags sight (now (page .entry)) (now (memory .entry))) op (stackOf (now (values .entry)) height))
+        × (heightOf r ≤ height + 1) × (topAfter r ≡ topIn (now (values .exit)) (heightOf r)) ⌝ }
 {
     let code = op % codes::CODES;
     let y = nth(values, height, 1);
@@ -211,7 +213,9 @@ pub fn values_first(
     values: &mut [u16],
 ) -> Reached
     requires { ⌜ (length (now ops) ≤ length (now values)) × (used (now page) < 65536) ⌝ }
-    ensures { λ r. ⌜ (reachedIn r (now (ops .entry)) (now (values .exit)) ≡ valuesFirst (sources (now (vars .entry)) flags sight (now (page .entry)) (now (memory .entry))) (drop from (now (ops .entry))) []) × (reachedHeight r ≤ reachedAt from r) × (from ≤ reachedAt from r) × (reachedTop r ≡ topIn (now (values .exit)) (reachedHeight r)) × (reachedAt from r ≤ from + (length (now (ops .entry)) - from)) ⌝ }
+    ensures { λ r. ⌜ (reachedIn r (now (ops .entry)) (now (values .exit))
+        ≡ valuesFirst (sources (now (vars .entry)) flags sight (now (page .entry)) (now (memory .entry))) (drop from (now (ops .entry))) [])
+        × (reachedHeight r ≤ reachedAt from r) × (from ≤ reachedAt from r) × (reachedTop r ≡ topIn (now (values .exit)) (reachedHeight r)) × (reachedAt from r ≤ from + (length (now (ops .entry)) - from)) ⌝ }
 {
     let mut height: usize = 0;
     let mut top: u16 = 0;

@@ -23,7 +23,7 @@ pub world-same : (s : Session) → s .paused ≡ nowhere → (memory output : Li
     → worldWith (s .vars) (partsOf s inpos outpos) memory output ≡ worldAt s memory output inpos outpos
 world-same s e memory output inpos outpos = ap (λ (x : Session). worldAt x memory output inpos outpos) (idle-same s e)
 
-pub may-run : {reply replies values ops page : List ℕ} {q budget : ℕ} {s : Session} → Lists reply replies values ops → Accepted (length reply) page budget s → Stands page q
+pub may-run : {reply replies values ops page : List ℕ} {q budget : ℕ} {s : Session} → Lists reply replies values ops → Accepted (length reply) page budget s → Stands (placesOf page) q
     → (memory output : List ℕ) (inpos outpos : ℕ) → MayRun page ops values reply replies q budget (worldWith (s .vars) (partsOf s inpos outpos) memory output)
 may-run {page = page} {s = s} l a h memory output inpos outpos =
     let p = a .short in

@@ -20,6 +20,7 @@ use Rattle.nibl.specs.declared.Parts.{Parts}
 use Rattle.nibl.specs.declared.Onward.{Onward}
 use Rattle.nibl.specs.declared.access.Sight.{Sight}
 use Rattle.page.specs.Standing.{Stands}
+use Rattle.page.proofs.Standing.{find-stands}
 use Rattle.record.specs.Fit.{Fit, Goes, toPlace}
 use Rattle.record.proofs.Statements.{immediate-goes}
 use Rattle.world.specs.Turns.{wayOf}
@@ -68,11 +69,11 @@ module _ {reply replies values ops page text : List ℕ} {n budget : ℕ} {s : S
       ∙ sym (ap (obeyRead budget env world (columnOf text)) (one .reads)
       ∙ ap (λ (b : Bool). elim b [ true ↦ stops 3 world page | false ↦ afterImmediate budget env (exec env (one .tree) world) ]) (one .free))
 
-  goes : Goes page (exec env (one .tree) world)
-  goes = immediate-goes env (length reply) (l .short) (a .good) (one .tree) world refl (one .free) (a .fits)
+  goes : Goes (placesOf page) (exec env (one .tree) world)
+  goes = immediate-goes env (placesOf page) (find-stands (length reply) page (l .short) (a .good)) (one .tree) world refl (one .free) (a .fits)
 
   -- where it goes on a run may stand, and the record fits
-  pub onto : {q : ℕ} {w : World} → done (go q) w ≡ exec env (one .tree) world → Stands page q × Fit (placesOf page) (w .session)
-  onto e = by (subst (Goes page) (sym e) goes) where
-    by : {q : ℕ} {w : World} → Goes page (done (go q) w) → Stands page q × Fit (placesOf page) (w .session)
+  pub onto : {q : ℕ} {w : World} → done (go q) w ≡ exec env (one .tree) world → Stands (placesOf page) q × Fit (placesOf page) (w .session)
+  onto e = by (subst (Goes (placesOf page)) (sym e) goes) where
+    by : {q : ℕ} {w : World} → Goes (placesOf page) (done (go q) w) → Stands (placesOf page) q × Fit (placesOf page) (w .session)
     by (toPlace h f) = (h, f)

@@ -2,7 +2,7 @@
 // is the answer and the record, by value; the rest is where it was lent.
 ghost use mathlib.Core.Path.{_≡_};
 ghost use lib.ListN.{length};
-ghost use Rattle.nibl.specs.Page.{recordsOf};
+ghost use Rattle.nibl.specs.Page.{recordsOf, placesOf};
 ghost use Rattle.nibl.specs.Record.{place, mark, positionOf};
 ghost use Rattle.nibl.specs.found.Read.{typed as readingOf};
 ghost use Rattle.nibl.specs.found.Column.{columnOf};
@@ -113,8 +113,10 @@ pub fn run_from<'a>(
     ops: &mut [u32],
     table: &[u16],
 ) -> Ended
-    requires { ⌜ (Lists (now reply) (now replies) (now values) (now ops) × Accepted (length (now reply)) (now page) (call .budget) session × Stands (now page) (positionOf from)) × Indexed (now page) (now table) ⌝ }
-    ensures { λ r. ⌜ endedIn r (now (page .entry)) (now (memory .exit)) (now (output .exit)) ≡ runOutcome (runFrom (call .budget) (envWith (length (now (reply .entry))) (now (page .entry)) (now (input .entry)) (sightOf call) (place mark)) (positionOf from) (worldAt session (now (memory .entry)) (now (output .entry)) (call .inpos) (call .outpos))) (now (page .entry)) ⌝ }
+    requires { ⌜ (Lists (now reply) (now replies) (now values) (now ops) × Accepted (length (now reply)) (now page) (call .budget) session × Stands (placesOf (now page)) (positionOf from)) × Indexed (now page) (now table) ⌝ }
+    ensures { λ r. ⌜ endedIn r (now (page .entry)) (now (memory .exit)) (now (output .exit))
+        ≡ runOutcome (runFrom (call .budget) (envWith (length (now (reply .entry))) (now (page .entry)) (now (input .entry)) (sightOf call) (place mark)) (positionOf from)
+        (worldAt session (now (memory .entry)) (now (output .entry)) (call .inpos) (call .outpos))) (now (page .entry)) ⌝ }
 {
     let sight = call.sight();
     let mut vars = session.vars;
@@ -156,7 +158,9 @@ pub fn immediate<'a>(
     table: &[u16],
 ) -> Ended
     requires { ⌜ (Lists (now reply) (now replies) (now values) (now ops) × Accepted (length (now reply)) (now page) (call .budget) session × IsStatement (now typed) n (now ops)) × Indexed (now page) (now table) ⌝ }
-    ensures { λ r. ⌜ endedIn r (now (page .entry)) (now (memory .exit)) (now (output .exit)) ≡ obeyRead (call .budget) (envWith (length (now (reply .entry))) (now (page .entry)) (now (input .entry)) (sightOf call) (place mark)) (worldAt session (now (memory .entry)) (now (output .entry)) (call .inpos) (call .outpos)) (columnOf (now (typed .entry))) (readingOf (now (typed .entry))) ⌝ }
+    ensures { λ r. ⌜ endedIn r (now (page .entry)) (now (memory .exit)) (now (output .exit))
+        ≡ obeyRead (call .budget) (envWith (length (now (reply .entry))) (now (page .entry)) (now (input .entry)) (sightOf call) (place mark))
+        (worldAt session (now (memory .entry)) (now (output .entry)) (call .inpos) (call .outpos)) (columnOf (now (typed .entry))) (readingOf (now (typed .entry))) ⌝ }
 {
     let sight = call.sight();
     let mut vars = session.vars;

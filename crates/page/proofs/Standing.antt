@@ -228,17 +228,17 @@ module _ (lim : ℕ) (page : List ℕ) where
       by (atColon f g) more = rw f (colon-follows lim page at r w (record-ends at r rs w h) g)
 
   -- the records' positions are the start and those after a CR
-  after-record : (at : ℕ) (r : Stored) (rs : List Stored) → Whole lim page at r → Holds at (r ∷ rs) → Stands page (at + size r)
+  after-record : (at : ℕ) (r : Stored) (rs : List Stored) → Whole lim page at r → Holds at (r ∷ rs) → Stands (placesOf page) (at + size r)
   after-record at r rs w h =
       let z : at + size r ≡ suc (at + 3 + length (r .text)) = omega arith in
       rw z (record-ends at r rs w h _ (last-end (at + 3) (length (r .text)) (reading-sound (r .text) (its lim page at r w) (its-reading lim page at r w))))
 
-  laid-find : {low at : ℕ} {rs : List Stored} (n q : ℕ) → Laid lim page low at rs → Holds at rs → Stands page at → positionIn n at rs ≡ some q → Stands page q
+  laid-find : {low at : ℕ} {rs : List Stored} (n q : ℕ) → Laid lim page low at rs → Holds at rs → Stands (placesOf page) at → positionIn n at rs ≡ some q → Stands (placesOf page) q
   laid-find n q (ends e) h s i = let z : _≡_ {A = ℕ} 0 1 = cc in absurd (omega arith)
   laid-find {at = at} n q (laid {r = r} {rs = rs} l w p) h s i =
       by (eqb (r .line) n) (laid-find n q p (record-more at r rs h) (after-record at r rs w h)) i
     where
-      by : (b : Bool) → (positionIn n (at + size r) rs ≡ some q → Stands page q) → (if b then some at else positionIn n (at + size r) rs) ≡ some q → Stands page q
+      by : (b : Bool) → (positionIn n (at + size r) rs ≡ some q → Stands (placesOf page) q) → (if b then some at else positionIn n (at + size r) rs) ≡ some q → Stands (placesOf page) q
       by true f i = let z : at ≡ q = cc in rw (← z) s
       by false f i = f i
 
@@ -288,24 +288,24 @@ module _ (lim : ℕ) (page : List ℕ) where
           }
 
 -- a run may stand after every place: RETURN, UNTIL and NEXT go on there
-pub place-stands : (page : List ℕ) (p : ℕ) → isAmong (placesOf page) p ≡ true → Stands page (suc p)
-place-stands page p h = h
+pub place-stands : (ps : List ℕ) (p : ℕ) → isAmong ps p ≡ true → Stands ps (suc p)
+place-stands ps p h = h
 
 -- On a good page
 module _ (lim : ℕ) (page : List ℕ) (short : lim ≤ 251) (good : isGood lim page ≡ true) where
   records-laid : Laid lim page 0 0 (recordsOf page)
   records-laid = good-laid lim page short good
 
-  pub stands-follows : (q : ℕ) → Stands page q → Follows lim page q
+  pub stands-follows : (q : ℕ) → Stands (placesOf page) q → Follows lim page q
   unfolding placesOf
   stands-follows zero h = laid-start lim page records-laid refl (λ q i. i)
   stands-follows (suc p) h = laid-place lim page p records-laid (λ q i. i) h
 
-  pub stands-ready : (q a : ℕ) → Stands page q → textFrom page q ≡ some a → Ready lim page a
+  pub stands-ready : (q a : ℕ) → Stands (placesOf page) q → textFrom page q ≡ some a → Ready lim page a
   stands-ready q a h = follows-ready (stands-follows q h)
 
   -- what a run fetches where it may stand
-  pub stands-fetches : (q : ℕ) → Stands page q → Fetches page (fetch page q)
+  pub stands-fetches : (q : ℕ) → Stands (placesOf page) q → Fetches page (fetch page q)
   unfolding fetch
   stands-fetches q h = by (stands-follows q h) where
     by : Follows lim page q → Fetches page (fetchText page (textFrom page q))
@@ -314,22 +314,22 @@ module _ (lim : ℕ) (page : List ℕ) (short : lim ≤ 251) (good : isGood lim 
         rw (t, r .finds)
         (oneMore (record { text = lineFrom page a; first = r .begins; rest = r .rest; reads = r .finds; statement = refl; line = refl; end = r .end; cr = r .cr }))
 
-  pub fetches-here : (q : ℕ) (x : Standing) → Stands page q → fetch page q ≡ here x → Readable page x
+  pub fetches-here : (q : ℕ) (x : Standing) → Stands (placesOf page) q → fetch page q ≡ here x → Readable page x
   fetches-here q x h e = by (fetch page q) e (stands-fetches q h) where
     by : (f : Fetched) → f ≡ here x → Fetches page f → Readable page x
     by past e s = let z : _≡_ {A = ℕ} 0 1 = cc in absurd (omega arith)
     by (here y) e (oneMore r) = let same : y ≡ x = cc in rw same at r
 
-  pub fetches-read : (q a : ℕ) → Stands page q → fetch page q ≡ unreadable a → ⊥
+  pub fetches-read : (q a : ℕ) → Stands (placesOf page) q → fetch page q ≡ unreadable a → ⊥
   fetches-read q a h e = by (fetch page q) e (stands-fetches q h) where
     by : (f : Fetched) → f ≡ unreadable a → Fetches page f → ⊥
     by past e s = let z : _≡_ {A = ℕ} 0 1 = cc in omega arith
     by (here y) e s = let z : _≡_ {A = ℕ} 0 1 = cc in omega arith
 
-  pub text-short : (q a : ℕ) → Stands page q → textFrom page q ≡ some a → length (lineFrom page a) ≤ lim
+  pub text-short : (q a : ℕ) → Stands (placesOf page) q → textFrom page q ≡ some a → length (lineFrom page a) ≤ lim
   text-short q a h e = stands-ready q a h e .short
 
-  pub find-stands : (n q : ℕ) → find page n ≡ some q → Stands page q
+  pub find-stands : (n q : ℕ) → find page n ≡ some q → Stands (placesOf page) q
   unfolding find placesOf
   find-stands n q h = laid-find lim page n q records-laid (λ q i. i) refl h
 
@@ -345,6 +345,6 @@ module _ (lim : ℕ) (page : List ℕ) (short : lim ≤ 251) (good : isGood lim 
   unfolding placesOf
   place-inside p h = laid-lies lim page p records-laid h .room
 
-  pub stands-inside : (q : ℕ) → Stands page q → q + 2 ≤ length page
+  pub stands-inside : (q : ℕ) → Stands (placesOf page) q → q + 2 ≤ length page
   stands-inside zero h = omega (arith, laid-room records-laid, used-two (recordsOf page))
   stands-inside (suc p) h = omega (arith, place-inside p h)

@@ -22,9 +22,9 @@ pub record Storable (lim : ℕ) (r : Stored) : Type 0 where
   pub short : length (r .text) ≤ 251
   pub text : isStorable lim (r .line) (r .text) ≡ true
 
--- where a run may stand: "such a position", and the run goes on after it, "or the program's start"
+-- where a run may stand, by a list of places: "such a position", and the run goes on after it, "or the program's start"
 abbrev pub Stands : List ℕ → ℕ → Type 0
-Stands page q = fitsPaused (placesOf page) (pausedAt q) ≡ true
+Stands ps q = fitsPaused ps (pausedAt q) ≡ true
 
 -- the position p lies in the record of the line l, after its number and length
 pub record LiesIn (page : List ℕ) (p l : ℕ) : Type 0 where

@@ -10,7 +10,7 @@ ghost use lib.ListN.{length, getD, drop};
 ghost use lib.Seq.{paste};
 ghost use Rattle.nibl.specs.Bytes.{if_then_else_, byte};
 ghost use Rattle.nibl.specs.Page.{recordBytes, isEnd, find, lineAt, lengthAt, lineOf, used, usedBy, recordsOf};
-ghost use Rattle.nibl.specs.Record.{positionOf};
+ghost use Rattle.nibl.specs.Record.{position, positionOf};
 ghost use Rattle.nibl.specs.Runs.{lineFrom, textFrom};
 ghost use Rattle.nibl.specs.Calls.{listed};
 ghost use Rattle.value.specs.Writes.{Writes};
@@ -247,7 +247,7 @@ fn line_around(page: &[u8], p: usize) -> LineNumber
 
 // The line of the record that a place lies in.
 pub fn line_of(page: &[u8], place: Place) -> LineNumber
-    ensures { λ r. ⌜ r .0 ≡ lineOf (now (page .entry)) (place .0) ⌝ }
+    ensures { λ r. ⌜ r .0 ≡ lineOf (now (page .entry)) (position place) ⌝ }
 {
     line_around(page, place.position())
 }

@@ -6,6 +6,7 @@ ghost use lib.ListN.{length, drop};
 ghost use Rattle.nibl.specs.Bytes.{isDigit, starts};
 ghost use Rattle.nibl.specs.found.Read.{reading};
 ghost use Rattle.nibl.specs.Page.{hasReading, isStorable, isGood, textAt, endsOf, placesOf, isAmong};
+ghost use Rattle.nibl.specs.Record.{position};
 ghost use Rattle.page.specs.Walk.{sizeAt};
 ghost use Rattle.places.specs.Whole.{Roomy, wholeSize, recordSize};
 ghost use Rattle.places.specs.Ends.{endIn};
@@ -170,7 +171,7 @@ fn ends_in(page: &[u8], at: usize, size: usize, i: usize) -> bool
 
 // Whether a position is a place of the page: it can be so only by the record that it lies in.
 pub fn is_place(page: &[u8], place: Place) -> bool
-    ensures { λ r. ⌜ r ≡ isAmong (placesOf (now (page .entry))) (place .0) ⌝ }
+    ensures { λ r. ⌜ r ≡ isAmong (placesOf (now (page .entry))) (position place) ⌝ }
 {
     let p = place.position();
     let mut at: usize = 0;

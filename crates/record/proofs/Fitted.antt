@@ -1,4 +1,4 @@
--- A session record that fits a page: what its test says, where its places let a run stand, and that its changes keep them. Assumes nothing.
+-- A session record that fits places: what its test says, where they let a run stand, and that its changes keep them. Assumes nothing.
 use Prim.Native.Nat.{ℕ, suc, _%_, _≤_, _<_}
 use mathlib.Core.Path.{_≡_, sym, _∙_}
 use mathlib.Core.Bool.{true, false, false≢true}
@@ -10,7 +10,7 @@ use borrow.Author.Tests.{ltb-true, lt-ltb, le-leb, leb-true}
 use Rattle.nibl.specs.Bytes.{all}
 use Rattle.nibl.specs.Stack.{pushOf, popOf, pushFor, popFor}
 use Rattle.nibl.specs.Page.{isAmong, isGood, placesOf, fitsPaused, fitsWith, fits}
-use Rattle.nibl.specs.Record.{mark, nowhere, pausedAt, withVars, withVar, withFlags, withGosubs, withDos, withFors, withPaused, stackless}
+use Rattle.nibl.specs.Record.{position, mark, nowhere, pausedAt, withVars, withVar, withFlags, withGosubs, withDos, withFors, withPaused, stackless}
 use Rattle.nibl.specs.declared.Place.{Place}
 use Rattle.nibl.specs.declared.ForEntry.{ForEntry}
 use Rattle.nibl.specs.declared.Session.{Session}
@@ -40,10 +40,8 @@ pub record FitTests (ps : List ℕ) (s : Session) : Type 0 where
   pub flags : ltb (s .flags) 8 ≡ true
   pub paused : fitsPaused ps (s .paused) ≡ true
 
-pub fits-tests : (page : List ℕ) (s : Session) → fits page s ≡ true → FitTests (placesOf page) s
-unfolding fits
-fits-tests page s h =
-    let ps : List ℕ = placesOf page in
+fits-tests : (ps : List ℕ) (s : Session) → fitsWith ps s ≡ true → FitTests ps s
+fits-tests ps s h =
     let a = both (leb (s .gosubs .depth) 8) _ h in
     let b = both (leb (s .dos .depth) 8) _ (a .1) in
     let c = both (leb (s .fors .depth) 4) _ (b .1) in
@@ -74,9 +72,14 @@ fit-fits ps s h =
       h .flags,
     ) (h .paused)
 
+-- of the places of a page
+pub page-tests : (page : List ℕ) (s : Session) → fits page s ≡ true → FitTests (placesOf page) s
+unfolding fits
+page-tests page s h = fits-tests (placesOf page) s h
+
 pub sound-fit : {lim : ℕ} {page : List ℕ} {s : Session} → Sound lim page s → Fit (placesOf page) s
 sound-fit {page = page} {s = s} h =
-    let p = fits-tests page s (h .fitting) in
+    let p = page-tests page s (h .fitting) in
     let z = h .sized in
     record {
       vars = z .vars;
@@ -93,21 +96,21 @@ fit-sound lim {page = page} {s = s} g f =
     record { good = g; fitting = fit-fits (placesOf page) s f; sized = record { vars = f .vars; gosubs = f .gosubs .room; dos = f .dos .room; fors = f .fors .room } }
 
 -- Where RETURN, UNTIL and NEXT go on, and a paused run
-module _ (page : List ℕ) (s : Session) (h : Fit (placesOf page) s) where
-  pub return-stands : (p : Place) → popOf (s .gosubs) .top ≡ top.At p → eqb (p .0) mark ≡ false → Stands page (suc (p .0))
+module _ (ps : List ℕ) (s : Session) (h : Fit ps s) where
+  pub return-stands : (p : Place) → popOf (s .gosubs) .top ≡ top.At p → eqb (position p) mark ≡ false → Stands ps (suc (position p))
   return-stands p e n =
-      or-cases (isAmong (placesOf page) (p .0)) (eqb (p .0) mark) (top-place (isSaved (placesOf page) true) (s .gosubs) (h .gosubs) p e) (λ i. i) (λ i. absurd (false≢true (sym n ∙ i)))
+      or-cases (isAmong ps (position p)) (eqb (position p) mark) (top-place (isSaved ps true) (s .gosubs) (h .gosubs) p e) (λ i. i) (λ i. absurd (false≢true (sym n ∙ i)))
 
-  pub until-stands : (p : Place) → popOf (s .dos) .top ≡ top.At p → Stands page (suc (p .0))
-  until-stands p e = top-place (isPlace (placesOf page)) (s .dos) (h .dos) p e
+  pub until-stands : (p : Place) → popOf (s .dos) .top ≡ top.At p → Stands ps (suc (position p))
+  until-stands p e = top-place (isPlace ps) (s .dos) (h .dos) p e
 
   -- the variable of the FOR is one of the 26
-  pub next-known : (x : ForEntry) → popFor (s .fors) .top ≡ topf.Entry x → (x .var < 26) × Stands page (suc (x .place .0))
+  pub next-known : (x : ForEntry) → popFor (s .fors) .top ≡ topf.Entry x → (x .var < 26) × Stands ps (suc (position (x .place)))
   next-known x e =
-      let b = both (ltb (x .var) 26) _ (top-entry (isUnderWay (placesOf page)) (s .fors) (h .fors) x e) in
+      let b = both (ltb (x .var) 26) _ (top-entry (isUnderWay ps) (s .fors) (h .fors) x e) in
       (ltb-true _ _ (b .0), b .1)
 
-  pub paused-stands : (q : ℕ) → s .paused ≡ pausedAt q → Stands page q
+  pub paused-stands : (q : ℕ) → s .paused ≡ pausedAt q → Stands ps q
   paused-stands q e = rw e at (h .paused)
 
 -- What the changes of a record keep
@@ -127,7 +130,7 @@ module _ {ps : List ℕ} {s : Session} (h : Fit ps s) where
   pub fit-return : Fit ps (withGosubs s (popOf (s .gosubs) .stack))
   fit-return = record { vars = h .vars; gosubs = pop-places (isSaved ps true) (s .gosubs) (h .gosubs); dos = h .dos; fors = h .fors; flags = h .flags; paused = h .paused }
 
-  pub fit-do : (p : Place) → isAmong ps (p .0) ≡ true → Fit ps (withDos s (pushOf (s .dos) p .stack))
+  pub fit-do : (p : Place) → isAmong ps (position p) ≡ true → Fit ps (withDos s (pushOf (s .dos) p .stack))
   fit-do p e = record { vars = h .vars; gosubs = h .gosubs; dos = push-places (isPlace ps) (s .dos) (h .dos) p e; fors = h .fors; flags = h .flags; paused = h .paused }
 
   pub fit-until : Fit ps (withDos s (popOf (s .dos) .stack))

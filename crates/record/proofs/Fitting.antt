@@ -10,6 +10,7 @@ use lib.Dec.{ltb, leb}
 use borrow.Author.Tests.{le-leb, lt-leb}
 use Rattle.nibl.specs.Bytes.{all}
 use Rattle.nibl.specs.Page.{placesOf, isAmong, fitsPaused, fits}
+use Rattle.nibl.specs.Record.{position}
 use Rattle.nibl.specs.declared.Place.{Place}
 use Rattle.nibl.specs.declared.Session.{Session}
 use Rattle.page.proofs.Program.{both}
@@ -53,6 +54,6 @@ module _ (page : List ℕ) (s : Session) where
       let fors : Bool = all (isUnderWay ps) (take (s .fors .depth) (s .fors .entries)) in
       let rest : Bool = ltb (s .flags) 8 && fitsPaused ps (s .paused) in
       rw (le-leb (s .gosubs .depth) 8 g, le-leb (s .dos .depth) 8 d, le-leb (s .fors .depth) 4 f)
-      ((λ i. gosubs && (all (λ (p : Place). sym (or-false (isAmong ps (p .0))) i) (take (s .dos .depth) (s .dos .places)) && (fors && rest)))
+      ((λ i. gosubs && (all (λ (p : Place). sym (or-false (isAmong ps (position p))) i) (take (s .dos .depth) (s .dos .places)) && (fors && rest)))
       ∙ ap (λ (b : Bool). gosubs && b) (sym (and-assoc dos fors rest))
       ∙ sym (and-assoc gosubs (dos && fors) rest))

@@ -1,4 +1,4 @@
--- A session record that fits the places of a page: what a run keeps, and how a statement ends that keeps it.
+-- A session record that fits places, whatever holds them: what a run keeps, and how a statement ends that keeps it.
 use Prim.Native.Nat.{ℕ, _≤_}
 use mathlib.Core.Path.{_≡_}
 use mathlib.Core.Bool.{Bool, true}
@@ -6,8 +6,9 @@ use mathlib.Core.List.{List}
 use lib.ListN.{length, take}
 use lib.Dec.{ltb}
 use Rattle.nibl.specs.Bytes.{all}
-use Rattle.nibl.specs.Page.{isAmong, placesOf, fitsPaused}
+use Rattle.nibl.specs.Page.{isAmong, fitsPaused}
 use Rattle.nibl.specs.Meaning.{World, on, skip, go, stop, Done, done}
+use Rattle.nibl.specs.Record.{position}
 use Rattle.nibl.specs.declared.Place.{Place}
 use Rattle.nibl.specs.declared.PlaceStack.{PlaceStack}
 use Rattle.nibl.specs.declared.ForEntry.{ForEntry}
@@ -30,9 +31,9 @@ abbrev pub Entries : (ForEntry → Bool) → ForStack → Type 0
 Entries f s = Held f 4 (s .depth) (s .entries)
 
 abbrev pub isPlace : List ℕ → Place → Bool
-isPlace ps p = isAmong ps (p .0)
+isPlace ps p = isAmong ps (position p)
 
--- the places of its page are ps
+-- the places that it may have are ps
 pub record Fit (ps : List ℕ) (s : Session) : Type 0 where
   pub vars : length (s .vars) ≡ 26
   pub gosubs : Places (isSaved ps true) (s .gosubs)
@@ -42,8 +43,8 @@ pub record Fit (ps : List ℕ) (s : Session) : Type 0 where
   pub paused : fitsPaused ps (s .paused) ≡ true
 
 -- how a statement ended: its record fits, and a run may stand where it goes
-pub data Goes (page : List ℕ) : Done → Type 0 where
-  toNext : {w : World} → Fit (placesOf page) (w .session) → Goes page (done on w)
-  toRecord : {w : World} → Fit (placesOf page) (w .session) → Goes page (done skip w)
-  toPlace : {w : World} {q : ℕ} → Stands page q → Fit (placesOf page) (w .session) → Goes page (done (go q) w)
-  toEnd : {w : World} {n : ℕ} → Fit (placesOf page) (w .session) → Goes page (done (stop n) w)
+pub data Goes (ps : List ℕ) : Done → Type 0 where
+  toNext : {w : World} → Fit ps (w .session) → Goes ps (done on w)
+  toRecord : {w : World} → Fit ps (w .session) → Goes ps (done skip w)
+  toPlace : {w : World} {q : ℕ} → Stands ps q → Fit ps (w .session) → Goes ps (done (go q) w)
+  toEnd : {w : World} {n : ℕ} → Fit ps (w .session) → Goes ps (done (stop n) w)

@@ -6,17 +6,17 @@ use lib.ListN.{take}
 use lib.Dec.{ltb, eqb}
 use Rattle.nibl.specs.Bytes.{all}
 use Rattle.nibl.specs.Page.{isAmong}
-use Rattle.nibl.specs.Record.{mark}
+use Rattle.nibl.specs.Record.{position, mark}
 use Rattle.nibl.specs.declared.Place.{Place}
 use Rattle.nibl.specs.declared.ForEntry.{ForEntry}
 use Rattle.nibl.specs.declared.Session.{Session}
 
 -- a saved place is such a position, or the immediate mark where that may stand
 abbrev pub isSaved : List ℕ → Bool → Place → Bool
-isSaved ps marked p = isAmong ps (p .0) || (marked && eqb (p .0) mark)
+isSaved ps marked p = isAmong ps (position p) || (marked && eqb (position p) mark)
 
 abbrev pub isUnderWay : List ℕ → ForEntry → Bool
-isUnderWay ps e = ltb (e .var) 26 && isAmong ps (e .place .0)
+isUnderWay ps e = ltb (e .var) 26 && isAmong ps (position (e .place))
 
 abbrev pub stacksFit : List ℕ → Session → Bool
 stacksFit ps s =

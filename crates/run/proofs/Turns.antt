@@ -45,24 +45,24 @@ stop-told i l n at p vars page memory output = by (eqb i 14) where
   by false = refl
 
 -- the text that is next where a run stands
-pub text-within : (lim : ℕ) (page : List ℕ) → lim ≤ 251 → isGood lim page ≡ true → (q a : ℕ) → Stands page q → textFrom page q ≡ some a
+pub text-within : (lim : ℕ) (page : List ℕ) → lim ≤ 251 → isGood lim page ≡ true → (q a : ℕ) → Stands (placesOf page) q → textFrom page q ≡ some a
     → (ops : List ℕ) → lim ≤ length ops → TextRoom page a ops
 text-within lim page short good q a stands text ops h =
     let r = stands-ready lim page short good q a stands text in let s = r .short in record { inside = r .inside; room = omega arith }
 
 -- A step from where a run stands
-module _ (lim : ℕ) (e : Env) (short : lim ≤ 251) (good : isGood lim (e .page) ≡ true) (q : ℕ) (x : Standing) (stands : Stands (e .page) q) (fetches : fetch (e .page) q ≡ here x) where
+module _ (lim : ℕ) (e : Env) (short : lim ≤ 251) (good : isGood lim (e .page) ≡ true) (q : ℕ) (x : Standing) (stands : Stands (placesOf (e .page)) q) (fetches : fetch (e .page) q ≡ here x) where
   pub readable : Readable (e .page) x
   readable = fetches-here lim (e .page) short good q x stands fetches
 
   module _ (w : World) (fits : Fit (placesOf (e .page)) (w .session)) (t : StepEnd) (is : t ≡ stepOf e x w) where
-    stays : StaysFit (e .page) t
-    stays = subst (StaysFit (e .page)) (sym is) (goes-after lim e short good x w readable fits)
+    stays : StaysFit (placesOf (e .page)) t
+    stays = subst (StaysFit (placesOf (e .page))) (sym is) (goes-after lim e short good x w readable fits)
 
     pub step-fits : Fit (placesOf (e .page)) (t .world .session)
     step-fits = stays .fits
 
-    pub step-stands : (p : ℕ) → t .next ≡ go p → Stands (e .page) p
+    pub step-stands : (p : ℕ) → t .next ≡ go p → Stands (placesOf (e .page)) p
     step-stands p g = stays .stands p g
 
     its-place : t .at ≡ x .place

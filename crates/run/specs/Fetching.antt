@@ -6,6 +6,7 @@ use mathlib.Core.Path.{_≡_}
 use lib.ListN.{length, take}
 use Rattle.nibl.specs.Runs.{lineFrom, textFrom, fetch}
 use Rattle.nibl.specs.Runs as nibl
+use Rattle.nibl.specs.Record.{position}
 use Rattle.reader.specs.Code.{compile}
 use Rattle.run.specs.declared.Fetched.{Fetched}
 use Rattle.run.specs.declared.Fetched.the-variants as answer
@@ -26,7 +27,7 @@ fetchOf page q = inOperations (fetch page q)
 
 abbrev pub fetchedIn : Fetched → List ℕ → Fetch
 fetchedIn answer.Past ops = past
-fetchedIn (answer.Member n p cr) ops = fetched (take n ops) (p .0) (cr .0)
+fetchedIn (answer.Member n p cr) ops = fetched (take n ops) (position p) (position cr)
 
 abbrev pub fetchedCount : Fetched → ℕ
 fetchedCount answer.Past = 0

@@ -34,7 +34,7 @@ pub record MayRun (page ops values reply replies : List ℕ) (q budget : ℕ) (w
   pub replyOps : length reply ≤ length replies
   pub replyValues : length replies ≤ length values
   pub fits : Fit (placesOf page) (w .session)
-  pub stands : Stands page q
+  pub stands : Stands (placesOf page) q
   pub steps : budget ≤ 65535
 
 -- a run is paused where its stop is 14

@@ -7,17 +7,17 @@ ghost use mathlib.Core.Path.{_≡_};
 ghost use lib.ListN.{length};
 ghost use Rattle.nibl.specs.Page.{lineOf};
 ghost use Rattle.nibl.specs.Runs.{stopAt, runFrom, runOutcome};
-ghost use Rattle.nibl.specs.Record.{mark, place, positionOf};
+ghost use Rattle.nibl.specs.Record.{mark, place, position, positionOf};
 ghost use Rattle.world.specs.Turns.{wayOf};
 ghost use Rattle.effect.specs.Worlds.{envWith, worldWith};
 ghost use Rattle.table.specs.Index.{Indexed};
 ghost use Rattle.run.specs.StepEnds.{ledTo, nextAfter};
 ghost use Rattle.run.specs.Fetching.{FetchRoom, fetchOf, fetchedIn, fetchedCount};
 ghost use Rattle.run.specs.Running.{MayRun, ranTo, ranIn, pauseOf};
-use nibl::access::Sight;
 use nibl::Onward;
 use nibl::Parts;
 use nibl::Place;
+use nibl::access::Sight;
 use nibl::stop;
 use page::Begins;
 use page::Where;
@@ -48,7 +48,7 @@ pub struct Ran {
 
 // Where a run goes on after a statement: p is its place, cr that of its record's CR.
 fn led_by(way: Way, p: Place, cr: Place) -> Led
-    ensures { λ r. ⌜ ledTo r ≡ nextAfter (wayOf way) (p .0) (cr .0) ⌝ }
+    ensures { λ r. ⌜ ledTo r ≡ nextAfter (wayOf way) (position p) (position cr) ⌝ }
 {
     match way {
         Way::On => Led::To(Onward::After(p)),
@@ -81,7 +81,7 @@ fn fetch<'a>(from: Onward, page: &'a [u8], typed: &'a [u8], ops: &mut [u32]) -> 
 // The line of a statement that gave a stop; there is none for 0, for 14. No statement stops with 14, which crate demands
 // proves; the definition asks, so this does.
 fn line_of_stop(page: &[u8], stop: u8, at: Place) -> u16
-    ensures { λ r. ⌜ r ≡ stopAt stop (lineOf (now (page .entry)) (at .0) ∷ []) ⌝ }
+    ensures { λ r. ⌜ r ≡ stopAt stop (lineOf (now (page .entry)) (position at) ∷ []) ⌝ }
 {
     if stop == stop::DONE {
         return nibl::NO_LINE;
@@ -95,8 +95,8 @@ fn line_of_stop(page: &[u8], stop: u8, at: Place) -> u16
 
 // A run is paused where its stop is 14. No statement's stop is, as above; the definition asks, so this does.
 fn pause(stop: u8, at: Place) -> u16
-    requires { ⌜ at .0 ≤ 65534 ⌝ }
-    ensures { λ r. ⌜ r ≡ pauseOf stop (at .0) ⌝ }
+    requires { ⌜ position at ≤ 65534 ⌝ }
+    ensures { λ r. ⌜ r ≡ pauseOf stop (position at) ⌝ }
 {
     if stop == stop::PAUSED {
         return nibl::paused_at(at.position());
@@ -118,8 +118,8 @@ fn run_ends(stop: u8, line: u16, steps: u16, paused: u16, parts: Parts) -> Ran
 
 // A statement's stop ends the run.
 fn stops(page: &[u8], stop: u8, at: Place, steps: u16, parts: Parts) -> Ran
-    requires { ⌜ at .0 ≤ 65534 ⌝ }
-    ensures { λ r. ⌜ r ≡ ranTo stop (stopAt stop (lineOf (now (page .entry)) (at .0) ∷ [])) steps (pauseOf stop (at .0)) parts ⌝ }
+    requires { ⌜ position at ≤ 65534 ⌝ }
+    ensures { λ r. ⌜ r ≡ ranTo stop (stopAt stop (lineOf (now (page .entry)) (position at) ∷ [])) steps (pauseOf stop (position at)) parts ⌝ }
 {
     run_ends(
         stop,
@@ -150,7 +150,9 @@ pub fn run_steps<'a>(
     table: &[u16],
 ) -> Ran
     requires { ⌜ MayRun (now page) (now ops) (now values) (now reply) (now replies) (positionOf from) budget (worldWith (now vars) parts (now memory) (now output)) × Indexed (now page) (now table) ⌝ }
-    ensures { λ r. ⌜ ranIn r (now (vars .exit)) (now (page .entry)) (now (memory .exit)) (now (output .exit)) ≡ runOutcome (runFrom budget (envWith (length (now (reply .entry))) (now (page .entry)) (now (input .entry)) sight (place mark)) (positionOf from) (worldWith (now (vars .entry)) parts (now (memory .entry)) (now (output .entry)))) (now (page .entry)) ⌝ }
+    ensures { λ r. ⌜ ranIn r (now (vars .exit)) (now (page .entry)) (now (memory .exit)) (now (output .exit))
+        ≡ runOutcome (runFrom budget (envWith (length (now (reply .entry))) (now (page .entry)) (now (input .entry)) sight (place mark)) (positionOf from)
+        (worldWith (now (vars .entry)) parts (now (memory .entry)) (now (output .entry)))) (now (page .entry)) ⌝ }
 {
     let mut q = from;
     let mut p = parts;

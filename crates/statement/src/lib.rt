@@ -14,11 +14,11 @@ ghost use Rattle.statement.specs.Lending.{Fair, isOn, takesReply};
 ghost use Rattle.statement.specs.Plain.{RunsPlainly, LeftAt};
 use effect::AtOnce;
 use effect::Did;
-use nibl::access::Sight;
 use nibl::ForStack;
 use nibl::Parts;
 use nibl::Place;
 use nibl::PlaceStack;
+use nibl::access::Sight;
 use operation::Height;
 use operation::Reached;
 use world::input;
@@ -53,7 +53,9 @@ fn input_values(
     parts: Parts,
 ) -> Did
     requires { ⌜ Fair (now page) [] (now values) (now reply) (now replies) ⌝ }
-    ensures { λ r. ⌜ didIn r (now (vars .exit)) (now (memory .entry)) (now (output .exit)) ≡ heardIn (worldWith (now (vars .entry)) parts (now (memory .entry)) (now (output .entry))) (hearing (length (now (reply .entry))) (now (input .entry)) (parts .inpos) (now (output .entry)) (parts .outpos)) (takesReply sight (now (page .entry)) (variablesOf (now (rest .entry))) n) ⌝ }
+    ensures { λ r. ⌜ didIn r (now (vars .exit)) (now (memory .entry)) (now (output .exit))
+        ≡ heardIn (worldWith (now (vars .entry)) parts (now (memory .entry)) (now (output .entry)))
+        (hearing (length (now (reply .entry))) (now (input .entry)) (parts .inpos) (now (output .entry)) (parts .outpos)) (takesReply sight (now (page .entry)) (variablesOf (now (rest .entry))) n) ⌝ }
 {
     let r = input::ask(input, parts.inpos, output, parts.outpos, reply);
     match r {
@@ -101,7 +103,8 @@ fn last(
     parts: Parts,
 ) -> Did
     requires { ⌜ Fair (now page) [] (now values) (now reply) (now replies) ⌝ }
-    ensures { λ r. ⌜ didIn r (now (vars .exit)) (now (memory .exit)) (now (output .exit)) ≡ lastBy (envWith (length (now (reply .entry))) (now (page .entry)) (now (input .entry)) sight noPlace) op x (now (rest .entry)) (worldWith (now (vars .entry)) parts (now (memory .entry)) (now (output .entry))) ⌝ }
+    ensures { λ r. ⌜ didIn r (now (vars .exit)) (now (memory .exit)) (now (output .exit))
+        ≡ lastBy (envWith (length (now (reply .entry))) (now (page .entry)) (now (input .entry)) sight noPlace) op x (now (rest .entry)) (worldWith (now (vars .entry)) parts (now (memory .entry)) (now (output .entry))) ⌝ }
 {
     if op % codes::CODES == codes::STORE_STRING {
         return effect::store_ends(memory::store_args(sight.access, memory, x, rest), parts);
@@ -226,7 +229,9 @@ pub fn run_ops_from(
     table: &[u16],
 ) -> Did
     requires { ⌜ (Fair (now page) (now ops) (now values) (now reply) (now replies) × (filled ≤ from)) × Indexed (now page) (now table) ⌝ }
-    ensures { λ r. ⌜ didIn r (now (vars .exit)) (now (memory .exit)) (now (output .exit)) ≡ runOps (envWith (length (now (reply .entry))) (now (page .entry)) (now (input .entry)) sight here) (drop from (now (ops .entry))) (worldWith (now (vars .entry)) parts (now (memory .entry)) (now (output .entry))) (stackOf (now (values .entry)) filled) ⌝ }
+    ensures { λ r. ⌜ didIn r (now (vars .exit)) (now (memory .exit)) (now (output .exit))
+        ≡ runOps (envWith (length (now (reply .entry))) (now (page .entry)) (now (input .entry)) sight here) (drop from (now (ops .entry)))
+        (worldWith (now (vars .entry)) parts (now (memory .entry)) (now (output .entry))) (stackOf (now (values .entry)) filled) ⌝ }
 {
     let mut p = parts;
     let mut height: usize = filled;
@@ -323,7 +328,8 @@ pub fn run_ops(
     table: &[u16],
 ) -> Did
     requires { ⌜ Fair (now page) (now ops) (now values) (now reply) (now replies) × Indexed (now page) (now table) ⌝ }
-    ensures { λ r. ⌜ didIn r (now (vars .exit)) (now (memory .exit)) (now (output .exit)) ≡ runOps (envWith (length (now (reply .entry))) (now (page .entry)) (now (input .entry)) sight here) (now (ops .entry)) (worldWith (now (vars .entry)) parts (now (memory .entry)) (now (output .entry))) [] ⌝ }
+    ensures { λ r. ⌜ didIn r (now (vars .exit)) (now (memory .exit)) (now (output .exit))
+        ≡ runOps (envWith (length (now (reply .entry))) (now (page .entry)) (now (input .entry)) sight here) (now (ops .entry)) (worldWith (now (vars .entry)) parts (now (memory .entry)) (now (output .entry))) [] ⌝ }
 {
     run_ops_from(
         ops,

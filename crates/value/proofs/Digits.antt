@@ -10,6 +10,7 @@ use lib.Dec.{ltb}
 use borrow.Author.Tests.{lt-ltb, le-ltb, ltb-true, ltb-false, le-leb}
 use Rattle.nibl.specs.Bytes.{isDigit, All, none, each, decimalValue}
 use Rattle.nibl.specs.Values.{digitsN, digits, printed, magnitude}
+use Rattle.value.specs.Digits.{byPowers, FromFront}
 
 -- what holds of a last digit, and of a digit with the others before it, holds of the digits
 digits-case : (P : List ℕ → Type 0) (k n : ℕ) (ds : List ℕ) → (n < 10 → P ((48 + n) ∷ ds)) → (9 < n → P (digitsN k (n / 10) ((48 + n % 10) ∷ ds)))
@@ -35,11 +36,6 @@ digits-before (suc k) n ds es =
     (λ h. digits-step k n (ds ++ es) h ∙ digits-before k (n / 10) ((48 + n % 10) ∷ ds) es)
 
 -- ---- digits from the front
-
--- k digits of n, the front one by its power of ten and those of the rest, zeros kept
-abbrev pub byPowers : ℕ → ℕ → List ℕ
-byPowers zero n = []
-byPowers (suc k) n = (48 + n / 10 ^ k) ∷ byPowers k (n % 10 ^ k)
 
 -- a number parted by ten times p, and by ten
 module _ (n p : ℕ) (some : 0 < p) where
@@ -73,11 +69,6 @@ by-powers-last (suc k) n h =
     let p : 10 ^ suc k ≡ 10 ^ k * 10 = pow-suc 10 k in
     let z = power-some k in
     rw (by-powers-last k (n % 10 ^ suc k) (mod-lt n (power-some (suc k))), p, part-last n (10 ^ k) z, part-front n (10 ^ k) z, part-rest n (10 ^ k) z)
-
--- as many of them by powers of ten as there are, and the number is below the next power
-pub record FromFront (n : ℕ) (l : List ℕ) : Type 0 where
-  pub same : l ≡ byPowers (length l) n
-  pub below : n < 10 ^ length l
 
 from-front : (k n : ℕ) → n < 10 ^ k → FromFront n (digitsN k n [])
 from-front zero n h = record { same = refl; below = h }

@@ -8,17 +8,10 @@ use native.Mathlib.Omega.{arith}
 use lib.ListN.{length, set, length-set}
 use lib.Seq.{sets}
 use Rattle.nibl.specs.Values.{digits, printed, magnitude}
+use Rattle.value.specs.Digits.{byPowers, Putting}
 use Rattle.value.specs.Writes.{signByte}
-use Rattle.value.proofs.Digits.{byPowers, digits-from-front, power-some, printed-length}
+use Rattle.value.proofs.Digits.{digits-from-front, power-some, printed-length}
 use Rattle.value.proofs.Writing.{sets-append, set-before-sets}
-
--- of `count` digits those before `next` are put, and `left` is still to be put, by the others
-pub record Putting (before : List ℕ) (count n : ℕ) (rest : List ℕ) (left next : ℕ) : Type 0 where
-  pub within : next ≤ count
-  pub room : count ≤ length rest
-  pub long : length rest ≡ length before
-  pub below : left < 10 ^ (count - next)
-  pub done : sets rest next (byPowers (count - next) left) ≡ sets before 0 (digits n)
 
 pub putting-none : (before : List ℕ) (count n : ℕ) → count ≡ length (digits n) → n < 65536 → count ≤ length before → Putting before count n before n 0
 putting-none before count n e h room =

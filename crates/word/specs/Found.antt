@@ -70,6 +70,11 @@ abbrev pub keyOf : List ℕ → ℕ
 keyOf [] = 0
 keyOf (c ∷ s) = c + 256 * keyOf s
 
+-- and the other way, n letters of it at most
+abbrev pub spelledKey : ℕ → ℕ → List ℕ
+spelledKey zero k = []
+spelledKey (suc n) k = if eqb k 0 then [] else k % 256 ∷ spelledKey n (k / 256)
+
 -- n and the index of a key in a list of them, 0 where it is not there
 abbrev pub keyIndex : ℕ → List ℕ → ℕ → ℕ
 keyIndex n [] k = 0

@@ -4,11 +4,11 @@ ghost use Prim.Native.Nat.{_+_, _-_, _*_, _%_, _≤_, _<_};
 ghost use mathlib.Core.Path.{_≡_};
 ghost use mathlib.Core.Bool.{true};
 ghost use lib.ListN.{length, take, drop, getD};
-ghost use lib.Seq.{slice};
+ghost use lib.Seq.{slice, sets};
 ghost use Rattle.nibl.specs.Bytes.{isDigit, isCapital, isHexDigit, isSpace, isQuotable, starts, front, past, all};
 ghost use Rattle.nibl.specs.Words.{keywords, commands, isSymbol, pairs, numberOr, firstKeyword};
 ghost use Rattle.nibl.specs.found.GaveUp.{mostCommon};
-ghost use Rattle.word.specs.Found.{passing, keyOf, longestKeyword, keyIndex, keyCommon, mostKey, spellingsOf, keysOf, hexDigit, firstOf, mayCommand};
+ghost use Rattle.word.specs.Found.{passing, keyOf, spelledKey, longestKeyword, keyIndex, keyCommon, mostKey, spellingsOf, keysOf, hexDigit, firstOf, mayCommand};
 ghost use Rattle.word.specs.Found.{AnswerIs, WordIs, lettersAt, lettersLeft, decimalAt, decimalLeft, hexAt, quotedAt, quotedLeft, symbolAt};
 
 pub mod sign;
@@ -45,7 +45,7 @@ const HASH: u8 = 35;
 
 // The keywords in document 01's order, LET first and NOT last. A spelling is one number, its first letter in the
 // lowest byte: it is compared at one blow, and read from right to left it shows in the hexadecimal digits.
-const KEYWORDS: [u64; 25] = [
+pub const KEYWORDS: [u64; 25] = [
     0x54454c, // LET
     0x4f47, // GO
     0x4f54, // TO
@@ -74,22 +74,22 @@ const KEYWORDS: [u64; 25] = [
 ];
 
 // The commands, which only the front of an immediate line may hold.
-const COMMANDS: [u64; 4] = [
-    0x57454e, // NEW
-    0x5241454c43, // CLEAR
-    0x5453494c, // LIST
-    0x4e5552, // RUN
-];
+const NEW: u64 = 0x57454e;
 
-// So many letters tell a command from every statement, NEW from NEXT too. And those letters of each command.
+const CLEAR: u64 = 0x5241454c43;
+
+const LIST: u64 = 0x5453494c;
+
+const RUN: u64 = 0x4e5552;
+
+pub const COMMANDS: [u64; 4] = [NEW, CLEAR, LIST, RUN];
+
+// So many letters tell a command from every statement, NEW from NEXT too. And those letters of each command: its lowest bytes.
 const FRONT: usize = 3;
 
-const COMMAND_FRONTS: [u64; 4] = [
-    0x57454e, // NEW
-    0x454c43, // CLE
-    0x53494c, // LIS
-    0x4e5552, // RUN
-];
+const FRONTS: u64 = 256 * 256 * 256;
+
+const COMMAND_FRONTS: [u64; 4] = [NEW % FRONTS, CLEAR % FRONTS, LIST % FRONTS, RUN % FRONTS];
 
 fn is_symbol(b: u8) -> bool
     ensures { λ r. ⌜ r ≡ isSymbol b ⌝ }
@@ -155,6 +155,30 @@ fn key(text: &[u8], from: usize, to: usize) -> u64
         k = k * 256 + wide(text[i]);
     }
     k
+}
+
+fn lowest(k: u64) -> u8
+    ensures { λ r. ⌜ r ≡ k % 256 ⌝ }
+{
+    (k % 256) as u8
+}
+
+// The other way: the letters of a key at the front of a room, as many as there is room for, and how many they are.
+pub fn spell(k: u64, room: &mut [u8]) -> usize
+    ensures letters { λ r. ⌜ r ≡ length (spelledKey (length (now (room .entry))) k) ⌝ }
+    ensures room { λ r. ⌜ now (room .exit) ≡ sets (now (room .entry)) 0 (spelledKey (length (now (room .entry))) k) ⌝ }
+{
+    let mut rest = k;
+    let mut n = 0;
+    while n < room.len() {
+        if rest == 0 {
+            break;
+        }
+        room[n] = lowest(rest);
+        rest = rest / 256;
+        n += 1;
+    }
+    n
 }
 
 // The number of the key in a list of them: KEYWORD and its index; 0 where it is not there.

@@ -10,7 +10,7 @@ use Rattle.nibl.specs.Bytes.{if_then_else_}
 use Rattle.nibl.specs.Values.{add16}
 use Rattle.nibl.specs.Stack.{pushOf, popOf, pushFor, popFor}
 use Rattle.nibl.specs.Meaning.{World, withSession, Next, on, skip, go, stop, Done, done, after, goesOn}
-use Rattle.nibl.specs.Record.{positionOf, withVars, withGosubs, withDos, withFors}
+use Rattle.nibl.specs.Record.{position, positionOf, withVars, withGosubs, withDos, withFors}
 use Rattle.nibl.specs.declared.Place.{Place}
 use Rattle.nibl.specs.declared.PlaceStack.{PlaceStack}
 use Rattle.nibl.specs.declared.ForStack.{ForStack}
@@ -84,7 +84,7 @@ doTurn here s = keepTurn here s on
 -- UNTIL by what is on top
 unfoldable pub untilOn : ℕ → PlaceStack → Top → Turned
 untilOn x s top.Empty = turnedTo (stop 15) s
-untilOn x s (top.At p) = if eqb x 0 then turnedTo (go (suc (p .0))) s else turnedTo on (popOf s .stack)
+untilOn x s (top.At p) = if eqb x 0 then turnedTo (go (suc (position p))) s else turnedTo on (popOf s .stack)
 
 unfoldable pub untilTurn : ℕ → PlaceStack → Turned
 untilTurn x s = untilOn x s (popOf s .top)
@@ -108,7 +108,7 @@ addsStep vars v f = let x = add16 (getD vars v 0) (f .step) in stepTaken (goesOn
 
 -- back to the FOR's place, or on without its entry
 unfoldable pub steppedOn : ForStack → ForEntry → StepTaken → TurnedFor
-steppedOn s f c = if c .more then turnedForTo (go (suc (f .place .0))) s (c .vars) else turnedForTo on (popFor s .stack) (c .vars)
+steppedOn s f c = if c .more then turnedForTo (go (suc (position (f .place)))) s (c .vars) else turnedForTo on (popFor s .stack) (c .vars)
 
 -- NEXT by what is on top
 unfoldable pub nextOn : ForStack → List ℕ → ℕ → TopFor → TurnedFor
@@ -127,7 +127,7 @@ abbrev pub backedTo : Option ℕ → List ℕ → Backed
 backedTo to vars = record { to = to; vars = vars }
 
 abbrev pub backOf : Back → Option ℕ
-backOf (back.To p) = some (p .0)
+backOf (back.To p) = some (position p)
 backOf back.Not = none
 
 abbrev pub backed : Back → List ℕ → Backed
@@ -135,7 +135,7 @@ backed b vars = backedTo (backOf b) vars
 
 -- by the count: a NEXT that does not go back is not done
 unfoldable pub backBy : List ℕ → ForEntry → StepTaken → Backed
-backBy vars f c = if c .more then backedTo (some (f .place .0)) (c .vars) else backedTo none vars
+backBy vars f c = if c .more then backedTo (some (position (f .place))) (c .vars) else backedTo none vars
 
 unfoldable pub backOn : List ℕ → ℕ → TopFor → Backed
 backOn vars v topf.Empty = backedTo none vars
@@ -147,7 +147,7 @@ nextBack s vars v = backOn vars v (popFor s .top)
 -- the place that an UNTIL goes back to, if it does
 unfoldable pub untilBackOn : ℕ → Top → Option ℕ
 untilBackOn x top.Empty = none
-untilBackOn x (top.At p) = if eqb x 0 then some (p .0) else none
+untilBackOn x (top.At p) = if eqb x 0 then some (position p) else none
 
 unfoldable pub untilBack : ℕ → PlaceStack → Option ℕ
 untilBack x s = untilBackOn x (popOf s .top)

@@ -5,6 +5,7 @@ ghost use mathlib.Core.Path.{_≡_};
 ghost use lib.ListN.{getD, set};
 ghost use Rattle.nibl.specs.Page.{find};
 ghost use Rattle.nibl.specs.Meaning.{go, goesOn};
+ghost use Rattle.nibl.specs.Record.{position};
 ghost use Rattle.page.specs.Walk.{reached};
 ghost use Rattle.table.specs.Index.{Indexed};
 ghost use Rattle.world.specs.Turns.{wayOf, turned, turnedFor, stepTaken, wayTo, keepTurn, gosubTurn, returnTurn, doTurn, untilTurn, forTurn, addsStep, nextTurn, backOf, backed, nextBack, untilBack};
@@ -65,7 +66,7 @@ pub fn set_var(vars: &mut [u16], v: u32, x: u16)
 
 // To what stands behind a place.
 fn go_past(p: Place) -> Way
-    ensures { λ r. ⌜ wayOf r ≡ go (suc (p .0)) ⌝ }
+    ensures { λ r. ⌜ wayOf r ≡ go (suc (position p)) ⌝ }
 {
     Way::Go(Onward::After(p))
 }

@@ -14,8 +14,8 @@ use nibl::access::Access;
 use nibl::access::Range;
 use nibl::stop;
 use page::move_bytes;
-use value::has_room;
 use value::Value;
+use value::has_room;
 use value::write_item;
 
 // Where the string ends that begins at an address, or the stop number.

@@ -1,4 +1,4 @@
-/* A host as it was written for the header beside it, interface 3: calls without a number to their names. It compiles with
+/* A host as it was written for the header beside it, interface 3: calls without a number in their names. It compiles with
  * that header, and must not link with an archive of today. */
 #include "nibl.h"
 

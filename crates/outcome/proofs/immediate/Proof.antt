@@ -83,7 +83,7 @@ module _ (r : tie.After-run-ops) where
       ∙ obeyed (start .pre .0 .0) (start .pre .0 .1) (start .pre .0 .2) (a .input .now) (sightOf (a .call)) (a .call .inpos) (a .call .outpos) (a .memory .now) (a .output .now) did
 
   -- where it goes on, a run may stand
-  stands : {o : Onward} → r .run-ops .result .way ≡ way.Go o → Stands page (positionOf o) × Fit (placesOf page) (after .session)
+  stands : {o : Onward} → r .run-ops .result .way ≡ way.Go o → Stands (placesOf page) (positionOf o) × Fit (placesOf page) (after .session)
   stands t =
       let a = start .args in
       onto (start .pre .0 .0) (start .pre .0 .1) (start .pre .0 .2) (a .input .now) (sightOf (a .call)) (a .call .inpos) (a .call .outpos) (a .memory .now) (a .output .now) (ap (λ (w : Way). done (wayOf w) after) (sym t) ∙ did)

@@ -7,7 +7,7 @@ use native.Mathlib.Omega.{arith}
 use lib.ListN.{length, take, drop}
 use lib.Seq.{length-take-le}
 use Rattle.nibl.specs.Page.{lineOf, placesOf}
-use Rattle.nibl.specs.Record.{mark, place, positionOf}
+use Rattle.nibl.specs.Record.{mark, place, position, positionOf}
 use Rattle.nibl.specs.Meaning.{World, Env, Done, go}
 use Rattle.nibl.specs.Runs.{Standing, stopAt, runFrom, runOutcome}
 use Rattle.nibl.specs.declared.Place.{Place}
@@ -44,7 +44,7 @@ use Rattle.run.proofs.run_steps.Tie as tie
 
 abbrev Inv-loop : tie.InvT-loop
 Inv-loop budget page input sight vars₀ memory₀ output₀ reply₀ replies₀ values₀ ops₀ typed table q₀ p₀ left₀ steps₀ vars memory output reply replies values ops q p left steps =
-    (steps + left ≡ budget) × Stands page (positionOf q) × Fit (placesOf page) (worldWith vars p memory output .session)
+    (steps + left ≡ budget) × Stands (placesOf page) (positionOf q) × Fit (placesOf page) (worldWith vars p memory output .session)
     × (length vars ≡ length vars₀) × (length memory ≡ length memory₀) × (length output ≡ length output₀) × (length reply ≡ length reply₀)
     × (length replies ≡ length replies₀) × (length values ≡ length values₀) × (length ops ≡ length ops₀)
     × (runOutcome (runFrom budget (envWith (length reply₀) page input sight (place mark)) (positionOf q₀) (worldWith vars₀ p₀ memory₀ output₀)) page
@@ -99,13 +99,13 @@ module _ (k : tie.After-known-told Inv-loop μ-loop) where
   abbrev ops : List ℕ
   ops = take count written
 
-  fetches : NextMember (page head) (from head) ops (at .0) (cr .0)
+  fetches : NextMember (page head) (from head) ops (position at) (position cr)
   fetches = fetch-found (page head) (from head) (rw (k .before .f .given .1) at (k .before .before .before .before .before .fetch .ensures .0))
 
   -- a step, by what its operations did; the slots of the line are as many as before
   step : (d : Did) (vars memory output : List ℕ)
       → didIn d vars memory output ≡ runOps (envWith (length (head .loop .reply)) (page head) (start head .args .input .now) (start head .args .sight) at) ops (world head) []
-      → doneEnd (didIn d vars memory output) (at .0) (cr .0) ≡ stepOf (env head) (fetches .it) (world head)
+      → doneEnd (didIn d vars memory output) (position at) (position cr) ≡ stepOf (env head) (fetches .it) (world head)
   step d vars memory output e =
       member-steps (envWith (length (head .loop .reply)) (page head) (start head .args .input .now) (start head .args .sight) (place mark)) (world head) (didIn d vars memory output) fetches (readable (lim head) (env head) (begun head .short) (begun head .good) (from head) (fetches .it) (head .loop .inv .1) (fetches .fetches)) e
       ∙ ap (λ (n : ℕ). stepOf (envWith n (page head) (start head .args .input .now) (start head .args .sight) (place mark)) (fetches .it) (world head)) (head .loop .inv .6)
@@ -261,7 +261,7 @@ module _ (s : tie.After-run-plain Inv-loop μ-loop) {vars memory output reply re
     g : t .next ≡ go x
     g = sym leads ∙ ap ledTo e
 
-    stands : Stands (page l) x
+    stands : Stands (placesOf (page l)) x
     stands = step-stands (lim l) (env l) (begun l .short) (begun l .good) (from l) a (l .loop .inv .1) (fetches (taken s) .fetches) (world l) (l .loop .inv .2) t is-step x g
 
     goes-on : tally (l .loop .steps) (runFrom (l .loop .left) (env l) (from l) (world l)) (page l) ≡ tally (l .loop .steps + 1) (runFrom (l .loop .left - 1) (env l) x (t .world)) (page l)

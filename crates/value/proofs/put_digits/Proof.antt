@@ -4,7 +4,8 @@ use Prim.Native.Nat.{_+_, _-_, _/_, _<_}
 use mathlib.Core.List.{[], _∷_}
 use native.Mathlib.Omega.{arith}
 use Rattle.value.proofs.Digits.{digits-few}
-use Rattle.value.proofs.Putting.{Putting, putting-none, putting-turn, putting-end, power-not-zero, digit-below}
+use Rattle.value.specs.Digits.{Putting}
+use Rattle.value.proofs.Putting.{putting-none, putting-turn, putting-end, power-not-zero, digit-below}
 use Rattle.value.proofs.Writing.{part-sets}
 use Rattle.value.proofs.put_digits.Statement.{statement}
 use Rattle.value.proofs.put_digits.Tie as tie
