@@ -24,6 +24,10 @@ static _Alignas(64) uint8_t stack[STACK];
 static ucontext_t here, there;
 static const uint8_t *frame;
 static size_t most; /* that any call took */
+static int over;    /* whether what goes deeper took more than it may */
+
+/* Bytes of stack that an open bracket may take, and an "@" or a NOT. */
+enum { BRACKET_MOST = 320, PREFIX_MOST = 160 };
 
 /* What the next call is lent: makecontext hands no pointers over. */
 static const char *input;
@@ -174,8 +178,19 @@ static size_t repeated(const char *first, const char *again, const char *middle,
     return typed(line, NIBL_BUDGET_MOST);
 }
 
-static void each(const char *what, const char *first, const char *again, const char *middle, const char *close) {
-    printf("%7zu  %s\n", (repeated(first, again, middle, close, 12) - repeated(first, again, middle, close, 8)) / 4, what);
+/* What one more of them takes: between so many and as many as a line holds, so that they are what goes deepest. */
+static size_t each(const char *what, const char *first, const char *again, const char *middle, const char *close, int few, int many) {
+    size_t bytes = (repeated(first, again, middle, close, many) - repeated(first, again, middle, close, few)) / (size_t)(many - few);
+    printf("%7zu  %s\n", bytes, what);
+    return bytes;
+}
+
+/* The same of what goes deeper with each: more than this many bytes fail. */
+static void nested(const char *what, const char *first, const char *again, const char *middle, const char *close, int few, int many, size_t bar) {
+    if (each(what, first, again, middle, close, few, many) > bar) {
+        printf("         that is more than %zu\n", bar);
+        over = 1;
+    }
 }
 
 static void measure(void) {
@@ -216,13 +231,15 @@ static void measure(void) {
     show("LIST of a line", written("LIST\r"));
     puts("each more of these in a line:");
     start();
-    each("item of PRINT", "PR A", ",A", "", "");
-    each("+", "A=A", "+A", "", "");
-    each("*", "A=A", "*A", "", "");
-    each("variable of INPUT", "INPUT A", ",A", "", "");
-    each("IF behind an IF", "", "IF A ", "A=1", "");
-    each("open bracket", "A=", "(", "1", ")");
-    each("@", "A=", "@", "1", "");
+    each("item of PRINT", "PR A", ",A", "", "", 20, 30);
+    each("+", "A=A", "+A", "", "", 20, 30);
+    each("*", "A=A", "*A", "", "", 20, 30);
+    each("variable of INPUT", "INPUT A", ",A", "", "", 20, 30);
+    each("IF behind an IF", "", "IF A ", "A=1", "", 8, 12);
+    nested("open bracket", "A=", "(", "1", ")", 26, 34, BRACKET_MOST);
+    nested("open bracket of MOD, behind 20", "A=((((((((((((((((((((", "MOD(", "1", "", 0, 6, BRACKET_MOST);
+    nested("@", "A=", "@", "1", "", 54, 68, PREFIX_MOST);
+    nested("NOT, behind 40 of @", "A=@@@@@@@@@@@@@@@@@@@@@@@@@@@@@@@@@@@@@@@@", "NOT", "1", "", 2, 9, PREFIX_MOST);
     puts("the worst lines:");
     show("34 brackets", repeated("A=", "(", "1", ")", 34));
     store("10 INPUT A\r");
@@ -239,5 +256,5 @@ int main(void) {
         measure();
     }
     printf("the most: %zu of %d\n", most, NIBL_STACK);
-    return most > NIBL_STACK;
+    return most > NIBL_STACK || over;
 }

@@ -170,20 +170,20 @@ fn with(field: &str) -> String {
 
 #[test]
 fn the_item_of_a_case() {
-    assert_eq!(drive(with("\"upto\":4").as_bytes()), OUTCOME);
-    for item in (0..=13).filter(|&item| item != 4) {
+    assert_eq!(drive(with("\"upto\":5").as_bytes()), OUTCOME);
+    for item in (0..=13).filter(|&item| item != 5) {
         let case = with(&format!("\"upto\":{item}"));
         assert_eq!(drive(case.as_bytes()), SKIP, "{item}");
         let other = format!("{{\"call\":\"save\",\"saved\":[1],\"upto\":{item}}}");
         assert_eq!(drive(other.as_bytes()), SKIP, "{item}");
     }
     for upto in [
-        "14", "-1", "256", "260", "4.0", "null", "true", "[4]", "{}", "\"4\"",
+        "14", "-1", "256", "261", "5.0", "null", "true", "[5]", "{}", "\"5\"",
     ] {
         let answer = drive(with(&format!("\"upto\":{upto}")).as_bytes());
         assert!(answer.starts_with("{\"error\":"), "{upto}: {answer}");
     }
-    let twice = drive(with("\"upto\":4,\"upto\":4").as_bytes());
+    let twice = drive(with("\"upto\":5,\"upto\":5").as_bytes());
     assert_eq!(twice, r#"{"error":"\"upto\" twice"}"#);
 }
 
@@ -191,13 +191,12 @@ fn the_item_of_a_case() {
 fn what_later_items_add_is_absent_or_null() {
     for (field, value) in [
         ("tables", "[]"),
-        ("saved", "[]"),
         ("ranges", "{}"),
         ("form", "\"text\""),
         ("lists", "[]"),
         ("room", "0"),
     ] {
-        for front in ["", "\"upto\":4,"] {
+        for front in ["", "\"upto\":5,"] {
             let case = with(&format!("{front}\"{field}\":null"));
             assert_eq!(drive(case.as_bytes()), OUTCOME, "{field}");
             let answer = drive(with(&format!("{front}\"{field}\":{value}")).as_bytes());
@@ -217,9 +216,15 @@ fn what_later_items_add_is_absent_or_null() {
         let case = CASE.replace(part, &format!("{part},\"{field}\":{value}"));
         assert!(drive(case.as_bytes()).starts_with("{\"error\":"), "{field}");
     }
-    for call in ["save", "load", "to_keywords", "to_text", "prepare"] {
+    for (call, front) in [
+        ("save", "{\"stop\":"),
+        ("load", "{\"stop\":"),
+        ("to_keywords", "{\"error\":"),
+        ("to_text", "{\"error\":"),
+        ("prepare", "{\"error\":"),
+    ] {
         let case = CASE.replace("\"call\":\"line\"", &format!("\"call\":\"{call}\""));
-        assert!(drive(case.as_bytes()).starts_with("{\"error\":"), "{call}");
+        assert!(drive(case.as_bytes()).starts_with(front), "{call}");
     }
     for field in [
         "\"other\":null",
@@ -260,7 +265,7 @@ fn a_table_stands_before_the_record() {
         (alone, alone),
         (&others, &nines),
     ] {
-        let case = with(&format!("\"upto\":4,\"table\":{given}"));
+        let case = with(&format!("\"upto\":5,\"table\":{given}"));
         assert_eq!(drive(case.as_bytes()), with_table(left), "{given}");
     }
     assert_eq!(drive(with("\"table\":null").as_bytes()), OUTCOME);

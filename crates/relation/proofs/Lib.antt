@@ -3,3 +3,4 @@ pub mod Readers
 pub mod Signs
 pub mod States
 pub mod Ways
+pub mod Factors

@@ -1,19 +1,33 @@
 -- Readers from state to state: one after another, past a sign, and with an operation written. Assumes nothing.
-use Prim.Native.Nat.{ℕ, suc, _+_, _≤_}
+use Prim.Native.Nat.{ℕ, zero, suc, _+_, _≤_}
 use Prim.Native.String.{String}
-use mathlib.Core.Path.{_≡_, refl, sym, ap, _∙_}
+use mathlib.Core.Path.{_≡_, refl, sym, ap, subst, _∙_}
+use mathlib.Core.Bool.{Bool, true, false}
 use mathlib.Core.List.{List, [], _∷_, _++_, append-assoc, append-nil}
 use native.Mathlib.Nat.{add-zero}
 use native.Mathlib.Omega.{arith}
-use lib.ListN.{length, set, length-append}
+use borrow.Author.Tests.{eqb-true, eqb-false, eq-eqb, ne-eqb}
+use lib.Dec.{eqb}
+use lib.ListN.{length, set, length-append, length-set}
 use lib.Seq.{sets}
 use Rattle.nibl.specs.Words.{number}
 use Rattle.nibl.specs.found.Read.{Reader, fail, give, key, _>>=_}
 use Rattle.word.specs.declared.Cursor.{Cursor}
-use Rattle.relation.specs.Makes.{ahead, need, filled, WroteOps, Written, written, Gives, stopped, refused, given, Reads, Over, Leads, onto, only, bare, stood, KeyIs, there}
+use Rattle.relation.specs.Makes.{ahead, need, filled, WroteOps, Written, written, Gives, stopped, refused, given, Reads, Over, Leads, onto, only, bare, stood, KeyIs, there, standing, madeOf, waiting, settled, Settles, nothingWaits, lastCame}
 use Rattle.relation.specs.declared.Made.{Made}
 use Rattle.relation.specs.declared.Made.the-variants.{Next, NoReading}
 use Rattle.relation.proofs.Readers.{then-found, then-nothing, if-there, if-other}
+
+-- The positions that are states
+pub made-at : (r n : ℕ) → (r ≡ 0 → ⊥) → madeOf r n ≡ standing r n
+made-at r n = go r
+  where
+    go : (r : ℕ) → (r ≡ 0 → ⊥) → madeOf r n ≡ standing r n
+    go zero h = absurd (h refl)
+    go (suc p) h = refl
+
+pub made-none : (r n : ℕ) → r ≡ 0 → madeOf r n ≡ NoReading
+made-none r n e = rw e refl
 
 -- What was written
 sets-append : (w w' l : List ℕ) (i : ℕ) → sets l i (w ++ w') ≡ sets (sets l i w) (i + length w) w'
@@ -81,6 +95,47 @@ pub written-need : {v : ℕ} {ops ops' : List ℕ} {r s : Made} → Written v op
 written-need stopped text k = omega arith
 written-need written text k = omega arith
 
+-- The operation that waited, once it has its last operand
+pub settles-ahead : {v : ℕ} {ops ops' : List ℕ} {r s : Made} → Settles v ops r ops' s → (text : List ℕ) → ahead text s ≡ ahead text r
+settles-ahead stopped text = refl
+settles-ahead (nothingWaits e) text = refl
+settles-ahead (lastCame n) text = refl
+
+pub settles-need : {v : ℕ} {ops ops' : List ℕ} {r s : Made} → Settles v ops r ops' s → (text : List ℕ) (k : ℕ) → need k text s ≤ need (k + waiting v) text r
+settles-need stopped text k = omega arith
+settles-need {v} (nothingWaits e) text k = rw (eq-eqb v 0 e) (omega arith)
+settles-need {v} (lastCame n) text k = rw (ne-eqb v 0 n) (omega arith)
+
+pub settles-size : {v : ℕ} {ops ops' : List ℕ} {r s : Made} → Settles v ops r ops' s → length ops' ≡ length ops
+settles-size stopped = refl
+settles-size (nothingWaits e) = refl
+settles-size {v} {ops} (lastCame {o = o} n) = length-set ops o v
+
+pub settles-written : {v : ℕ} {ops ops' : List ℕ} {r s : Made} → (v ≡ 0 → ⊥) → Settles v ops r ops' s → Written v ops r ops' s
+settles-written n stopped = stopped
+settles-written n (nothingWaits e) = absurd (n e)
+settles-written n (lastCame m) = written
+
+-- what the code learns of it
+pub settles-here : (v : ℕ) {ops ops' : List ℕ} {at o n : ℕ} → ops' ≡ settled v ops o → n ≡ o + waiting v → Settles v ops (standing at o) ops' (standing at n)
+settles-here v {ops} {ops'} {at} {o} {n} e f = go (eqb v 0) refl
+  where
+    go : (t : Bool) → eqb v 0 ≡ t → Settles v ops (standing at o) ops' (standing at n)
+    go true h =
+        let q : n ≡ o = f ∙ rw h (omega arith) in
+        let l : ops' ≡ ops = e ∙ rw h refl in
+        rw (q, l) (nothingWaits (eqb-true v 0 h))
+    go false h =
+        let q : n ≡ o + 1 = f ∙ rw h refl in
+        let l : ops' ≡ set ops o v = e ∙ rw h refl in
+        rw (q, l) (lastCame (eqb-false v 0 h))
+
+pub last-here : {v : ℕ} {ops ops' : List ℕ} {at o n : ℕ} → (v ≡ 0 → ⊥) → ops' ≡ set ops o v → n ≡ o + 1 → Settles v ops (standing at o) ops' (standing at n)
+last-here h e f = rw (e, f) (lastCame h)
+
+pub written-here : {v : ℕ} {ops ops' : List ℕ} {at o n : ℕ} → ops' ≡ set ops o v → n ≡ o + 1 → Written v ops (standing at o) ops' (standing at n)
+written-here e f = rw (e, f) written
+
 -- One reader after another
 module _ {X A B : Type 0} {text : List ℕ} where
   pub chain : {F : X → Reader A} {Q : A → Reader B} {pre : X → List ℕ} {code : A → List ℕ} {code' : B → List ℕ} {ops ops1 ops2 : List ℕ} {r s t : Made}
@@ -133,6 +188,34 @@ module _ {X A : Type 0} {R : X → Reader A} {pre : X → List ℕ} {code : A �
 
   pub to-state : s ≡ q → Reads R pre code text ops r ops' s → Reads R pre code text ops r ops' q
   to-state e y = rw e at y
+
+-- at a position as a number
+module _ {X A : Type 0} {R : X → Reader A} {pre : X → List ℕ} {code : A → List ℕ} {text ops ops' : List ℕ} {r : Made} where
+  pub to-standing : {d n : ℕ} → (d ≡ 0 → ⊥) → Reads R pre code text ops r ops' (madeOf d n) → Reads R pre code text ops r ops' (standing d n)
+  to-standing {d} {n} h y = to-state (made-at d n h) y
+
+  pub to-made : {d n : ℕ} → (d ≡ 0 → ⊥) → Reads R pre code text ops r ops' (standing d n) → Reads R pre code text ops r ops' (madeOf d n)
+  to-made {d} {n} h y = to-state (sym (made-at d n h)) y
+
+  pub to-none : (d n : ℕ) → d ≡ 0 → Reads R pre code text ops r ops' (madeOf d n) → Reads R pre code text ops r ops' NoReading
+  to-none d n e y = to-state (made-none d n e) y
+
+module _ {k : ℕ} {text : List ℕ} {s : Made} where
+  pub key-standing : {r n : ℕ} → (r ≡ 0 → ⊥) → KeyIs k text s (madeOf r n) → KeyIs k text s (standing r n)
+  key-standing {r} {n} h y = subst (KeyIs k text s) (made-at r n h) y
+
+  pub key-gone : (r n : ℕ) → r ≡ 0 → KeyIs k text s (madeOf r n) → KeyIs k text s NoReading
+  key-gone r n e y = subst (KeyIs k text s) (made-none r n e) y
+
+module _ {v : ℕ} {ops ops' : List ℕ} {s : Made} where
+  pub settles-standing : {r n : ℕ} → (r ≡ 0 → ⊥) → Settles v ops s ops' (madeOf r n) → Settles v ops s ops' (standing r n)
+  settles-standing {r} {n} h y = subst (Settles v ops s ops') (made-at r n h) y
+
+  pub settles-made : {r n : ℕ} → (r ≡ 0 → ⊥) → Settles v ops s ops' (standing r n) → Settles v ops s ops' (madeOf r n)
+  settles-made {r} {n} h y = subst (Settles v ops s ops') (sym (made-at r n h)) y
+
+  pub settles-gone : (r n : ℕ) → r ≡ 0 → Settles v ops s ops' (madeOf r n) → Settles v ops s ops' NoReading
+  settles-gone r n e y = subst (Settles v ops s ops') (made-none r n e) y
 
 module _ {A : Type 0} {code : A → List ℕ} {text : List ℕ} where
   -- nothing is read

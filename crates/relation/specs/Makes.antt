@@ -1,32 +1,25 @@
 -- What the contracts of the readers say. A reader goes from a state to a state: a cursor and the number of operations so far, or no reading.
-use Prim.Native.Nat.{ℕ, suc, _+_, _-_, _≤_, _<_}
+use Prim.Native.Nat.{ℕ, zero, suc, _+_, _-_, _≤_, _<_}
 use mathlib.Core.Path.{_≡_}
-use mathlib.Core.Bool.{Bool, false, _||_}
-use mathlib.Core.List.{List, [], _∷_, _++_}
-use mathlib.Core.Option.{Option, none, some}
+use mathlib.Core.Bool.{Bool, true, false}
+use mathlib.Core.List.{List, [], _++_}
 use lib.ListN.{length, drop, set}
 use lib.Seq.{sets}
 use lib.Dec.{eqb}
-use Rattle.nibl.specs.Grammar.{Joints, factorJoints, termJoints, sumJoints}
+use Rattle.nibl.specs.Bytes.{if_then_else_, isSpace, starts}
+use Rattle.nibl.specs.Words.{variable, decimal, hex, string, sign, keywords}
+use Rattle.nibl.specs.Grammar.{Joints}
 use Rattle.nibl.specs.Tree.{Op, Expr, negate, modulo}
-use Rattle.nibl.specs.found.Read.{Found, nothing, found, Reader, aSign, aJoint, choose, fail, give, key, _>>=_, factorCases, read, factor, term, sum, relation, terms}
-use Rattle.nibl.specs.Words.{number}
+use Rattle.nibl.specs.found.Read.{FrontWord, atEnd, wrong, got, stepIn, Found, nothing, found, Reader, aSign, aJoint, choose, fail, give, key, _>>=_, factorCases, Part, read, factor, term, sum, relation, terms}
 use Rattle.word.specs.declared.Cursor.{Cursor}
-use Rattle.word.specs.Found.{firstOf, beginning}
-use Rattle.nibl.specs.Bytes.{isSpace, past}
+use Rattle.word.specs.Found.{spelt}
+use Rattle.codes.specs.Codes.{op, codeNegate, codeOperator}
+use Rattle.codes.specs.Operators.{opNumber}
 use Rattle.relation.specs.Code.{values}
-use Rattle.codes.specs.Codes.{op, codeOperator}
-use Rattle.codes.specs.Operators.{opNumber, operatorCount}
 use Rattle.relation.specs.declared.Made.{Made}
 use Rattle.relation.specs.declared.Made.the-variants.{Next, NoReading}
 use Rattle.relation.specs.declared.Signed.{Signed}
 use Rattle.relation.specs.declared.Signed.the-variants as signed
-use Rattle.relation.specs.declared.Joined.{Joined}
-use Rattle.relation.specs.declared.Joined.the-variants as joined
-use Rattle.relation.specs.declared.Lead.{Lead}
-use Rattle.relation.specs.declared.Lead.the-variants.{Minus, Plain}
-use Rattle.relation.specs.declared.Atom.{Atom}
-use Rattle.relation.specs.declared.Atom.the-variants as atom
 
 -- how much of the text lies ahead: more than none while there is a reading
 abbrev pub ahead : List ℕ → Made → ℕ
@@ -116,42 +109,34 @@ pub data KeyIs (k : ℕ) (text : List ℕ) : Made → Made → Type 0 where
   refused : {c : Cursor} {o : ℕ} → Otherwise k (aSign (drop (c .at) text)) → KeyIs k text (Next c o) NoReading
   there : {r s : Made} → Stood aSign k text r s → KeyIs k text r s
 
--- what operators join: factors, terms, or else sums
-abbrev pub joinsFactors : ℕ
-joinsFactors = 0
+-- States as numbers: at a position with so many operations; and past what was read, where position 0 is no reading's
+abbrev pub standing : ℕ → ℕ → Made
+standing at n = Next (record { at = at }) n
 
-abbrev pub joinsTerms : ℕ
-joinsTerms = 1
+abbrev pub madeOf : ℕ → ℕ → Made
+madeOf zero n = NoReading
+madeOf (suc p) n = standing (suc p) n
 
-abbrev pub jointsOf : ℕ → Joints
-jointsOf n = choose ((joinsFactors, factorJoints) ∷ (joinsTerms, termJoints) ∷ []) sumJoints n
+-- from a position on, with o operations, the part p is read to the position r, with n operations
+abbrev pub MakesAt : Part → List ℕ → List ℕ → ℕ → ℕ → List ℕ → ℕ → ℕ → Type 0
+MakesAt p text ops at o ops' r n = Makes (read p) values text ops (standing at o) ops' (madeOf r n)
 
--- the first byte of what stands next, 0 where nothing does
-abbrev pub firstIn : List ℕ → Made → ℕ
-firstIn text NoReading = 0
-firstIn text (Next c o) = firstOf (past isSpace (drop (c .at) text))
+-- whether the operation v waits for its last operand: 0 is none; and the operations once it has it
+abbrev pub waiting : ℕ → ℕ
+waiting v = if eqb v 0 then 0 else 1
 
--- whether an operator of a list can begin with a byte, and whether a sign before a sum can
-abbrev pub mayJoin : Joints → ℕ → Bool
-mayJoin [] b = false
-mayJoin (j ∷ js) b = eqb b (beginning (j .0)) || mayJoin js b
+abbrev pub settled : ℕ → List ℕ → ℕ → List ℕ
+settled v ops o = if eqb v 0 then ops else set ops o v
 
-abbrev pub mayLead : ℕ → Bool
-mayLead b = eqb b (beginning (number "+")) || eqb b (beginning (number "-"))
+pub data Settles (v : ℕ) (ops : List ℕ) : Made → List ℕ → Made → Type 0 where
+  stopped : Settles v ops NoReading ops NoReading
+  nothingWaits : {c : Cursor} {o : ℕ} → v ≡ 0 → Settles v ops (Next c o) ops (Next c o)
+  lastCame : {c : Cursor} {o : ℕ} → (v ≡ 0 → ⊥) → Settles v ops (Next c o) (set ops o v) (Next c (o + 1))
 
--- an operator's number, or how many there are where there is none
-abbrev pub numberOf : Option Op → ℕ
-numberOf none = operatorCount
-numberOf (some q) = opNumber q
-
-pub record JoinedBy (js : Joints) (text : List ℕ) (r : Made) (v : ℕ) (m : Made) : Type 0 where
-  pub operator : Op
-  pub number : v ≡ op codeOperator (opNumber operator)
-  pub next : Stood (aJoint js) operator text r m
-
-abbrev pub JointIs : Joints → List ℕ → Made → Joined → Type 0
-JointIs js text r (joined.By v m) = JoinedBy js text r v m
-JointIs js text r joined.Alone = Absent (aJoint js) text r
+-- the operator of a list that stands next, by the position past it and its operation; or none, by 0
+pub data JointIs (js : Joints) (text : List ℕ) (at : ℕ) : ℕ → ℕ → Type 0 where
+  joint : {r v : ℕ} (q : Op) → v ≡ op codeOperator (opNumber q) → ((o : ℕ) → Stood (aJoint js) q text (standing at o) (standing r o)) → JointIs js text at r v
+  alone : {v : ℕ} → aJoint js (drop at text) ≡ nothing → JointIs js text at 0 v
 
 -- a sum by its first term, or by a minus and its first term
 abbrev pub plainly : Reader Expr
@@ -160,17 +145,13 @@ plainly = read term >>= (λ a. read (terms a))
 abbrev pub negated : Reader Expr
 negated = read term >>= (λ a. read (terms (negate a)))
 
-abbrev pub LeadIs : List ℕ → Made → Lead → Type 0
-LeadIs text r (Minus m) = Leads (only (read sum)) (only negated) text r m × Over text r m
-LeadIs text r (Plain m) = Leads (only (read sum)) (only plainly) text r m × (ahead text m ≤ ahead text r) × ((k : ℕ) → need k text m ≤ need k text r)
+-- where the first term begins, and the operation that waits for it
+pub data LeadIs (text : List ℕ) (at : ℕ) : ℕ → ℕ → Type 0 where
+  minus : {r : ℕ} → ((o : ℕ) → Leads (only (read sum)) (only negated) text (standing at o) (standing r o) × Over text (standing at o) (standing r o))
+      → LeadIs text at r (op codeNegate 0)
+  plain : {r : ℕ} → ((o : ℕ) → Leads (only (read sum)) (only plainly) text (standing at o) (standing r o)) → at ≤ r → LeadIs text at r 0
 
--- the first term of a sum is read from r to s: with the terms joined to it, whatever they are, it is the sum
-pub record FirstTerm (text ops : List ℕ) (r : Made) (ops' : List ℕ) (s : Made) : Type 0 where
-  pub low : ahead text s ≤ ahead text r
-  pub few : (k : ℕ) → need k text s ≤ need k text r
-  pub on : (ops2 : List ℕ) (t : Made) → Reads (λ a. read (terms a)) values values text ops' s ops2 t → Makes (read sum) values text ops r ops2 t
-
--- the parts of a factor
+-- The parts of a factor
 abbrev pub bracketing : Reader Expr
 bracketing = read relation >>= (λ a. key ")" (give a))
 
@@ -181,17 +162,40 @@ seconding a = read relation >>= (λ b. key ")" (give (modulo a b)))
 abbrev pub pairing : Reader Expr
 pairing = key "(" (read relation >>= (λ a. key "," (seconding a)))
 
-abbrev pub cases : ℕ → Reader Expr
-cases k = choose (factorCases read) fail k
+-- a factor, and an operation that waits for it
+pub record Followed (v : ℕ) (text ops : List ℕ) (r : Made) (ops' : List ℕ) (s : Made) : Type 0 where
+  pub between : List ℕ
+  pub state : Made
+  pub reads : Makes (read factor) values text ops r between state
+  pub settles : Settles v between state ops' s
 
--- how the reader R, of what follows a factor's first word, goes on from the state m
-pub data FormIs (R : Reader Expr) (m : Made) : Atom → Type 0 where
-  whole : {v : ℕ} (a : Expr) → values a ≡ v ∷ [] → R ≡ give a → FormIs R m (atom.Whole v m)
-  prefix : {v : ℕ} (f : Expr → Expr) → ((a : Expr) → values (f a) ≡ values a ++ (v ∷ [])) → R ≡ (read factor >>= (λ a. give (f a))) → FormIs R m (atom.Prefix v m)
-  bracket : R ≡ bracketing → FormIs R m (atom.Bracket m)
-  pair : R ≡ pairing → FormIs R m (atom.Modulo m)
-  other : R ≡ fail → FormIs R m atom.Other
+-- a relation, and a symbol behind it
+pub record Closed (k : ℕ) (text ops : List ℕ) (r : Made) (ops' : List ℕ) (s : Made) : Type 0 where
+  pub state : Made
+  pub reads : Makes (read relation) values text ops r ops' state
+  pub closes : KeyIs k text state s
 
-pub data AtomIs (text : List ℕ) (r : Made) : Atom → Type 0 where
-  missing : Absent (read factor) text r → AtomIs text r atom.Other
-  goes : {m : Made} {a : Atom} (R : Reader Expr) → Leads (only (read factor)) (only R) text r m → Over text r m → FormIs R m a → AtomIs text r a
+-- whether a word is a variable or a decimal constant
+abbrev pub isOperand : FrontWord → Bool
+isOperand atEnd = false
+isOperand wrong = false
+isOperand (got (variable v) t) = true
+isOperand (got (decimal n) t) = true
+isOperand (got (hex n) t) = false
+isOperand (got (string bs) t) = false
+isOperand (got (sign k) t) = false
+
+-- one of them is read at a position, or none stands there and nothing is written
+pub data OperandIs (text ops : List ℕ) (at o : ℕ) : List ℕ → ℕ → ℕ → Type 0 where
+  operand : {ops' : List ℕ} {r n : ℕ} → (r ≡ 0 → ⊥) → MakesAt factor text ops at o ops' r n → OperandIs text ops at o ops' r n
+  noOperand : isOperand (stepIn keywords (drop at text)) ≡ false → OperandIs text ops at o ops 0 o
+
+-- neither a space nor one of them stands at a position
+pub record Rest (text : List ℕ) (at : ℕ) : Type 0 where
+  pub unspaced : starts isSpace (drop at text) ≡ false
+  pub other : isOperand (stepIn keywords (drop at text)) ≡ false
+
+-- the sign that stands at a position, with which a factor begins; or none of them stands there, by 0
+pub data FormIs (text : List ℕ) (at : ℕ) : ℕ → Type 0 where
+  form : {k : ℕ} → stepIn keywords (drop at text) ≡ got (sign k) (drop (at + length (spelt k)) text) → at + length (spelt k) ≤ length text → FormIs text at k
+  noForm : ((k : ℕ) (t : List ℕ) → stepIn keywords (drop at text) ≡ got (sign k) t → choose (factorCases read) fail k ≡ fail) → FormIs text at 0

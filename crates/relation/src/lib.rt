@@ -1,18 +1,25 @@
 // The readers of a relation. They call each other in a cycle while the unread bytes of the text fall, and write
-// the operations of what they read into a lent list of numbers, which has room for one to each byte. Each goes
-// from a state to a state, so that readers follow one another with no test between them: where one finds no
-// reading, the rest of them pass that on. What does the work is handed the state's two numbers instead (`.._from`):
-// a state goes through memory, and there it costs more than the reading.
+// the operations of what they read into a lent list of numbers, which has room for one to each byte. Those of the
+// cycle are handed a position and lent the number of operations so far, and answer the position past what they read:
+// numbers stay in registers, where a state goes through memory and costs more than the reading. Each is called in one
+// place, or in a function that is, so that the compiler works one into another: two frames lie on the stack for each
+// open bracket. For the others a state is what they go from and to, so that readers follow one another with no test
+// between them: where one finds no reading, the rest of them pass that on.
 use word::Cursor;
 use word::Word;
 use word::sign;
-ghost use Prim.Native.Nat.{_≤_};
+ghost use Prim.Native.Nat.{_+_, _≤_, _<_};
 ghost use mathlib.Core.Path.{_≡_};
-ghost use lib.ListN.{length};
-ghost use Rattle.nibl.specs.found.Read.{read, factor, term, sum, relation, factors, terms};
+ghost use mathlib.Core.Bool.{true, false};
+ghost use lib.ListN.{length, drop, getD, set};
+ghost use Rattle.nibl.specs.Bytes.{isSpace, isDigit, starts};
+ghost use Rattle.nibl.specs.Grammar.{factorJoints, termJoints, sumJoints};
+ghost use Rattle.nibl.specs.found.Read.{read, factor, term, sum, relation};
+ghost use Rattle.word.specs.Found.{isLone};
+ghost use Rattle.codes.specs.Codes.{op, codeOperator};
+ghost use Rattle.codes.specs.Operators.{operatorCount};
 ghost use Rattle.relation.specs.Code.{values};
-ghost use Rattle.relation.specs.Makes.{need, filled, SignIs, KeyIs, numberOf, jointsOf, JointIs, LeadIs, FormIs, cases, AtomIs, Written, Reads, Makes, FirstTerm, firstIn, mayJoin, mayLead};
-ghost use Rattle.nibl.specs.Grammar.{jointOf};
+ghost use Rattle.relation.specs.Makes.{need, filled, standing, madeOf, waiting, settled, SignIs, KeyIs, Written, Makes, MakesAt, pairing, JointIs, LeadIs, OperandIs, Rest, FormIs, Followed, Closed};
 
 // The cursor past what was read and the number of operations so far, or no reading.
 pub enum Made {
@@ -23,28 +30,6 @@ pub enum Made {
 // A sign by its number and the state past it, where one stands next.
 pub enum Signed {
     By(u8, Made),
-    Other,
-}
-
-// The operation of an operator and the state past it, where one stands next.
-pub enum Joined {
-    By(u32, Made),
-    Alone,
-}
-
-// How a sum begins: by a minus, or by its first term.
-pub enum Lead {
-    Minus(Made),
-    Plain(Made),
-}
-
-// How a factor begins, and the state past that: it is one operation, or an operation follows another factor,
-// or a relation in parentheses follows, or what stands behind MOD.
-pub enum Atom {
-    Whole(u32, Made),
-    Prefix(u32, Made),
-    Bracket(Made),
-    Modulo(Made),
     Other,
 }
 
@@ -85,104 +70,11 @@ pub fn write(ops: &mut [u32], r: Made, v: u32) -> Made
     Made::Next(c, o + 1)
 }
 
-// What operators join.
-const FACTORS: u8 = 0;
+// The position past what was read is never 0: that says that there is no reading.
+const NONE: usize = 0;
 
-const TERMS: u8 = 1;
-
-const SUMS: u8 = 2;
-
-// The number of the operator that a sign is where factors, terms or sums are joined; OPERATORS for another sign.
-fn operator(level: u8, k: u8) -> u8
-    ensures { λ v. ⌜ v ≡ numberOf (jointOf (jointsOf level) k) ⌝ }
-{
-    if level == FACTORS {
-        return match k {
-            sign::TIMES => codes::OPERATOR_TIMES,
-            sign::DIVIDE => codes::OPERATOR_DIVIDE,
-            sign::AND => codes::OPERATOR_AND,
-            _ => codes::OPERATORS,
-        };
-    }
-    if level == TERMS {
-        return match k {
-            sign::PLUS => codes::OPERATOR_PLUS,
-            sign::MINUS => codes::OPERATOR_MINUS,
-            sign::OR => codes::OPERATOR_OR,
-            _ => codes::OPERATORS,
-        };
-    }
-    match k {
-        sign::EQUAL => codes::OPERATOR_EQUAL,
-        sign::LESS => codes::OPERATOR_LESS,
-        sign::GREATER => codes::OPERATOR_GREATER,
-        sign::AT_MOST => codes::OPERATOR_AT_MOST,
-        sign::AT_LEAST => codes::OPERATOR_AT_LEAST,
-        sign::UNEQUAL => codes::OPERATOR_UNEQUAL,
-        _ => codes::OPERATORS,
-    }
-}
-
-// The first byte of what stands next; 0 where nothing does.
-fn first_of(text: &[u8], r: Made) -> u8
-    ensures { λ b. ⌜ b ≡ firstIn (now (text .entry)) r ⌝ }
-{
-    let Made::Next(c, _) = r else {
-        return 0;
-    };
-    word::first_at(text, c)
-}
-
-// What the operators that are words begin with.
-const AND_BEGINS: u8 = b'A';
-
-const OR_BEGINS: u8 = b'O';
-
-// Whether an operator that joins factors, terms or sums can begin with a byte.
-fn may_join(level: u8, b: u8) -> bool
-    ensures { λ r. ⌜ r ≡ mayJoin (jointsOf level) b ⌝ }
-{
-    if level == FACTORS {
-        return match b {
-            sign::TIMES => true,
-            sign::DIVIDE => true,
-            AND_BEGINS => true,
-            _ => false,
-        };
-    }
-    if level == TERMS {
-        return match b {
-            sign::PLUS => true,
-            sign::MINUS => true,
-            OR_BEGINS => true,
-            _ => false,
-        };
-    }
-    match b {
-        sign::EQUAL => true,
-        sign::LESS => true,
-        sign::GREATER => true,
-        _ => false,
-    }
-}
-
-// The operator that joins factors, terms or sums, where one stands next. No word is read where none can begin.
-fn joint_at(text: &[u8], r: Made, level: u8) -> Joined
-    ensures { λ j. ⌜ JointIs (jointsOf level) (now (text .entry)) r j ⌝ }
-{
-    if !may_join(level, first_of(text, r)) {
-        return Joined::Alone;
-    }
-    let w = sign_at(text, r);
-    let Signed::By(k, m) = w else {
-        return Joined::Alone;
-    };
-    let n = operator(level, k);
-    if n == codes::OPERATORS {
-        return Joined::Alone;
-    }
-    Joined::By(codes::operation(codes::OPERATOR, wide(n)), m)
-}
+// No operation waits for its last operand. As an operation 0 would be a constant, which has no operand.
+const NOTHING: u32 = 0;
 
 fn wide(b: u8) -> u32
     ensures { λ r. ⌜ r ≡ b ⌝ }
@@ -191,78 +83,347 @@ fn wide(b: u8) -> u32
 }
 
 fn wide16(v: u16) -> u32
-    ensures { λ r. ⌜ r ≡ v ⌝ }
+    ensures { λ r. ⌜ (r ≡ v) × (r ≤ 65535) ⌝ }
 {
     v as u32
 }
 
-// How a factor begins by a sign: STAT, TOP, "(", "@", NOT or MOD.
-fn form(k: u8, m: Made) -> Atom
-    ensures { λ a. ⌜ FormIs (cases k) m a ⌝ }
+// One operation more behind the n there are.
+fn put(ops: &mut [u32], n: &mut usize, v: u32)
+    requires { ⌜ now n < length (now ops) ⌝ }
+    ensures { λ _. ⌜ (now (ops .exit) ≡ set (now (ops .entry)) (now (n .entry)) v) × (now (n .exit) ≡ now (n .entry) + 1) ⌝ }
 {
-    match k {
-        sign::STAT => Atom::Whole(codes::STAT, m),
-        sign::TOP => Atom::Whole(codes::TOP, m),
-        sign::OPEN => Atom::Bracket(m),
-        sign::AT => Atom::Prefix(codes::BYTE, m),
-        sign::NOT => Atom::Prefix(codes::NOT, m),
-        sign::MOD => Atom::Modulo(m),
-        _ => Atom::Other,
+    let o = *n;
+    ops[o] = v;
+    *n = o + 1;
+}
+
+// The operation that waited for its last operand, if any.
+fn settle(ops: &mut [u32], n: &mut usize, v: u32)
+    requires { ⌜ now n + waiting v ≤ length (now ops) ⌝ }
+    ensures { λ _. ⌜ (now (ops .exit) ≡ settled v (now (ops .entry)) (now (n .entry))) × (now (n .exit) ≡ now (n .entry) + waiting v) ⌝ }
+{
+    if v == NOTHING {
+        return;
+    }
+    put(ops, n, v);
+}
+
+// An operator that ends at a position: its operation waits for the operand behind it.
+fn joined(k: u8, past: usize, waits: &mut u32) -> usize
+    requires { ⌜ k < operatorCount ⌝ }
+    ensures { λ r. ⌜ (r ≡ past) × (now (waits .exit) ≡ op codeOperator k) ⌝ }
+{
+    *waits = codes::operation(codes::OPERATOR, wide(k));
+    past
+}
+
+// The operator that joins factors, where one stands next.
+fn times_at(text: &[u8], from: usize, waits: &mut u32) -> usize
+    ensures { λ r. ⌜ JointIs factorJoints (now (text .entry)) from r (now (waits .exit)) ⌝ }
+{
+    let i = word::space_end(text, from);
+    if word::stands(text, i, b"*") {
+        return joined(codes::OPERATOR_TIMES, i + 1, waits);
+    }
+    if word::stands(text, i, b"/") {
+        return joined(codes::OPERATOR_DIVIDE, i + 1, waits);
+    }
+    if word::stands(text, i, b"AND") {
+        return joined(codes::OPERATOR_AND, i + 3, waits);
+    }
+    NONE
+}
+
+// The operator that joins terms.
+fn plus_at(text: &[u8], from: usize, waits: &mut u32) -> usize
+    ensures { λ r. ⌜ JointIs termJoints (now (text .entry)) from r (now (waits .exit)) ⌝ }
+{
+    let i = word::space_end(text, from);
+    if word::stands(text, i, b"+") {
+        return joined(codes::OPERATOR_PLUS, i + 1, waits);
+    }
+    if word::stands(text, i, b"-") {
+        return joined(codes::OPERATOR_MINUS, i + 1, waits);
+    }
+    if word::stands(text, i, b"OR") {
+        return joined(codes::OPERATOR_OR, i + 2, waits);
+    }
+    NONE
+}
+
+// The operator that compares sums. A pair is asked for before the symbol that it begins with.
+fn compare_at(text: &[u8], from: usize, waits: &mut u32) -> usize
+    ensures { λ r. ⌜ JointIs sumJoints (now (text .entry)) from r (now (waits .exit)) ⌝ }
+{
+    let i = word::space_end(text, from);
+    if word::stands(text, i, b"=") {
+        return joined(codes::OPERATOR_EQUAL, i + 1, waits);
+    }
+    if word::stands(text, i, b"<=") {
+        return joined(codes::OPERATOR_AT_MOST, i + 2, waits);
+    }
+    if word::stands(text, i, b"<>") {
+        return joined(codes::OPERATOR_UNEQUAL, i + 2, waits);
+    }
+    if word::stands(text, i, b"<") {
+        return joined(codes::OPERATOR_LESS, i + 1, waits);
+    }
+    if word::stands(text, i, b">=") {
+        return joined(codes::OPERATOR_AT_LEAST, i + 2, waits);
+    }
+    if word::stands(text, i, b">") {
+        return joined(codes::OPERATOR_GREATER, i + 1, waits);
+    }
+    NONE
+}
+
+// How a sum begins: a minus takes the whole first term, and a plus is passed over.
+fn lead_at(text: &[u8], from: usize, waits: &mut u32) -> usize
+    ensures { λ r. ⌜ LeadIs (now (text .entry)) from r (now (waits .exit)) ⌝ }
+{
+    let i = word::space_end(text, from);
+    if word::stands(text, i, b"-") {
+        *waits = codes::NEGATE;
+        return i + 1;
+    }
+    *waits = NOTHING;
+    if word::stands(text, i, b"+") {
+        return i + 1;
+    }
+    from
+}
+
+// The constant whose first digit stands at a position.
+fn decimal_at(text: &[u8], at: usize, ops: &mut [u32], n: &mut usize) -> usize
+    requires { ⌜ (need 0 (now text) (standing at (now n)) ≤ length (now ops)) × (at < length (now text)) × (isDigit (getD (now text) at 0) ≡ true) ⌝ }
+    ensures { λ r. ⌜ OperandIs (now (text .entry)) (now (ops .entry)) at (now (n .entry)) (now (ops .exit)) r (now (n .exit)) ⌝ }
+{
+    let mut v: u32 = 0;
+    let d = word::decimal_at(text, at, &mut v);
+    if word::LARGEST < v {
+        return NONE;
+    }
+    put(ops, n, codes::operation(codes::CONSTANT, v));
+    d
+}
+
+// The operands that most are: a variable or a decimal constant.
+fn operand_at(text: &[u8], at: usize, ops: &mut [u32], n: &mut usize) -> usize
+    requires { ⌜ (need 0 (now text) (standing at (now n)) ≤ length (now ops)) × (starts isSpace (drop at (now text)) ≡ false) ⌝ }
+    ensures { λ r. ⌜ OperandIs (now (text .entry)) (now (ops .entry)) at (now (n .entry)) (now (ops .exit)) r (now (n .exit)) ⌝ }
+{
+    let b = word::byte_at(text, at);
+    if letter::is_digit(b) {
+        return decimal_at(text, at, ops, n);
+    }
+    if word::is_variable(text, at) {
+        put(
+            ops,
+            n,
+            codes::operation(codes::VARIABLE, wide(b - letter::A)),
+        );
+        return at + 1;
+    }
+    NONE
+}
+
+// The constant whose "#" stands at a position.
+fn hex_at(text: &[u8], at: usize, ops: &mut [u32], n: &mut usize) -> usize
+    requires { ⌜ (need 0 (now text) (standing at (now n)) ≤ length (now ops)) × (getD (now text) at 0 ≡ 35) ⌝ }
+    ensures { λ r. ⌜ MakesAt factor (now (text .entry)) (now (ops .entry)) at (now (n .entry)) (now (ops .exit)) r (now (n .exit)) ⌝ }
+{
+    let from = at + 1;
+    let mut v: u16 = 0;
+    let d = word::hex_at(text, from, &mut v);
+    if d == from {
+        return NONE;
+    }
+    put(ops, n, codes::operation(codes::CONSTANT, wide16(v)));
+    d
+}
+
+// The sign that a factor begins with at a position, by its number; 0 where none does.
+fn form_at(text: &[u8], at: usize) -> u8
+    requires { ⌜ starts isSpace (drop at (now text)) ≡ false ⌝ }
+    ensures { λ k. ⌜ FormIs (now (text .entry)) at k ⌝ }
+{
+    if word::stands(text, at, b"(") {
+        return sign::OPEN;
+    }
+    if word::stands(text, at, b"@") {
+        return sign::AT;
+    }
+    if word::stands(text, at, b"STAT") {
+        return sign::STAT;
+    }
+    if word::stands(text, at, b"TOP") {
+        return sign::TOP;
+    }
+    if word::stands(text, at, b"NOT") {
+        return sign::NOT;
+    }
+    if word::stands(text, at, b"MOD") {
+        return sign::MOD;
+    }
+    0
+}
+
+// A relation, and the symbol that must stand behind it.
+fn closed(text: &[u8], at: usize, k: u8, ops: &mut [u32], n: &mut usize) -> usize
+    requires { ⌜ (need 0 (now text) (standing at (now n)) ≤ length (now ops)) × (isLone k ≡ true) ⌝ }
+    ensures { λ r. ⌜ Closed k (now (text .entry)) (now (ops .entry)) (standing at (now (n .entry))) (now (ops .exit)) (madeOf r (now (n .exit))) ⌝ }
+{
+    let d = relation_at(text, at, ops, n);
+    if d == NONE {
+        return NONE;
+    }
+    word::past_symbol(text, d, k)
+}
+
+// What stands behind MOD.
+fn modulo_at(text: &[u8], at: usize, ops: &mut [u32], n: &mut usize) -> usize
+    requires { ⌜ need 0 (now text) (standing at (now n)) ≤ length (now ops) ⌝ }
+    ensures { λ r. ⌜ Makes pairing values (now (text .entry)) (now (ops .entry)) (standing at (now (n .entry))) (now (ops .exit)) (madeOf r (now (n .exit))) ⌝ }
+{
+    let a = word::past_symbol(text, at, sign::OPEN);
+    if a == NONE {
+        return NONE;
+    }
+    let b = closed(text, a, sign::COMMA, ops, n);
+    if b == NONE {
+        return NONE;
+    }
+    let c = closed(text, b, sign::CLOSE, ops, n);
+    if c == NONE {
+        return NONE;
+    }
+    put(ops, n, codes::MOD);
+    c
+}
+
+// A factor that is neither a variable nor a decimal constant: another constant, STAT or TOP; a relation in parentheses;
+// "@" or NOT before a factor; MOD of two relations.
+fn factor_rest(text: &[u8], at: usize, ops: &mut [u32], n: &mut usize) -> usize
+    requires { ⌜ (need 0 (now text) (standing at (now n)) ≤ length (now ops)) × Rest (now text) at ⌝ }
+    ensures { λ r. ⌜ MakesAt factor (now (text .entry)) (now (ops .entry)) at (now (n .entry)) (now (ops .exit)) r (now (n .exit)) ⌝ }
+{
+    if word::byte_at(text, at) == word::HASH {
+        return hex_at(text, at, ops, n);
+    }
+    match form_at(text, at) {
+        sign::OPEN => closed(text, at + 1, sign::CLOSE, ops, n),
+        sign::AT => followed(text, at + 1, codes::BYTE, ops, n),
+        sign::STAT => {
+            put(ops, n, codes::STAT);
+            at + 4
+        }
+        sign::TOP => {
+            put(ops, n, codes::TOP);
+            at + 3
+        }
+        sign::NOT => followed(text, at + 3, codes::NOT, ops, n),
+        sign::MOD => modulo_at(text, at + 3, ops, n),
+        _ => NONE,
     }
 }
 
-// How a factor begins.
-fn atom_at(text: &[u8], r: Made) -> Atom
-    ensures { λ a. ⌜ AtomIs (now (text .entry)) r a ⌝ }
+// A factor.
+fn factor_at(text: &[u8], from: usize, ops: &mut [u32], n: &mut usize) -> usize
+    requires { ⌜ need 0 (now text) (standing from (now n)) ≤ length (now ops) ⌝ }
+    ensures { λ r. ⌜ MakesAt factor (now (text .entry)) (now (ops .entry)) from (now (n .entry)) (now (ops .exit)) r (now (n .exit)) ⌝ }
 {
-    let Made::Next(c, o) = r else {
-        return Atom::Other;
-    };
-    let w = word::word_at(text, c);
-    match w {
-        Word::Variable(v, p) => Atom::Whole(
-            codes::operation(codes::VARIABLE, wide(v)),
-            Made::Next(p, o),
-        ),
-        Word::Decimal(n, p) => Atom::Whole(
-            codes::operation(codes::CONSTANT, wide16(n)),
-            Made::Next(p, o),
-        ),
-        Word::Hex(n, p) => Atom::Whole(
-            codes::operation(codes::CONSTANT, wide16(n)),
-            Made::Next(p, o),
-        ),
-        Word::Sign(k, p) => form(k, Made::Next(p, o)),
-        _ => Atom::Other,
+    let i = word::space_end(text, from);
+    let d = operand_at(text, i, ops, n);
+    if d != NONE {
+        return d;
+    }
+    factor_rest(text, i, ops, n)
+}
+
+// A factor, and the operation that waits for it, if any.
+fn followed(text: &[u8], from: usize, v: u32, ops: &mut [u32], n: &mut usize) -> usize
+    requires { ⌜ need (waiting v) (now text) (standing from (now n)) ≤ length (now ops) ⌝ }
+    ensures { λ r. ⌜ Followed v (now (text .entry)) (now (ops .entry)) (standing from (now (n .entry))) (now (ops .exit)) (madeOf r (now (n .exit))) ⌝ }
+{
+    let d = factor_at(text, from, ops, n);
+    if d == NONE {
+        return NONE;
+    }
+    settle(ops, n, v);
+    d
+}
+
+// A factor, and those joined to it by * / AND.
+fn term_at(text: &[u8], from: usize, ops: &mut [u32], n: &mut usize) -> usize
+    requires { ⌜ need 0 (now text) (standing from (now n)) ≤ length (now ops) ⌝ }
+    ensures { λ r. ⌜ MakesAt term (now (text .entry)) (now (ops .entry)) from (now (n .entry)) (now (ops .exit)) r (now (n .exit)) ⌝ }
+{
+    let mut waits = NOTHING;
+    let mut at = from;
+    loop {
+        let d = followed(text, at, waits, ops, n);
+        if d == NONE {
+            return NONE;
+        }
+        at = times_at(text, d, &mut waits);
+        if at == NONE {
+            return d;
+        }
     }
 }
 
-// A variable, a constant, STAT or TOP; a relation in parentheses; "@" or NOT before a factor; MOD of two relations.
-fn factor_from(text: &[u8], c: Cursor, o: usize, ops: &mut [u32]) -> Made
-    requires { ⌜ need 0 (now text) (Made.Next c o) ≤ length (now ops) ⌝ }
-    ensures { λ s. ⌜ Makes (read factor) values (now (text .entry)) (now (ops .entry)) (Made.Next c o) (now (ops .exit)) s ⌝ }
+// A sign or none, a term, and those joined to it by + - OR.
+fn sum_at(text: &[u8], from: usize, ops: &mut [u32], n: &mut usize) -> usize
+    requires { ⌜ need 0 (now text) (standing from (now n)) ≤ length (now ops) ⌝ }
+    ensures { λ r. ⌜ MakesAt sum (now (text .entry)) (now (ops .entry)) from (now (n .entry)) (now (ops .exit)) r (now (n .exit)) ⌝ }
 {
-    let a = atom_at(text, Made::Next(c, o));
-    match a {
-        Atom::Whole(v, m) => write(ops, m, v),
-        Atom::Prefix(v, m) => {
-            let f = read_factor(text, m, ops);
-            write(ops, f, v)
+    let mut waits = NOTHING;
+    let mut at = lead_at(text, from, &mut waits);
+    loop {
+        let d = term_at(text, at, ops, n);
+        if d == NONE {
+            return NONE;
         }
-        Atom::Bracket(m) => {
-            let e = read_relation(text, m, ops);
-            past_sign(text, e, sign::CLOSE)
+        settle(ops, n, waits);
+        at = plus_at(text, d, &mut waits);
+        if at == NONE {
+            return d;
         }
-        Atom::Modulo(m) => {
-            let b = past_sign(text, m, sign::OPEN);
-            let d = read_relation(text, b, ops);
-            let e = past_sign(text, d, sign::COMMA);
-            let f = read_relation(text, e, ops);
-            let g = past_sign(text, f, sign::CLOSE);
-            write(ops, g, codes::MOD)
-        }
-        Atom::Other => Made::NoReading,
     }
+}
+
+// A sum, and another that it is compared with, if any.
+fn relation_at(text: &[u8], from: usize, ops: &mut [u32], n: &mut usize) -> usize
+    requires { ⌜ need 0 (now text) (standing from (now n)) ≤ length (now ops) ⌝ }
+    ensures { λ r. ⌜ MakesAt relation (now (text .entry)) (now (ops .entry)) from (now (n .entry)) (now (ops .exit)) r (now (n .exit)) ⌝ }
+{
+    let mut waits = NOTHING;
+    let mut at = from;
+    loop {
+        let d = sum_at(text, at, ops, n);
+        if d == NONE {
+            return NONE;
+        }
+        if waits != NOTHING {
+            put(ops, n, waits);
+            return d;
+        }
+        at = compare_at(text, d, &mut waits);
+        if at == NONE {
+            return d;
+        }
+    }
+}
+
+// The state at a position with so many operations; no reading at 0.
+fn state_at(at: usize, n: usize) -> Made
+    ensures { λ s. ⌜ s ≡ madeOf at n ⌝ }
+{
+    if at == NONE {
+        return Made::NoReading;
+    }
+    Made::Next(Cursor { at: at }, n)
 }
 
 // A factor from a state on.
@@ -273,132 +434,9 @@ pub fn read_factor(text: &[u8], r: Made, ops: &mut [u32]) -> Made
     let Made::Next(c, o) = r else {
         return Made::NoReading;
     };
-    factor_from(text, c, o, ops)
-}
-
-// A factor, and those joined to it by * / AND.
-fn term_from(text: &[u8], c: Cursor, o: usize, ops: &mut [u32]) -> Made
-    requires { ⌜ need 0 (now text) (Made.Next c o) ≤ length (now ops) ⌝ }
-    ensures { λ s. ⌜ Makes (read term) values (now (text .entry)) (now (ops .entry)) (Made.Next c o) (now (ops .exit)) s ⌝ }
-{
-    let mut s = factor_from(text, c, o, ops);
-    loop {
-        let Made::Next(d, n) = s else {
-            return Made::NoReading;
-        };
-        let j = joint_at(text, Made::Next(d, n), FACTORS);
-        let Joined::By(v, m) = j else {
-            return Made::Next(d, n);
-        };
-        let f = read_factor(text, m, ops);
-        s = write(ops, f, v);
-    }
-}
-
-// A term from a state on.
-fn read_term(text: &[u8], r: Made, ops: &mut [u32]) -> Made
-    requires { ⌜ need 0 (now text) r ≤ length (now ops) ⌝ }
-    ensures { λ s. ⌜ Makes (read term) values (now (text .entry)) (now (ops .entry)) r (now (ops .exit)) s ⌝ }
-{
-    let Made::Next(c, o) = r else {
-        return Made::NoReading;
-    };
-    term_from(text, c, o, ops)
-}
-
-// Whether a sign before a sum can begin with a byte.
-fn may_lead(b: u8) -> bool
-    ensures { λ r. ⌜ r ≡ mayLead b ⌝ }
-{
-    match b {
-        sign::PLUS => true,
-        sign::MINUS => true,
-        _ => false,
-    }
-}
-
-// How a sum begins: a minus takes the whole first term, and a plus is passed over.
-fn lead_at(text: &[u8], r: Made) -> Lead
-    ensures { λ l. ⌜ LeadIs (now (text .entry)) r l ⌝ }
-{
-    if !may_lead(first_of(text, r)) {
-        return Lead::Plain(r);
-    }
-    let w = sign_at(text, r);
-    let Signed::By(k, m) = w else {
-        return Lead::Plain(r);
-    };
-    if k == sign::MINUS {
-        return Lead::Minus(m);
-    }
-    if k == sign::PLUS {
-        return Lead::Plain(m);
-    }
-    Lead::Plain(r)
-}
-
-// A sign or none, and the first term of a sum.
-fn first_term(text: &[u8], c: Cursor, o: usize, ops: &mut [u32]) -> Made
-    requires { ⌜ need 0 (now text) (Made.Next c o) ≤ length (now ops) ⌝ }
-    ensures { λ s. ⌜ FirstTerm (now (text .entry)) (now (ops .entry)) (Made.Next c o) (now (ops .exit)) s ⌝ }
-{
-    let l = lead_at(text, Made::Next(c, o));
-    match l {
-        Lead::Minus(m) => {
-            let t = read_term(text, m, ops);
-            write(ops, t, codes::NEGATE)
-        }
-        Lead::Plain(m) => read_term(text, m, ops),
-    }
-}
-
-// A sign or none, a term, and those joined to it by + - OR.
-fn sum_from(text: &[u8], c: Cursor, o: usize, ops: &mut [u32]) -> Made
-    requires { ⌜ need 0 (now text) (Made.Next c o) ≤ length (now ops) ⌝ }
-    ensures { λ s. ⌜ Makes (read sum) values (now (text .entry)) (now (ops .entry)) (Made.Next c o) (now (ops .exit)) s ⌝ }
-{
-    let mut s = first_term(text, c, o, ops);
-    loop {
-        let Made::Next(d, n) = s else {
-            return Made::NoReading;
-        };
-        let j = joint_at(text, Made::Next(d, n), TERMS);
-        let Joined::By(v, m) = j else {
-            return Made::Next(d, n);
-        };
-        let f = read_term(text, m, ops);
-        s = write(ops, f, v);
-    }
-}
-
-// A sum from a state on.
-fn read_sum(text: &[u8], r: Made, ops: &mut [u32]) -> Made
-    requires { ⌜ need 0 (now text) r ≤ length (now ops) ⌝ }
-    ensures { λ s. ⌜ Makes (read sum) values (now (text .entry)) (now (ops .entry)) r (now (ops .exit)) s ⌝ }
-{
-    let Made::Next(c, o) = r else {
-        return Made::NoReading;
-    };
-    sum_from(text, c, o, ops)
-}
-
-// A sum, and another that it is compared with, if any.
-fn relation_from(text: &[u8], c: Cursor, o: usize, ops: &mut [u32]) -> Made
-    requires { ⌜ need 0 (now text) (Made.Next c o) ≤ length (now ops) ⌝ }
-    ensures { λ s. ⌜ Makes (read relation) values (now (text .entry)) (now (ops .entry)) (Made.Next c o) (now (ops .exit)) s ⌝ }
-{
-    let f = sum_from(text, c, o, ops);
-    let Made::Next(d, n) = f else {
-        return Made::NoReading;
-    };
-    let j = joint_at(text, Made::Next(d, n), SUMS);
-    match j {
-        Joined::By(v, m) => {
-            let g = read_sum(text, m, ops);
-            write(ops, g, v)
-        }
-        Joined::Alone => Made::Next(d, n),
-    }
+    let mut n = o;
+    let d = factor_at(text, c.at, ops, &mut n);
+    state_at(d, n)
 }
 
 // A relation from a state on.
@@ -409,5 +447,7 @@ pub fn read_relation(text: &[u8], r: Made, ops: &mut [u32]) -> Made
     let Made::Next(c, o) = r else {
         return Made::NoReading;
     };
-    relation_from(text, c, o, ops)
+    let mut n = o;
+    let d = relation_at(text, c.at, ops, &mut n);
+    state_at(d, n)
 }

@@ -164,7 +164,7 @@ asked f g text from i e End w = tt
 asked f g text from i e (Wrong c) w = rw e w
 
 module _ (table : List (List ℕ)) (text : List ℕ) (from i : ℕ) (e : i ≡ runEnd isSpace text from) where
-  at-word : stepIn table (drop from text) ≡ stepIn table (drop i text)
+  pub at-word : stepIn table (drop from text) ≡ stepIn table (drop i text)
   at-word = step-past table (drop from text) ∙ ap (stepIn table) (rest-at isSpace text from i e)
 
   at-left : gaveUp table (drop from text) ≡ gaveUp table (drop i text)

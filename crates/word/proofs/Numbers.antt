@@ -4,7 +4,7 @@ use mathlib.Core.Path.{_≡_, _∙_, refl, ap, sym}
 use mathlib.Core.Bool.{Bool, true, false, _&&_, _||_, false≢true}
 use mathlib.Core.List.{List, [], _∷_}
 use native.Mathlib.Omega.{arith}
-use borrow.Author.Tests.{le-leb, lt-leb}
+use borrow.Author.Tests.{le-leb, lt-leb, eq-eqb, ne-eqb}
 use lib.Dec.{leb}
 use lib.ListN.{length, drop, getD, length-drop}
 use Rattle.nibl.specs.Bytes.{isDigit, isHexDigit, starts, front, past, decimalValue, hexValue}
@@ -12,8 +12,22 @@ use Rattle.nibl.specs.Words.{hex}
 use Rattle.nibl.specs.found.Read.{got, hexStep}
 use Rattle.nibl.specs.found.GaveUp.{pastLargest}
 use Rattle.word.specs.declared.Word.the-variants.{Decimal, Hex, Wrong}
-use Rattle.word.specs.Found.{hexDigit, decimalAt, decimalLeft, hexAt, AnswerIs}
+use Rattle.word.specs.Found.{hexDigit, decimalAt, decimalLeft, decimalWord, hexAt, hexWord, AnswerIs}
 use Rattle.word.proofs.Runs.{at-byte, between, runEnd, run-cons, front-stop, end-go, end-stop, end-past, rest-stop}
+
+-- the word that digits are, by their value
+pub word-small : (v at : ℕ) → v ≤ 32767 → decimalWord v at ≡ Decimal v (record { at = at })
+word-small v at h = rw (le-leb v 32767 h) refl
+
+pub word-large : (v at : ℕ) → 32767 < v → decimalWord v at ≡ Wrong (record { at = at })
+word-large v at h = rw (lt-leb v 32767 h) refl
+
+-- and hex digits, by where they end
+pub word-none : (from v at : ℕ) → at ≡ from → hexWord from v at ≡ Wrong (record { at = at })
+word-none from v at e = rw (eq-eqb at from e) refl
+
+pub word-some : (from v at : ℕ) → (at ≡ from → ⊥) → hexWord from v at ≡ Hex v (record { at = at })
+word-some from v at n = rw (ne-eqb at from n) refl
 
 -- v is the value of the digits from `from` up to i, none of which passes the largest
 pub record Counted (text : List ℕ) (from v i : ℕ) : Type 0 where

@@ -6,7 +6,7 @@ use mathlib.Core.List.{List, [], _∷_, map}
 use lib.Dec.{eqb, leb}
 use lib.ListN.{length, take, drop}
 use lib.Seq.{slice}
-use Rattle.nibl.specs.Bytes.{if_then_else_, classSpace, classCapital, isSpace, isDigit, isCapital, isHexDigit, isQuotable, front, past, decimalValue, byte}
+use Rattle.nibl.specs.Bytes.{if_then_else_, classSpace, classCapital, isSpace, isDigit, isCapital, isHexDigit, isQuotable, front, past, decimalValue, byte, bytes}
 use Rattle.nibl.specs.Words.{variable, decimal, hex, string, sign, keywords, commands, isSymbol, firstKeyword, number}
 use Rattle.nibl.specs.found.Read.{FrontWord, atEnd, wrong, got, lettersStep, digitsStep, hexStep, quotedStep, symbolStep, stepIn}
 use Rattle.nibl.specs.found.GaveUp.{mostCommon, pastLargest, gaveUp}
@@ -124,6 +124,14 @@ decimalAt s = digitsStep (decimalValue 0 (front isDigit s)) (past isDigit s)
 abbrev pub decimalLeft : List ℕ → ℕ
 decimalLeft s = length (pastLargest 0 s)
 
+-- the word that digits of the value v are, read up to a position: none where that is too large; and of hex digits from `from` on, none
+-- where there are none
+abbrev pub decimalWord : ℕ → ℕ → Word
+decimalWord v at = if leb v largest then Decimal v (record { at = at }) else Wrong (record { at = at })
+
+abbrev pub hexWord : ℕ → ℕ → ℕ → Word
+hexWord from v at = if eqb at from then Wrong (record { at = at }) else Hex v (record { at = at })
+
 -- past the "#", and past the opening quote
 abbrev pub hexAt : List ℕ → FrontWord
 hexAt s = hexStep (front isHexDigit s) (past isHexDigit s)
@@ -148,10 +156,20 @@ spelling [] n = []
 spelling (w ∷ ws) zero = w
 spelling (w ∷ ws) (suc n) = spelling ws n
 
--- the byte that a sign begins with: a keyword by its first letter, <= and <> by "<", >= by ">", a symbol by itself
-abbrev pub beginning : ℕ → ℕ
-beginning k =
-    if leb firstKeyword k then firstOf (spelling keywords (k - firstKeyword))
-    else if eqb k (number "<=") || eqb k (number "<>") then byte "<"
-    else if eqb k (number ">=") then byte ">"
-    else k
+-- how a sign is spelled: a keyword by its letters, a pair by its two bytes, a symbol by itself
+abbrev pub spelt : ℕ → List ℕ
+spelt k =
+    if leb firstKeyword k then spelling keywords (k - firstKeyword)
+    else if eqb k (number "<=") then bytes "<="
+    else if eqb k (number ">=") then bytes ">="
+    else if eqb k (number "<>") then bytes "<>"
+    else k ∷ []
+
+-- a symbol that begins no pair
+abbrev pub isLone : ℕ → Bool
+isLone b = isSymbol b && not (eqb b (byte "<") || eqb b (byte ">"))
+
+-- the position past the sign k where it stands next, or 0
+pub data PastIs (k : ℕ) (text : List ℕ) (from : ℕ) : ℕ → Type 0 where
+  there : {r : ℕ} → stepIn keywords (drop from text) ≡ got (sign k) (drop r text) → from < r → r ≤ length text → PastIs k text from r
+  notThere : ((t : List ℕ) → stepIn keywords (drop from text) ≡ got (sign k) t → ⊥) → PastIs k text from 0

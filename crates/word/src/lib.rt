@@ -2,14 +2,14 @@
 use letter::class;
 ghost use Prim.Native.Nat.{_+_, _-_, _*_, _%_, _≤_, _<_};
 ghost use mathlib.Core.Path.{_≡_};
-ghost use mathlib.Core.Bool.{true};
+ghost use mathlib.Core.Bool.{true, not, _&&_};
 ghost use lib.ListN.{length, take, drop, getD};
 ghost use lib.Seq.{slice, sets};
 ghost use Rattle.nibl.specs.Bytes.{isDigit, isCapital, isHexDigit, isSpace, isQuotable, starts, front, past, all};
-ghost use Rattle.nibl.specs.Words.{keywords, commands, isSymbol, pairs, numberOr, firstKeyword};
+ghost use Rattle.nibl.specs.Words.{keywords, commands, isSymbol, pairs, numberOr, firstKeyword, begins};
 ghost use Rattle.nibl.specs.found.GaveUp.{mostCommon};
-ghost use Rattle.word.specs.Found.{passing, keyOf, spelledKey, longestKeyword, keyIndex, keyCommon, mostKey, spellingsOf, keysOf, hexDigit, firstOf, mayCommand};
-ghost use Rattle.word.specs.Found.{AnswerIs, WordIs, lettersAt, lettersLeft, decimalAt, decimalLeft, hexAt, quotedAt, quotedLeft, symbolAt};
+ghost use Rattle.word.specs.Found.{passing, keyOf, spelledKey, longestKeyword, keyIndex, keyCommon, mostKey, spellingsOf, keysOf, hexDigit, firstOf, mayCommand, isLone, PastIs};
+ghost use Rattle.word.specs.Found.{AnswerIs, WordIs, lettersAt, lettersLeft, decimalAt, decimalLeft, decimalWord, hexAt, hexWord, quotedAt, quotedLeft, symbolAt};
 
 pub mod sign;
 
@@ -35,13 +35,13 @@ pub enum Word {
 }
 
 // The largest decimal constant.
-const LARGEST: u32 = 32767;
+pub const LARGEST: u32 = 32767;
 
 // The most letters that a keyword has.
 const LONGEST_KEYWORD: usize = 6;
 
 // What a hex constant begins with.
-const HASH: u8 = 35;
+pub const HASH: u8 = 35;
 
 // The keywords in document 01's order, LET first and NOT last. A spelling is one number, its first letter in the
 // lowest byte: it is compared at one blow, and read from right to left it shows in the hexadecimal digits.
@@ -307,10 +307,11 @@ fn digit(b: u8) -> u32
     (b - nibl::ZERO) as u32
 }
 
-// The constant whose first digit stands at `from`. Once it is too large, more digits keep it so: no word goes on past the digit that passes.
-fn decimal(text: &[u8], from: usize) -> Word
+// The value of the digits at `from`, lent, and the position past them. Once it is too large, more digits keep it so: no word goes on
+// past the digit that passes, which is the position then.
+pub fn decimal_at(text: &[u8], from: usize, value: &mut u32) -> usize
     requires { ⌜ (from < length (now text)) × (isDigit (getD (now text) from 0) ≡ true) ⌝ }
-    ensures { λ r. ⌜ AnswerIs decimalAt decimalLeft (now (text .entry)) from r ⌝ }
+    ensures { λ r. ⌜ AnswerIs decimalAt decimalLeft (now (text .entry)) from (decimalWord (now (value .exit)) r) ⌝ }
 {
     let mut v: u32 = 0;
     let mut i = from;
@@ -321,9 +322,24 @@ fn decimal(text: &[u8], from: usize) -> Word
         }
         v = v * 10 + digit(b);
         if LARGEST < v {
-            return Word::Wrong(Cursor { at: i });
+            *value = v;
+            return i;
         }
         i += 1;
+    }
+    *value = v;
+    i
+}
+
+// The constant whose first digit stands at `from`.
+fn decimal(text: &[u8], from: usize) -> Word
+    requires { ⌜ (from < length (now text)) × (isDigit (getD (now text) from 0) ≡ true) ⌝ }
+    ensures { λ r. ⌜ AnswerIs decimalAt decimalLeft (now (text .entry)) from r ⌝ }
+{
+    let mut v: u32 = 0;
+    let i = decimal_at(text, from, &mut v);
+    if LARGEST < v {
+        return Word::Wrong(Cursor { at: i });
     }
     Word::Decimal(v as u16, Cursor { at: i })
 }
@@ -346,10 +362,10 @@ fn shifted(v: u16, b: u8) -> u16
     v % 4096 * 16 + hex_digit(b)
 }
 
-// The constant whose digits start at `from`, past the "#": its low 16 bits.
-fn hex(text: &[u8], from: usize) -> Word
+// The low 16 bits of the value of the hex digits at `from`, lent, and the position past them: `from` where there are none.
+pub fn hex_at(text: &[u8], from: usize, value: &mut u16) -> usize
     requires { ⌜ from ≤ length (now text) ⌝ }
-    ensures { λ r. ⌜ AnswerIs hexAt length (now (text .entry)) from r ⌝ }
+    ensures { λ r. ⌜ AnswerIs hexAt length (now (text .entry)) from (hexWord from (now (value .exit)) r) ⌝ }
 {
     let mut v: u16 = 0;
     let mut i = from;
@@ -361,8 +377,19 @@ fn hex(text: &[u8], from: usize) -> Word
         v = shifted(v, b);
         i += 1;
     }
+    *value = v;
+    i
+}
+
+// The constant whose digits start at `from`, past the "#".
+fn hex(text: &[u8], from: usize) -> Word
+    requires { ⌜ from ≤ length (now text) ⌝ }
+    ensures { λ r. ⌜ AnswerIs hexAt length (now (text .entry)) from r ⌝ }
+{
+    let mut v: u16 = 0;
+    let i = hex_at(text, from, &mut v);
     if i == from {
-        return Word::Wrong(Cursor { at: from });
+        return Word::Wrong(Cursor { at: i });
     }
     Word::Hex(v, Cursor { at: i })
 }
@@ -465,6 +492,63 @@ pub fn command_at(text: &[u8], c: Cursor) -> Word
 {
     let from = c.at;
     word_in(text, from, true)
+}
+
+// Where the spaces from a position on end.
+pub fn space_end(text: &[u8], from: usize) -> usize
+    ensures { λ r. ⌜ r ≡ from + length (front isSpace (drop from (now (text .entry)))) ⌝ }
+{
+    run_end(text, from, class::SPACE)
+}
+
+// The byte at a position; 0 where the text has ended.
+pub fn byte_at(text: &[u8], at: usize) -> u8
+    ensures { λ r. ⌜ r ≡ getD (now (text .entry)) at 0 ⌝ }
+{
+    if at < text.len() {
+        return text[at];
+    }
+    0
+}
+
+// Whether a spelling stands at a position.
+pub fn stands(text: &[u8], at: usize, spelling: &[u8]) -> bool
+    ensures { λ r. ⌜ r ≡ begins (now (spelling .entry)) (drop at (now (text .entry))) ⌝ }
+{
+    let mut i = 0;
+    while i < spelling.len() {
+        let k = at + i;
+        if text.len() <= k {
+            return false;
+        }
+        if text[k] != spelling[i] {
+            return false;
+        }
+        i += 1;
+    }
+    true
+}
+
+// Past a symbol that begins no pair, where it stands next; 0 where it does not.
+pub fn past_symbol(text: &[u8], from: usize, b: u8) -> usize
+    requires { ⌜ isLone b ≡ true ⌝ }
+    ensures { λ r. ⌜ PastIs b (now (text .entry)) from r ⌝ }
+{
+    let i = space_end(text, from);
+    if byte_at(text, i) == b {
+        return i + 1;
+    }
+    0
+}
+
+// Whether a variable stands at a position: a letter that no letter follows.
+pub fn is_variable(text: &[u8], at: usize) -> bool
+    ensures { λ r. ⌜ r ≡ (starts isCapital (drop at (now (text .entry))) && not (starts isCapital (drop (at + 1) (now (text .entry))))) ⌝ }
+{
+    if !letter_at(text, at) {
+        return false;
+    }
+    !letter_at(text, at + 1)
 }
 
 // The first byte of the word at a cursor, past any spaces; 0 where nothing but spaces follows.

@@ -1,69 +1,18 @@
--- `word::decimal` meets its contract: `v` is the value of the digits passed. Assumes nothing.
-use mathlib.Core.Bool.{false}
-use Prim.Native.Nat.{_-_, _≤_}
-use mathlib.Core.Path.{_≡_, refl, _∙_, sym}
-use mathlib.Core.Logic.{⊎-elim}
+use mathlib.Core.Path.{subst}
 use native.Mathlib.Omega.{arith}
-use borrow.Author.Needs.{needs}
-use borrow.Author.Tests.{not-true, not-false}
-use lib.ListN.{length, drop}
-use Rattle.nibl.specs.Bytes.{isDigit, starts}
-use Rattle.word.proofs.Runs.{stops-at, stops-end}
-use Rattle.word.proofs.Numbers.{Counted, counted-go, counted-stop, counted-large}
+use Rattle.word.specs.Found.{AnswerIs, decimalAt, decimalLeft}
+use Rattle.word.proofs.Numbers.{word-small, word-large}
 use Rattle.word.proofs.decimal.Statement.{statement}
 use Rattle.word.proofs.decimal.Tie as tie
 
-abbrev Inv-loop : tie.InvT-loop
-Inv-loop text from v₀ i₀ v i = (i ≤ length text) × (v ≤ 32767) × Counted text from v i
+returns : tie.Need-returns
+returns c = subst (AnswerIs decimalAt decimalLeft _ _) (word-large _ _ (c .if1 .taken)) (c .before .decimal-at .ensures)
 
-abbrev μ-loop : tie.MeasureT-loop
-μ-loop text from v₀ i₀ v i = length text - i
+cast-t9 : tie.Need-cast-t9
+cast-t9 c = omega (arith, c .before .if1 .left)
 
-loop-holds : tie.Need-loop-holds Inv-loop μ-loop
-loop-holds c = (search needs, search needs, record { value = refl; end = refl; left = refl })
-
-shared-slice-read-b : tie.Need-shared-slice-read-b Inv-loop μ-loop
-shared-slice-read-b c = search needs
-
-is-digit-requires : tie.Need-is-digit-requires Inv-loop μ-loop
-is-digit-requires c κs = search needs
-
-mul-v : tie.Need-mul-v Inv-loop μ-loop
-mul-v c = omega arith
-
-digit-requires : tie.Need-digit-requires Inv-loop μ-loop
-digit-requires c κs = sym (c .before .is-digit .ensures) ∙ not-false _ (c .if1 .left)
-
-add-v : tie.Need-add-v Inv-loop μ-loop
-add-v c = omega arith
-
-returns : tie.Need-returns Inv-loop μ-loop
-returns c =
-    let l = c .before .before .before .before .before .before .loop in
-    counted-large (l .inv .2) (c .before .digit .result) (omega arith) (sym (c .before .before .before .is-digit .ensures) ∙ not-false _ (c .before .before .if1 .left)) (c .before .digit .ensures .0) (c .if2 .taken)
-
-add-i : tie.Need-add-i Inv-loop μ-loop
-add-i c = omega arith
-
-loop-less : tie.Need-loop-less Inv-loop μ-loop
-loop-less c = omega arith
-
-loop-again : tie.Need-loop-again Inv-loop μ-loop
-loop-again c =
-    let l = c .before .before .before .before .before .before .loop in
-    (omega arith, omega arith, counted-go (l .inv .2) (c .before .digit .result) (omega arith) (sym (c .before .before .before .is-digit .ensures) ∙ not-false _ (c .before .before .if1 .left)) (c .before .digit .ensures .0) (omega arith))
-
-cast-t14 : tie.Need-cast-t14 Inv-loop μ-loop
-cast-t14 c = omega arith
-
-returns-2 : tie.Need-returns-2 Inv-loop μ-loop
-returns-2 c =
-    let a = c .before .before .before .args in
-    let l = c .before .loop in
-    let stops : starts isDigit (drop (l .i) (a .text .now)) ≡ false =
-    ⊎-elim (λ w. stops-end isDigit (a .text .now) (l .i) (w .left))
-    (λ w. stops-at isDigit (a .text .now) (l .i) (w .0 .taken) (sym (w .2 .ensures) ∙ not-true _ (w .3 .taken))) (c .loop-test .came) in
-    counted-stop (l .inv .2) (c .before .before .before .pre .0) (c .before .before .before .pre .1) (l .inv .0) (l .inv .1) stops
+returns-2 : tie.Need-returns-2
+returns-2 c = subst (AnswerIs decimalAt decimalLeft _ _) (word-small _ _ (c .before .if1 .left)) (c .before .before .decimal-at .ensures)
 
 pub decimal-spec : {M : Type 1} → statement M
-decimal-spec = tie.close (tie.spec Inv-loop μ-loop loop-holds shared-slice-read-b is-digit-requires mul-v digit-requires add-v returns add-i loop-less loop-again cast-t14 returns-2)
+decimal-spec = tie.close (tie.spec (λ c κs. c .before .before .pre) returns cast-t9 returns-2)
