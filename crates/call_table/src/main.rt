@@ -7,6 +7,7 @@
 // Below a case's name each call has a row: the stop with its line, the steps, the column, both positions, the flags, the pause,
 // the stacks, the variables, the sums of page, memory and output, the bytes that were written, at most the first 40, and the
 // table's sum with its first 12 numbers.
+#![tactic(auto)]
 ghost use Rattle.std.specs.Prelude.{◌≤◌, ◌<◌, length, ◌≡◌};
 
 use nibl::{Answer, Call, ForEntry, ForStack, Place, PlaceStack, Session};

@@ -1,5 +1,6 @@
 // A rule set carried to another box: the saved form, the call that writes one and the call that takes one, by value as the other calls.
 // Everything that a call may refuse is known before it writes its first byte.
+#![tactic(auto)]
 ghost use Rattle.std.specs.Prelude.{◌+◌, ◌≤◌, ◌≡◌, ◌&&◌, List, [], ◌++◌, ◌∷◌, length, drop};
 ghost use Rattle.std.proofs.lemmas.List.Edits.{sets};
 ghost use Rattle.nibl.specs.Typing.{limit};
@@ -33,7 +34,7 @@ const COUNT: usize = 2;
 const MARK: usize = 2;
 
 // A slice that was opened: where the records end that it carries, or 22 or 23.
-#[derive(Drop)]
+#[derive(Clone, Copy)]
 enum Opened {
     Form(usize),
     No(u8),

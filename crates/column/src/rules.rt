@@ -371,7 +371,7 @@ fn rule(x: u8, k: u8) -> u32
 }
 
 // Of what may come: where the first stands that begins with a word, and what may come after that word; 0 where none does.
-#[derive(Drop)]
+#[derive(Clone, Copy)]
 pub struct Turn {
     pub at: usize,
     pub after: u32,

@@ -10,7 +10,7 @@ use crate::rules::{push, seek};
 use word::{Cursor, Word};
 
 // All of a text's words were taken; or where it could not go on.
-#[derive(Drop)]
+#[derive(Clone, Copy)]
 pub enum Verdict {
     Alive,
     Stuck(usize),
@@ -18,7 +18,7 @@ pub enum Verdict {
 
 // What stands at a position: nothing but spaces; no word, and where none could go on; or a word, as the rules know it, and where
 // it ends.
-#[derive(Drop)]
+#[derive(Clone, Copy)]
 enum Next {
     End,
     Wrong(usize),

@@ -1,1 +1,2 @@
 // No code: the demands as theorems over the definition, in proofs/.
+#![tactic(auto)]

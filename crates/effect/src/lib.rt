@@ -1,5 +1,6 @@
 // What one operation does to the world: memory, output, stacks, variables, the positions.
 // The record is taken apart: the variables are lent, the rest and the call's positions go by value, as `Parts`.
+#![tactic(auto)]
 ghost use Rattle.std.specs.Prelude.{◌+◌, ◌≤◌, ◌%◌, [], ◌∷◌, ◌≡◌, leb, eqb, length, set};
 ghost use Rattle.nibl.specs.Bytes.{if◌then◌else◌, byte_cr, byte_lf};
 ghost use Rattle.nibl.specs.Meaning.{on, skip, stop};
@@ -20,14 +21,14 @@ use world::memory::{Extent, StoreEnd};
 use world::{input, jump, memory};
 
 // How a statement ended, and the parts then.
-#[derive(Drop)]
+#[derive(Clone, Copy)]
 pub struct Did {
     pub way: Way,
     pub parts: Parts,
 }
 
 // How an operation ended that acts at once; or that it needs the parts, and is not done.
-#[derive(Drop)]
+#[derive(Clone, Copy)]
 pub enum AtOnce {
     Acts(Way),
     Not,

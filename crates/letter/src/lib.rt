@@ -1,4 +1,5 @@
 // The class of each byte value, and gathering a typed line.
+#![tactic(auto)]
 ghost use Rattle.std.specs.Prelude.{◌-◌, ◌≤◌, ◌<◌, ◌≡◌, ◌++◌, eqb, length, take, drop, replicate};
 ghost use Rattle.nibl.specs.Bytes.{class_of, class_quote, class_other, is_space, is_digit, is_capital, is_hex_digit, is_text, is_quotable};
 ghost use Rattle.nibl.specs.Typing.{keep, gather as gathered};
@@ -413,7 +414,7 @@ pub fn is_quotable(b: u8) -> bool
 }
 
 // What gathering found. Positions are those of the input.
-#[derive(Drop)]
+#[derive(Clone, Copy)]
 pub enum Gathering {
     // The position after the CR, and how many bytes were kept.
     Line(usize, usize),
@@ -424,7 +425,7 @@ pub enum Gathering {
 }
 
 // How many of the slots hold kept bytes, and whether one more than there are slots would have been kept.
-#[derive(Drop)]
+#[derive(Clone, Copy)]
 struct Tally {
     count: usize,
     long: bool,

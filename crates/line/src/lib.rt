@@ -1,5 +1,6 @@
 // The readers of statement lists and their ends, of typed lines and of replies. They read whole texts, by the
 // reader of a member and that of a relation, in a lent list of operations that has room for one to each byte.
+#![tactic(auto)]
 ghost use Rattle.std.specs.Prelude.{◌≤◌, ◌≡◌, true, false, length, take, drop};
 ghost use Rattle.nibl.specs.Bytes.{if◌then◌else◌, is_space, all};
 ghost use Rattle.nibl.specs.found.Read.{a_decimal, or_else, unread, choose, reading, replied, numbered, alone_statement, command_cases, typed};
@@ -15,7 +16,7 @@ use relation::Made;
 use word::{Cursor, Word, sign};
 
 // A statement list, or the relations of a reply.
-#[derive(Drop)]
+#[derive(Clone, Copy)]
 pub enum ListRead {
     Reads,
     NoReading,
@@ -23,7 +24,7 @@ pub enum ListRead {
 }
 
 // Whether a position is the end of a member.
-#[derive(Drop)]
+#[derive(Clone, Copy)]
 pub enum EndRead {
     Is(bool),
     NoRoom,
@@ -31,7 +32,7 @@ pub enum EndRead {
 
 // A typed line. A stored text begins at its cursor. Of an immediate statement: the number of its operations, and
 // whether it is one that only a program may have.
-#[derive(Drop)]
+#[derive(Clone, Copy)]
 pub enum LineRead {
     Blank,
     Delete(LineNumber),
@@ -46,7 +47,7 @@ pub enum LineRead {
 }
 
 // A relation of a reply: the number of its operations, and the cursor past it and the comma behind it.
-#[derive(Drop)]
+#[derive(Clone, Copy)]
 pub enum RelationRead {
     Relation(usize, Cursor),
     NoReading,
@@ -54,14 +55,14 @@ pub enum RelationRead {
 }
 
 // What stands at the front of a typed line: a command, by its number, with the cursor past it, or something else.
-#[derive(Drop)]
+#[derive(Clone, Copy)]
 pub enum LineFront {
     Command(u8, Cursor),
     Other,
 }
 
 // The members of a list, and whether one ends at the position asked for.
-#[derive(Drop)]
+#[derive(Clone, Copy)]
 pub enum Ends {
     Met(bool),
     NoReading,

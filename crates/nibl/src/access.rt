@@ -4,21 +4,21 @@ ghost use Rattle.nibl.specs.Access.{every_address};
 
 // Bytes of the memory, from one on up to another that is not among them.
 #[repr(C)]
-#[derive(Drop)]
+#[derive(Clone, Copy)]
 pub struct Range {
     pub from: u16,
     pub to: u16,
 }
 
 // What a box may use of the memory: its own bytes, to read and to write, and the shared ones, to read.
-#[derive(Drop)]
+#[derive(Clone, Copy)]
 pub struct Access {
     pub own: Range,
     pub shared: Range,
 }
 
 // What a statement sees besides the page and the input: the sense byte, and what it may use of the memory.
-#[derive(Drop)]
+#[derive(Clone, Copy)]
 pub struct Sight {
     pub sense: u8,
     pub access: Access,

@@ -1,5 +1,6 @@
 // The types that the promises name. A session's record is plain data, passed by value; each stack is a struct
 // whose push and pop take it and hand it back with the answer.
+#![tactic(auto)]
 ghost use Rattle.std.specs.Prelude.{◌-◌, ◌≤◌, ◌≡◌, eqb};
 ghost use Rattle.nibl.specs.Stack.{on_top, push_of, top_of, pop_of, push_for, top_for, pop_for};
 ghost use Rattle.nibl.specs.Record.{place, position, mark, position_of, nowhere, paused_at, pause_number, fresh_places, fresh_fors, fresh, unpaused, stackless, cleared, loaded_session, parts_of, session_of, with_flags};
@@ -66,7 +67,7 @@ pub const NO_LINE: u16 = 65535;
 
 // A position in the page: of the ":" that ends a statement, or of a record's CR; or the immediate mark.
 #[repr(C)]
-#[derive(Drop)]
+#[derive(Clone, Copy)]
 pub struct Place(pub u16);
 
 impl Place {
@@ -99,11 +100,11 @@ impl Place {
 }
 
 // What a program line is called. It is never a place: only the line finder turns one into the other.
-#[derive(Drop)]
+#[derive(Clone, Copy)]
 pub struct LineNumber(pub u16);
 
 // Where a run goes on: at the program's start, or after a place.
-#[derive(Drop)]
+#[derive(Clone, Copy)]
 pub enum Onward {
     Start,
     After(Place),
@@ -123,28 +124,28 @@ impl Onward {
 
 // The stack of GOSUB and that of DO: the slots below the depth are live, the oldest first.
 #[repr(C)]
-#[derive(Drop)]
+#[derive(Clone, Copy)]
 pub struct PlaceStack {
     pub depth: usize,
     pub places: [Place; GOSUBS],
 }
 
 // What is on top of a stack of places.
-#[derive(Drop)]
+#[derive(Clone, Copy)]
 pub enum Top {
     Empty,
     At(Place),
 }
 
 // A stack after a push; not ok: it was full and is as before.
-#[derive(Drop)]
+#[derive(Clone, Copy)]
 pub struct Pushed {
     pub stack: PlaceStack,
     pub ok: bool,
 }
 
 // A stack after a pop, and what was on top.
-#[derive(Drop)]
+#[derive(Clone, Copy)]
 pub struct Popped {
     pub stack: PlaceStack,
     pub top: Top,
@@ -218,7 +219,7 @@ impl PlaceStack {
 
 // A FOR under way: its variable (0 is A, 25 is Z), its limit and step, and the place that ends the FOR.
 #[repr(C)]
-#[derive(Drop)]
+#[derive(Clone, Copy)]
 pub struct ForEntry {
     pub var: u8,
     pub limit: u16,
@@ -227,26 +228,26 @@ pub struct ForEntry {
 }
 
 #[repr(C)]
-#[derive(Drop)]
+#[derive(Clone, Copy)]
 pub struct ForStack {
     pub depth: usize,
     pub entries: [ForEntry; FORS],
 }
 
 // What is on top of the FOR stack.
-#[derive(Drop)]
+#[derive(Clone, Copy)]
 pub enum TopFor {
     Empty,
     Entry(ForEntry),
 }
 
-#[derive(Drop)]
+#[derive(Clone, Copy)]
 pub struct PushedFor {
     pub stack: ForStack,
     pub ok: bool,
 }
 
-#[derive(Drop)]
+#[derive(Clone, Copy)]
 pub struct PoppedFor {
     pub stack: ForStack,
     pub top: TopFor,
@@ -306,7 +307,7 @@ impl ForStack {
 }
 
 // Where a run that ran out of budget goes on, if one did.
-#[derive(Drop)]
+#[derive(Clone, Copy)]
 pub enum Paused {
     Nowhere,
     At(Onward),
@@ -346,7 +347,7 @@ impl Onward {
 // What the controller keeps between calls: numbers alone, so that any bits that a host lends are a record.
 // The flags are bits 0 to 2; the pause is read by `Paused::of`.
 #[repr(C)]
-#[derive(Drop)]
+#[derive(Clone, Copy)]
 pub struct Session {
     pub vars: [u16; VARIABLES],
     pub flags: u8,
@@ -358,7 +359,7 @@ pub struct Session {
 
 // What a statement changes besides the variables, the memory and the output's bytes: the rest of the record but its pause,
 // and a call's two positions.
-#[derive(Drop)]
+#[derive(Clone, Copy)]
 pub struct Parts {
     pub flags: u8,
     pub gosubs: PlaceStack,
@@ -496,7 +497,7 @@ impl Parts {
 // The numbers that a call is given: where to read, where to write, the sense byte, the step budget, and whether a table of line
 // places is lent: 0 where none is, and any other number where one is.
 #[repr(C)]
-#[derive(Drop)]
+#[derive(Clone, Copy)]
 pub struct Call {
     pub inpos: usize,
     pub outpos: usize,
@@ -531,7 +532,7 @@ impl Call {
 // What a call answers. The line is that of the program statement that gave the stop, or NO_LINE. The column is that of a refused
 // line: of its bytes so many could still be the front of a line with a reading.
 #[repr(C)]
-#[derive(Drop)]
+#[derive(Clone, Copy)]
 pub struct Answer {
     pub stop: u8,
     pub line: u16,

@@ -1,5 +1,6 @@
 // What operations mean (specs/Operations.antt), that this is what their statement says (proofs/Compiles.antt), and values
 // worked out by them, on a stack that is lent: its first `height` slots hold the values, the top last.
+#![tactic(auto)]
 ghost use Rattle.std.specs.Prelude.{◌+◌, ◌-◌, ◌≤◌, ◌<◌, ◌≡◌, [], length, get_or, drop};
 ghost use Rattle.nibl.specs.Page.{used};
 ghost use Rattle.nibl.specs.Meaning.{stat_of};
@@ -18,7 +19,7 @@ use world::jump::Way;
 use world::{jump, memory};
 
 // How high the stack is after an operation and the value on top, or the stop number.
-#[derive(Drop)]
+#[derive(Clone, Copy)]
 pub enum Height {
     Top(usize, u16),
     No(u8),
@@ -26,7 +27,7 @@ pub enum Height {
 
 // How far operations on values lead: up to the one that is next, how high the stack is then and the value on top; or the
 // stop number.
-#[derive(Drop)]
+#[derive(Clone, Copy)]
 pub enum Reached {
     To(usize, usize, u16),
     No(u8),

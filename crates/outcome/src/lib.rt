@@ -1,5 +1,6 @@
 // How a call ends: by a stop that no program statement gave, an edit, a listing, a run, or an immediate statement. What ends
 // is the answer and the record, by value; the rest is where it was lent.
+#![tactic(auto)]
 ghost use Rattle.std.specs.Prelude.{◌≡◌, length};
 ghost use Rattle.nibl.specs.Page.{records_of, places_of};
 ghost use Rattle.nibl.specs.Record.{place, mark, position_of};
@@ -21,7 +22,7 @@ use run::Ran;
 use world::jump::Way;
 
 // How a call ended: its answer, and the record then.
-#[derive(Drop)]
+#[derive(Clone, Copy)]
 pub struct Ended {
     pub answer: Answer,
     pub session: Session,

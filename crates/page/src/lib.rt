@@ -1,5 +1,6 @@
 // The page: the walk along its records by their length bytes, to a line too, the running text, and the edits.
 // Any bytes whatever are looked at safely; what is said of a good page is said in proofs/.
+#![tactic(auto)]
 ghost use Rattle.std.specs.Prelude.{◌+◌, ◌-◌, ◌≤◌, ◌<◌, ◌&&◌, not, ◌++◌, leb, eqb, ◌≡◌, length, get_or, drop};
 ghost use Rattle.std.proofs.Math.Option.{some};
 ghost use Rattle.std.proofs.Math.Seq.{paste};
@@ -27,35 +28,35 @@ pub const LEAST: usize = 5;
 const MOST: usize = 255;
 
 // Where a run goes on to come to a line: at the program's start, or after the place that ends the record before it.
-#[derive(Drop)]
+#[derive(Clone, Copy)]
 pub enum FoundLine {
     Nothing,
     At(Onward),
 }
 
 // Where the next text begins, if there is one.
-#[derive(Drop)]
+#[derive(Clone, Copy)]
 pub enum Begins {
     Nowhere,
     At(usize),
 }
 
 // Where the running statement is: in the page, from a position on, or in the typed line.
-#[derive(Drop)]
+#[derive(Clone, Copy)]
 pub enum Where {
     Page(usize),
     Line,
 }
 
 // Where a line's record stands or is to stand, and how many bytes of that line are there.
-#[derive(Drop)]
+#[derive(Clone, Copy)]
 pub struct Seat {
     pub at: usize,
     pub gone: usize,
 }
 
 // How an edit ended. A page that has no room, and one that lacks the line, are as before.
-#[derive(Drop)]
+#[derive(Clone, Copy)]
 pub enum Edited {
     Done,
     NoRoom,
@@ -63,7 +64,7 @@ pub enum Edited {
 }
 
 // How a listing ended: all lines are out, or the next one does not fit; and the position after those that are out.
-#[derive(Drop)]
+#[derive(Clone, Copy)]
 pub enum Listed {
     All(usize),
     Full(usize),

@@ -1,5 +1,6 @@
 // The readers of statements, statement lists, typed lines and replies. Like those of a relation the readers of
 // statements go from a state to a state and write the operations of what they read.
+#![tactic(auto)]
 ghost use Rattle.std.specs.Prelude.{◌+◌, ◌*◌, ◌-◌, ◌≤◌, ◌<◌, ◌≡◌, [], ◌∷◌, ◌++◌, length, drop};
 ghost use Rattle.std.proofs.lemmas.List.Edits.{sets};
 ghost use Rattle.std.proofs.Math.Seq.{slice};
@@ -17,7 +18,7 @@ use relation::{Made, Signed};
 use word::{Cursor, Word, sign};
 
 // The word that stands next, and the state past it: a variable, a string by its bounds, or a sign.
-#[derive(Drop)]
+#[derive(Clone, Copy)]
 pub enum Kind {
     Variable(u8, Made),
     Text(usize, usize, Made),
@@ -26,7 +27,7 @@ pub enum Kind {
 }
 
 // The state past a sign, where it stands next.
-#[derive(Drop)]
+#[derive(Clone, Copy)]
 pub enum Keyed {
     Past(Made),
     Not,
@@ -34,7 +35,7 @@ pub enum Keyed {
 
 // How a statement begins, and the state past that: by a variable, with the operation that assigns to it; by a
 // symbol; by IF; or by another keyword.
-#[derive(Drop)]
+#[derive(Clone, Copy)]
 pub enum StatementFront {
     Assigns(u32, Made),
     Symbol(u8, Made),
@@ -45,7 +46,7 @@ pub enum StatementFront {
 
 // The first member of a text: the number of its operations, and how many bytes stand from its end on, 0 where
 // that is the text's end.
-#[derive(Drop)]
+#[derive(Clone, Copy)]
 pub enum MemberRead {
     Member(usize, usize),
     NoReading,

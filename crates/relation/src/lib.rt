@@ -5,6 +5,7 @@
 // place, or in a function that is, so that the compiler works one into another: two frames lie on the stack for each
 // open bracket. For the others a state is what they go from and to, so that readers follow one another with no test
 // between them: where one finds no reading, the rest of them pass that on.
+#![tactic(auto)]
 ghost use Rattle.std.specs.Prelude.{◌+◌, ◌≤◌, ◌<◌, ◌≡◌, true, false, length, drop, get_or, set};
 ghost use Rattle.nibl.specs.Bytes.{is_space, is_digit, starts};
 ghost use Rattle.nibl.specs.Grammar.{factor_joints, term_joints, sum_joints};
@@ -18,14 +19,14 @@ ghost use Rattle.relation.specs.Makes.{need, filled, standing, made_of, waiting,
 use word::{Cursor, Word, sign};
 
 // The cursor past what was read and the number of operations so far, or no reading.
-#[derive(Drop)]
+#[derive(Clone, Copy)]
 pub enum Made {
     Next(Cursor, usize),
     NoReading,
 }
 
 // A sign by its number and the state past it, where one stands next.
-#[derive(Drop)]
+#[derive(Clone, Copy)]
 pub enum Signed {
     By(u8, Made),
     Other,

@@ -1,6 +1,7 @@
 // Does a piece of work of the proved code round after round, for its time to be held against the model's: see bench/run.
 // Standard input has the work's number, the number of rounds, LF and the bytes to work on. It writes the sum of what the
 // rounds found, which is to be the model's too.
+#![tactic(auto)]
 ghost use Rattle.std.specs.Prelude.{◌≡◌, ◌+◌, ◌-◌, ◌<◌, ◌≤◌, length};
 ghost use Rattle.table.specs.Index.{Indexed};
 

@@ -1,6 +1,7 @@
 // The steps of a program within a budget.
 // What a run needs besides is lent down: the operations of a statement and of a reply, their values, and the reply's bytes,
 // which are as many as the limit.
+#![tactic(auto)]
 ghost use Rattle.std.specs.Prelude.{◌≤◌, [], ◌∷◌, ◌≡◌, length};
 ghost use Rattle.nibl.specs.Page.{line_of};
 ghost use Rattle.nibl.specs.Runs.{stop_at, run_from, run_outcome};
@@ -20,21 +21,21 @@ use statement::Plain;
 use world::jump::Way;
 
 // Where a run goes on after a step, or the stop that it ends with.
-#[derive(Drop)]
+#[derive(Clone, Copy)]
 pub enum Led {
     To(Onward),
     Stops(u8),
 }
 
 // The next member of a program, or that it is past its last line.
-#[derive(Drop)]
+#[derive(Clone, Copy)]
 pub enum Fetched {
     Past,
     Member(usize, Place, Place),
 }
 
 // How a run ended: its stop and that stop's line, how many steps it took, where it is paused, and the parts then.
-#[derive(Drop)]
+#[derive(Clone, Copy)]
 pub struct Ran {
     pub stop: u8,
     pub line: u16,

@@ -1,4 +1,5 @@
 // A statement's operations run. What that needs besides is lent: room for values, for a reply's bytes and its operations.
+#![tactic(auto)]
 ghost use Rattle.std.specs.Prelude.{◌≤◌, ◌<◌, [], ◌≡◌, length, drop};
 ghost use Rattle.nibl.specs.Stack.{no_place};
 ghost use Rattle.operation.specs.Operations.{is_last, last_by, run_ops, variables_of};
@@ -21,7 +22,7 @@ use world::{input, memory};
 // How far a statement runs without the parts: to its end; up to a turn that ends it and needs its stack alone, by its code and
 // what it is given, which is GOSUB or RETURN, DO or UNTIL, FOR or NEXT; or up to an operation that needs them, and how high the
 // stack of values is then.
-#[derive(Drop)]
+#[derive(Clone, Copy)]
 pub enum Plain {
     Ends(Way),
     Calls(u32, u16),

@@ -1,5 +1,6 @@
 // The table beside the page: "the line count, then each record's position, in order". The line finder that halves over it, the edits
 // that keep it true, and the check. An empty table is none: then the page's own walk does the work.
+#![tactic(auto)]
 ghost use Rattle.std.specs.Prelude.{◌≤◌, ◌≡◌, length, drop, take};
 ghost use Rattle.nibl.specs.Page.{find, records_of};
 ghost use Rattle.nibl.specs.Table.{describes};
@@ -14,7 +15,7 @@ use nibl::{Call, LineNumber};
 use page::{Edited, FoundLine, Seat, found_at, line_at, number_at, size_at};
 
 // A line's seat, and how many lines stand before it, which is counted where there is a table.
-#[derive(Drop)]
+#[derive(Clone, Copy)]
 struct Spot {
     index: usize,
     seat: Seat,

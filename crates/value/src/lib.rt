@@ -1,5 +1,6 @@
 // 16-bit values: the operators on patterns of 16 bits, and a number's bytes. A pattern is signed where the order or
 // the sign counts. Nothing here traps: what has no value is answered by its stop number.
+#![tactic(auto)]
 ghost use Rattle.std.specs.Prelude.{◌≡◌, ◌+◌, ◌-◌, ◌^◌, ◌<◌, ◌≤◌, length, nat_le, slice_set};
 ghost use Rattle.std.proofs.lemmas.List.Edits.{sets};
 ghost use Rattle.nibl.specs.Bytes.{byte};
@@ -18,14 +19,14 @@ const NEGATIVE: u16 = 32768;
 const ZERO: u16 = nibl::ZERO as u16;
 
 // A value, or the stop number of the refusal.
-#[derive(Drop)]
+#[derive(Clone, Copy)]
 pub enum Value {
     Is(u16),
     No(u8),
 }
 
 // The position after an item that was written, or that it does not fit the output.
-#[derive(Drop)]
+#[derive(Clone, Copy)]
 pub enum Wrote {
     To(usize),
     Full,

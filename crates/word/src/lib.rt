@@ -1,4 +1,5 @@
 // The word that stands at a cursor of a text: always the longest that fits.
+#![tactic(auto)]
 ghost use Rattle.std.specs.Prelude.{◌+◌, ◌-◌, ◌*◌, ◌%◌, ◌≤◌, ◌<◌, ◌≡◌, true, not, ◌&&◌, length, take, drop, get_or};
 ghost use Rattle.std.proofs.Math.Seq.{slice};
 ghost use Rattle.std.proofs.lemmas.List.Edits.{sets};
@@ -13,13 +14,13 @@ use letter::class;
 pub mod sign;
 
 // Where a reader stands in a text.
-#[derive(Drop)]
+#[derive(Clone, Copy)]
 pub struct Cursor {
     pub at: usize,
 }
 
 // What stands at a cursor, and the cursor past it.
-#[derive(Drop)]
+#[derive(Clone, Copy)]
 pub enum Word {
     // 0 for A to 25 for Z
     Variable(u8, Cursor),

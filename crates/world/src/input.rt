@@ -7,7 +7,7 @@ use nibl::stop;
 use value::{Wrote, write_item};
 
 // A reply of so many bytes, or the stop number; and the positions then.
-#[derive(Drop)]
+#[derive(Clone, Copy)]
 pub enum Reply {
     Line(usize, usize, usize),
     No(u8, usize, usize),

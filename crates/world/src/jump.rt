@@ -12,7 +12,7 @@ use nibl::{ForEntry, ForStack, LineNumber, Onward, Place, PlaceStack, Top, TopFo
 use page::FoundLine;
 
 // How a statement ends: on to the next one, to the next record, to where a line or a place says, or with a stop.
-#[derive(Drop)]
+#[derive(Clone, Copy)]
 pub enum Way {
     On,
     Skip,
@@ -21,21 +21,21 @@ pub enum Way {
 }
 
 // A stack of places after a statement, and how that ended.
-#[derive(Drop)]
+#[derive(Clone, Copy)]
 pub struct Turn {
     pub way: Way,
     pub stack: PlaceStack,
 }
 
 // The FOR stack after a statement, and how that ended.
-#[derive(Drop)]
+#[derive(Clone, Copy)]
 pub struct ForTurn {
     pub way: Way,
     pub stack: ForStack,
 }
 
 // Where a NEXT or an UNTIL goes back to, if it does.
-#[derive(Drop)]
+#[derive(Clone, Copy)]
 pub enum Back {
     To(Place),
     Not,

@@ -14,14 +14,14 @@ use page::move_bytes;
 use value::{Value, has_room, write_item};
 
 // Where the string ends that begins at an address, or the stop number.
-#[derive(Drop)]
+#[derive(Clone, Copy)]
 pub enum Extent {
     To(usize),
     No(u8),
 }
 
 // How a store ended.
-#[derive(Drop)]
+#[derive(Clone, Copy)]
 pub enum StoreEnd {
     Done,
     No(u8),
