@@ -12,7 +12,7 @@ use lib.ListN.{length, take, drop}
 use lib.Seq.{sets}
 use lib.Dec.{leb, eqb}
 use Rattle.nibl.specs.Bytes.{if◌then◌else◌, is_space, past, all}
-use Rattle.nibl.specs.Words.{sign, keywords, commands, command, spaced, keyword, pair, symbol}
+use Rattle.nibl.specs.Words.{sign, keywords, commands, command, spaced, keyword, letter, decimal_digits, hex_digits, quoted, pair, symbol}
 use Rattle.nibl.specs.Tree.{Stmt, Member, Typed, blank, new, clear, run, delete, list, immediate}
 use Rattle.nibl.specs.found.Read.{FrontWord, step_in, at_end, Found, nothing, found, Reader, and_then, if_key, or_else, on_step, choose, decimal_of, sign_of, a_sign, a_decimal, ◌>>=◌, statement, ends_member, member, unread, reading, alone, storing, numbered, alone_statement, command_cases, unnumbered, typed}
 use Rattle.nibl.specs.Calls.{needs_program}
@@ -314,10 +314,16 @@ module _ (s : List ℕ) where
 
 -- so it is where the first letters are no command's: what stands for a command there is a word of the keywords' rule too
 same_sign : {s t : List ℕ} {k : ℕ} → may_command (past is_space s) ≡ false → C s (sign k) t → W s (sign k) t
-same_sign f (spaced c) = spaced (same_sign f c)
-same_sign f (keyword {c} {d} {k} {cs} {s} r) = absurd (false≢true (sym f ∙ front-stands (c ∷ d ∷ cs) s k r.spelled))
-same_sign f (pair h) = pair h
-same_sign f (symbol h n) = symbol h n
+same_sign f c = go c f where
+  go : {s t : List ℕ} {w : Token} → C s w t → may_command (past is_space s) ≡ false → W s w t
+  go (spaced c) f = spaced (go c f)
+  go (keyword {c} {d} {k} {cs} {s} r) f = absurd (false≢true (sym f ∙ front-stands (c ∷ d ∷ cs) s k r.spelled))
+  go (letter r) f = letter r
+  go (decimal_digits r l) f = decimal_digits r l
+  go (hex_digits r) f = hex_digits r
+  go (quoted a) f = quoted a
+  go (pair h) f = pair h
+  go (symbol h n) f = symbol h n
 
 pub unnumbered-front : (s : List ℕ) → may_command (past is_space s) ≡ false → unnumbered s ≡ alone_statement s
 unnumbered-front s f = go (it (command-same s)) refl

@@ -40,6 +40,7 @@ module _ {text : List ℕ} {c : Cursor} {o : ℕ} where
 
   pub comma-none : KeyIs (number ",") text (Next c o) NoReading → (a : Expr) (q : Reader Expr) → if_key "," (give a) q (drop c.at text) ≡ q (drop c.at text)
   comma-none (refused h) a q = if-other "," (give a) q _ h
+  comma-none (there x) a q = elim x [ ]
 
 -- The last relation
 module _ (s : List ℕ) where

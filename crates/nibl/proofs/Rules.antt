@@ -82,8 +82,10 @@ module _ {A B : Type 0} {P : A → List ℕ → Type 0} where
 
   pub or_ok : {Q : B → Type 0} {f : Found A} {k : A → List ℕ → Option B} (r : List ℕ → Option B) (s : List ℕ) → Same P f f
       → ((a : A) (t : List ℕ) → P a t → OkSome Q (k a t)) → OkSome Q (r s) → OkSome Q (or_else f k r s)
-  or_ok r s (alike nil) h i = i
-  or_ok r s (alike (one {a} {s = t} p)) h i = h a t p
+  or_ok {Q} {k = k} r s x h i = go x h where
+    go : {f g : Found A} → Same P f g → ((a : A) (t : List ℕ) → P a t → OkSome Q (k a t)) → OkSome Q (or_else f k r s)
+    go (alike nil) h = i
+    go (alike (one {a} {s = t} p)) h = h a t p
 
   pub and-then : {Q : B → List ℕ → Type 0} {f g : Found A} {k k' : A → Reader B} → Same P f g
       → ((a : A) (t : List ℕ) → P a t → Same Q (k a t) (k' a t)) → Same Q (and_then f k) (and_then g k')

@@ -23,22 +23,15 @@ use Rattle.nibl.proofs.PlaceStack.TheLaws as G'
 abbrev pub Known : Session → Type 0
 Known s = Is S.the_row s (LL.vals S.the_type S'.the_laws s)
 
--- an array of structs is related at the list of its elements' tuples
-long : {X Y : Type 0} (f : X → Y) (l : List X) (n : ℕ) → length (map f l) ≡ n → length l ≡ n
-long f l n e = sym (go f l) ∙ e where
-  go : {X Y : Type 0} (f : X → Y) (l : List X) → length (map f l) ≡ length l
-  go f [] = refl
-  go f (x ∷ xs) = ap suc (go f xs)
-
 pub entries : (f : ForStack) → Is F.the_row f (LL.vals F.the_type F'.the_laws f) → length f.entries ≡ 4
-entries f is = long (λ (e : ForEntry). (N.the_type).to e) f.entries 4 (LL.owed F.the_type F'.the_laws f _ is).1.0.1.0.1
+entries f is = (LL.owed F.the_type F'.the_laws f _ is).1.0.1.0.1
 
 pub places : (g : PlaceStack) → Is G.the_row g (LL.vals G.the_type G'.the_laws g) → length g.places ≡ 8
-places g is = long (λ (p : Place). (E.the_type).to p) g.places 8 (LL.owed G.the_type G'.the_laws g _ is).1.0.1.0.1
+places g is = (LL.owed G.the_type G'.the_laws g _ is).1.0.1.0.1
 
 module _ (s : Session) (is : Known s) where
   pub vars : length s.vars ≡ 26
-  vars = length_unmapped ℕ s.vars 26 (LL.owed S.the_type S'.the_laws s _ is).0.1.0.1
+  vars = (LL.owed S.the_type S'.the_laws s _ is).0.1.0.1
 
   pub for-entries : length s.fors.entries ≡ 4
   for-entries = entries s.fors (LL.owed S.the_type S'.the_laws s _ is).1.1.1.1.0

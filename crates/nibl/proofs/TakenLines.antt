@@ -197,13 +197,13 @@ module _ (rest : List ℕ) (n : is_remark rest ≡ false) where
   step-taken {m} no_step of_sum h = h (m ∷ for_step ∷ rest) (ends refl refl)
   step-taken (some_step w r) i h = after_more i w refl refl (value_taken r h)
 
-  variables-taken : {top s s' vs : List ℕ} → is_remark top ≡ false → turn a_name top ≡ some (more_variables ∷ rest) → Variables W s vs s'
+  variables-taken : {s s' vs top : List ℕ} → is_remark top ≡ false → turn a_name top ≡ some (more_variables ∷ rest) → Variables W s vs s'
       → Onward s' → Taken top s
   unfolding turn
   variables-taken p e (last_variable w) h = takes p w e (h (more_variables ∷ rest) (ends refl refl))
   variables-taken p e (variables_on w k vs) h = takes p w e (takes refl k refl (variables-taken refl refl vs h))
 
-  statement-taken : {top s s' : List ℕ} {q : Stmt} → Statement W s q s' → Turns statement_cases top rest → Onward s' → Taken top s
+  statement-taken : {s s' : List ℕ} {q : Stmt} {top : List ℕ} → Statement W s q s' → Turns statement_cases top rest → Onward s' → Taken top s
   unfolding turn
   statement-taken (a_let_var m w k r) o h = let-taken o m (λ x i. takes-by i w refl (takes refl k refl (value_taken r h)))
   statement-taken (a_let_stat m w k r) o h = let-taken o m (λ x i. takes-by i w refl (takes refl k refl (value_taken r h)))

@@ -28,11 +28,11 @@ pub data Laid (lim : ℕ) (page : List ℕ) : ℕ → ℕ → List Stored → Ty
   ends : {low at : ℕ} → is_end (drop at page) ≡ true → Laid lim page low at []
   laid : {low at : ℕ} {r : Stored} {rs : List Stored} → low ≤ r.line → Whole lim page at r → Laid lim page (suc r.line) (at + size r) rs → Laid lim page low at (r ∷ rs)
 
-pub laid-program : {lim low at : ℕ} {page : List ℕ} {rs : List Stored} → Laid lim page low at rs → Program lim low rs
+pub laid-program : {lim : ℕ} {page : List ℕ} {low at : ℕ} {rs : List Stored} → Laid lim page low at rs → Program lim low rs
 laid-program (ends e) = none
 laid-program (laid l w p) = each l w.storable (laid-program p)
 
-pub laid-room : {lim low at : ℕ} {page : List ℕ} {rs : List Stored} → Laid lim page low at rs → at + used_by rs ≤ length page
+pub laid-room : {lim : ℕ} {page : List ℕ} {low at : ℕ} {rs : List Stored} → Laid lim page low at rs → at + used_by rs ≤ length page
 laid-room {at = at} {page = page} (ends e) = omega (arith, ap length (end-bytes (drop at page) e), length-drop at page)
 laid-room (laid l w p) = omega (arith, laid-room p)
 
@@ -117,7 +117,7 @@ record-bytes (x ∷ y ∷ m ∷ s) r rest b l n t =
     let c : y ≡ r.line % 256 = omega arith in
     λ i. a i ∷ c i ∷ n i ∷ (t ∙ sym (append_assoc r.text (13 ∷ []) rest)) i
 
-laid-bytes : {lim low at : ℕ} {page : List ℕ} {rs : List Stored} → Bytes page → Laid lim page low at rs → drop at page ≡ program_bytes rs ++ drop (at + used_by rs) page
+laid-bytes : {lim : ℕ} {page : List ℕ} {low at : ℕ} {rs : List Stored} → Bytes page → Laid lim page low at rs → drop at page ≡ program_bytes rs ++ drop (at + used_by rs) page
 laid-bytes {at = at} {page = page} b (ends e) = end-bytes (drop at page) e ∙ ap (λ (l : List ℕ). 255 ∷ 255 ∷ l) (drop-drop 2 at page)
 laid-bytes {at = at} {page = page} b (laid {r = r} {rs = rs} l w p) =
     let past : at + size r + used_by rs ≡ at + (size r + used_by rs) = omega arith in

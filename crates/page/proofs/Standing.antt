@@ -318,12 +318,14 @@ module _ (lim : ℕ) (page : List ℕ) (short : lim ≤ 251) (good : is_good lim
   fetches-here q x h e = by (fetch page q) e (stands-fetches q h) where
     by : (f : Fetched) → f ≡ here x → Fetches page f → Readable page x
     by past e s = let z : ◌≡◌ {A = ℕ} 0 1 = cc in absurd (omega arith)
+    by (unreadable _) e s = elim s [ ]
     by (here y) e (one_more r) = let same : y ≡ x = cc in rw same at r
 
   pub fetches-read : (q a : ℕ) → Stands (places_of page) q → fetch page q ≡ unreadable a → ⊥
   fetches-read q a h e = by (fetch page q) e (stands-fetches q h) where
     by : (f : Fetched) → f ≡ unreadable a → Fetches page f → ⊥
     by past e s = let z : ◌≡◌ {A = ℕ} 0 1 = cc in omega arith
+    by (unreadable _) e s = elim s [ ]
     by (here y) e s = let z : ◌≡◌ {A = ℕ} 0 1 = cc in omega arith
 
   pub text-short : (q a : ℕ) → Stands (places_of page) q → text_from page q ≡ some a → length (line_from page a) ≤ lim

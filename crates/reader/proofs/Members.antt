@@ -80,6 +80,8 @@ module _ {text ops ops1 : List ℕ} (room : has_room text ops ≡ true) where
   member-gives e (given {o} grow tail f g h w) (ends l t k) =
       let z : o ≡ 0 = ap count_of e in
       by-found room (then_found statement ends_member text (sym (at-start statement e) ∙ f tt) ∙ k (grow tt)) (w.buf ∙ rw (z, g tt)) (w.pos ∙ rw (z, g tt) (omega arith)) refl
+  member-gives e stopped x = elim x [ ]
+  member-gives e (refused _) x = elim x [ ]
 
   pub member-found : {s : Made} {m : MemberRead} {n l : ℕ} → m ≡ read.Member n l → Spends 0 (only statement) bare compile text ops start ops1 s → EndsIs text s m
       → MemberIs text ops (read.Member n l) ops1

@@ -355,19 +355,26 @@ set-sets : (w l : List ℕ) (i j b : ℕ) → i < j → set (sets l j w) i b ≡
 set-sets [] l i j b h = refl
 set-sets (a ∷ w) l i j b h = set-sets w (set l j a) i (suc j) b (omega arith) ∙ ap (λ m. sets m (suc j) w) (set_comm l j i a b (λ e. omega arith))
 
+-- what a count writes
+counted-is : {ops : List ℕ} {c d : Cursor} {o n : ℕ} {ops' : List ℕ} {t : Made} → Counted ops (Next c o) (Next d n) ops' t
+    → (ops' ≡ set ops o (op code_input (n - suc o))) × (t ≡ Next d n)
+counted-is counted = (refl, refl)
+
 counts : {text ops ops1 ops2 ops3 : List ℕ} {r a s t : Made} → Written (op code_input 0) ops r ops1 a → Gives (only (joined a_variable)) bare (texts code_input_variable) text ops1 ops2 a s
     → Counted ops2 r s ops3 t → Gives (only (joined a_variable)) bare variables_into text ops ops3 r t
 counts stopped stopped halted = stopped
 counts stopped stopped unread = stopped
 counts written (refused e) unread = refused e
-counts {ops} (written {o}) (given {n} grow tail e f h w) counted =
+counts {ops} (written {o}) (given {n} grow tail e f h w) x =
+    let q = counted-is x in
     let size : length (grow tt) ≡ n - suc o = omega (arith, w.pos, ap length (f tt), length-map (grow tt) (λ v. op code_input_variable v)) in
-    given {o = o} {n = n} grow (op code_input (n - suc o) ∷ tail) e (λ x. rw (size, f tt)) h
+    rw (q.0, q.1)
+    (given {o = o} {n = n} grow (op code_input (n - suc o) ∷ tail) e (λ x. rw (size, f tt)) h
     (record {
       pos = omega (arith, w.pos);
       buf = ap (λ l. set l o (op code_input (n - suc o))) (w.buf ∙ ap (λ i. sets (set ops o (op code_input 0)) i tail) (omega arith)) ∙ set-sets tail (set ops o (op code_input 0)) o (suc o) (op code_input (n - suc o)) (omega arith)
           ∙ ap (λ l. sets l (suc o) tail) (set-set ops o (op code_input 0) (op code_input (n - suc o)));
-    })
+    }))
 
 counted-low : (text : List ℕ) {ops ops' : List ℕ} {r s t : Made} → Counted ops r s ops' t → ahead text t ≤ ahead text s
 counted-low text halted = omega arith
