@@ -8,6 +8,7 @@
 // the stacks, the variables, the sums of page, memory and output, the bytes that were written, at most the first 40, and the
 // table's sum with its first 12 numbers.
 #![tactic(auto)]
+
 ghost use Rattle.std.specs.Prelude.{◌≤◌, ◌<◌, length, ◌≡◌};
 
 use nibl::{Answer, Call, ForEntry, ForStack, Place, PlaceStack, Session};

@@ -1,6 +1,7 @@
 // The two calls by value: take one typed line, and continue a paused run. Each answers, and hands the record back.
 // The first refusals come first and change nothing; past them a call has ended any pause.
 #![tactic(auto)]
+
 ghost use Rattle.std.specs.Prelude.{◌≡◌, true, length};
 ghost use Rattle.nibl.specs.Page.{places_of, fits_paused};
 ghost use Rattle.nibl.specs.Record.{unpaused};

@@ -1,6 +1,7 @@
 // A rule set carried to another box: the saved form, the call that writes one and the call that takes one, by value as the other calls.
 // Everything that a call may refuse is known before it writes its first byte.
 #![tactic(auto)]
+
 ghost use Rattle.std.specs.Prelude.{◌+◌, ◌≤◌, ◌≡◌, ◌&&◌, List, [], ◌++◌, ◌∷◌, length, drop};
 ghost use Rattle.std.proofs.lemmas.List.Edits.{sets};
 ghost use Rattle.nibl.specs.Typing.{limit};

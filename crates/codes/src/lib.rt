@@ -1,6 +1,7 @@
 // The operations that a statement is read into. An operation is one number: its code below CODES, and its argument above.
 // The codes below EFFECTS take values off a stack and put one on; the others change the world and leave no values.
 #![tactic(auto)]
+
 ghost use Rattle.std.specs.Prelude.{◌≤◌, ◌<◌, ◌≡◌};
 ghost use Rattle.codes.specs.Codes.{codes, op};
 

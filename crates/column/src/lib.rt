@@ -1,5 +1,6 @@
 // The column of a line that was refused: the length of its longest front part with which a line that has a reading begins.
 #![tactic(auto)]
+
 ghost use Rattle.std.specs.Prelude.{◌+◌, ◌-◌, ◌*◌, ◌≤◌, ◌<◌, max, ◌≡◌, ◌&&◌, ◌++◌, length, take, drop};
 ghost use Rattle.std.proofs.Math.Seq.{paste};
 ghost use Rattle.nibl.specs.found.Column.{line_run, is_alive, all_taken, ends_with, begun_by, begun_in, is_front, column_down, column_of};

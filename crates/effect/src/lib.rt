@@ -1,6 +1,7 @@
 // What one operation does to the world: memory, output, stacks, variables, the positions.
 // The record is taken apart: the variables are lent, the rest and the call's positions go by value, as `Parts`.
 #![tactic(auto)]
+
 ghost use Rattle.std.specs.Prelude.{◌+◌, ◌≤◌, ◌%◌, [], ◌∷◌, ◌≡◌, leb, eqb, length, set};
 ghost use Rattle.nibl.specs.Bytes.{if◌then◌else◌, byte_cr, byte_lf};
 ghost use Rattle.nibl.specs.Meaning.{on, skip, stop};

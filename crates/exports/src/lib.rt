@@ -2,6 +2,7 @@
 // answer is written where the host keeps it. Each entry calls the by-value core and stores its result; nothing is asked of what
 // is lent, and what is not in range is refused.
 #![tactic(auto)]
+
 ghost use Rattle.std.specs.Prelude.{◌≡◌};
 ghost use Rattle.nibl.specs.Lent.{lent_all, left_all};
 ghost use Rattle.nibl.specs.Calls.{leaves, take_line, continue_run};

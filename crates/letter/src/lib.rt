@@ -1,5 +1,6 @@
 // The class of each byte value, and gathering a typed line.
 #![tactic(auto)]
+
 ghost use Rattle.std.specs.Prelude.{◌-◌, ◌≤◌, ◌<◌, ◌≡◌, ◌++◌, eqb, length, take, drop, replicate};
 ghost use Rattle.nibl.specs.Bytes.{class_of, class_quote, class_other, is_space, is_digit, is_capital, is_hex_digit, is_text, is_quotable};
 ghost use Rattle.nibl.specs.Typing.{keep, gather as gathered};

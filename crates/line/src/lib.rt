@@ -1,6 +1,7 @@
 // The readers of statement lists and their ends, of typed lines and of replies. They read whole texts, by the
 // reader of a member and that of a relation, in a lent list of operations that has room for one to each byte.
 #![tactic(auto)]
+
 ghost use Rattle.std.specs.Prelude.{◌≤◌, ◌≡◌, true, false, length, take, drop};
 ghost use Rattle.nibl.specs.Bytes.{if◌then◌else◌, is_space, all};
 ghost use Rattle.nibl.specs.found.Read.{a_decimal, or_else, unread, choose, reading, replied, numbered, alone_statement, command_cases, typed};

@@ -1,6 +1,7 @@
 // The types that the promises name. A session's record is plain data, passed by value; each stack is a struct
 // whose push and pop take it and hand it back with the answer.
 #![tactic(auto)]
+
 ghost use Rattle.std.specs.Prelude.{◌-◌, ◌≤◌, ◌≡◌, eqb};
 ghost use Rattle.nibl.specs.Stack.{on_top, push_of, top_of, pop_of, push_for, top_for, pop_for};
 ghost use Rattle.nibl.specs.Record.{place, position, mark, position_of, nowhere, paused_at, pause_number, fresh_places, fresh_fors, fresh, unpaused, stackless, cleared, loaded_session, parts_of, session_of, with_flags};

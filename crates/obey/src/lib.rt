@@ -1,5 +1,6 @@
 // A typed line past the first refusals: gathered, read once, and obeyed.
 #![tactic(auto)]
+
 ghost use Rattle.std.specs.Prelude.{◌≤◌, ◌≡◌, length, drop};
 ghost use Rattle.nibl.specs.Typing.{gather as gathered};
 ghost use Rattle.nibl.specs.Record.{place, mark, unpaused};

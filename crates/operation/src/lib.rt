@@ -1,6 +1,7 @@
 // What operations mean (specs/Operations.antt), that this is what their statement says (proofs/Compiles.antt), and values
 // worked out by them, on a stack that is lent: its first `height` slots hold the values, the top last.
 #![tactic(auto)]
+
 ghost use Rattle.std.specs.Prelude.{◌+◌, ◌-◌, ◌≤◌, ◌<◌, ◌≡◌, [], length, get_or, drop};
 ghost use Rattle.nibl.specs.Page.{used};
 ghost use Rattle.nibl.specs.Meaning.{stat_of};

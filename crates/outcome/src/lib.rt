@@ -1,6 +1,7 @@
 // How a call ends: by a stop that no program statement gave, an edit, a listing, a run, or an immediate statement. What ends
 // is the answer and the record, by value; the rest is where it was lent.
 #![tactic(auto)]
+
 ghost use Rattle.std.specs.Prelude.{◌≡◌, length};
 ghost use Rattle.nibl.specs.Page.{records_of, places_of};
 ghost use Rattle.nibl.specs.Record.{place, mark, position_of};

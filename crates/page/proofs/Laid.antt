@@ -33,7 +33,7 @@ laid-program (ends e) = none
 laid-program (laid l w p) = each l w.storable (laid-program p)
 
 pub laid-room : {lim : ℕ} {page : List ℕ} {low at : ℕ} {rs : List Stored} → Laid lim page low at rs → at + used_by rs ≤ length page
-laid-room {at = at} {page = page} (ends e) = omega (arith, ap length (end-bytes (drop at page) e), length-drop at page)
+laid-room {page = page} {at = at} (ends e) = omega (arith, ap length (end-bytes (drop at page) e), length-drop at page)
 laid-room (laid l w p) = omega (arith, laid-room p)
 
 -- the text of a whole record, its CR, and what follows
@@ -118,8 +118,8 @@ record-bytes (x ∷ y ∷ m ∷ s) r rest b l n t =
     λ i. a i ∷ c i ∷ n i ∷ (t ∙ sym (append_assoc r.text (13 ∷ []) rest)) i
 
 laid-bytes : {lim : ℕ} {page : List ℕ} {low at : ℕ} {rs : List Stored} → Bytes page → Laid lim page low at rs → drop at page ≡ program_bytes rs ++ drop (at + used_by rs) page
-laid-bytes {at = at} {page = page} b (ends e) = end-bytes (drop at page) e ∙ ap (λ (l : List ℕ). 255 ∷ 255 ∷ l) (drop-drop 2 at page)
-laid-bytes {at = at} {page = page} b (laid {r = r} {rs = rs} l w p) =
+laid-bytes {page = page} {at = at} b (ends e) = end-bytes (drop at page) e ∙ ap (λ (l : List ℕ). 255 ∷ 255 ∷ l) (drop-drop 2 at page)
+laid-bytes {page = page} {at = at} b (laid {r = r} {rs = rs} l w p) =
     let past : at + size r + used_by rs ≡ at + (size r + used_by rs) = omega arith in
     record-bytes (drop at page) r (drop (at + size r) page) (λ i. rw (get_or-drop at page i 0) (b (at + i))) w.line w.long (drop-drop 3 at page ∙ w.text)
     ∙ ap (λ (q : List ℕ). record_bytes r ++ q) (laid-bytes b p ∙ ap (λ (n : ℕ). program_bytes rs ++ drop n page) past)

@@ -1,6 +1,7 @@
 // The page: the walk along its records by their length bytes, to a line too, the running text, and the edits.
 // Any bytes whatever are looked at safely; what is said of a good page is said in proofs/.
 #![tactic(auto)]
+
 ghost use Rattle.std.specs.Prelude.{◌+◌, ◌-◌, ◌≤◌, ◌<◌, ◌&&◌, not, ◌++◌, leb, eqb, ◌≡◌, length, get_or, drop};
 ghost use Rattle.std.proofs.Math.Option.{some};
 ghost use Rattle.std.proofs.Math.Seq.{paste};

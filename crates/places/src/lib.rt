@@ -1,6 +1,7 @@
 // The page check, and the places of a page: both go by the length bytes, and ask the reader about a record's text alone.
 // Any bytes whatever are looked at safely.
 #![tactic(auto)]
+
 ghost use Rattle.std.specs.Prelude.{◌≤◌, ◌<◌, ◌≡◌, length, drop};
 ghost use Rattle.nibl.specs.Bytes.{is_digit, starts};
 ghost use Rattle.nibl.specs.found.Read.{reading};

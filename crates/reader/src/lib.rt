@@ -1,6 +1,7 @@
 // The readers of statements, statement lists, typed lines and replies. Like those of a relation the readers of
 // statements go from a state to a state and write the operations of what they read.
 #![tactic(auto)]
+
 ghost use Rattle.std.specs.Prelude.{◌+◌, ◌*◌, ◌-◌, ◌≤◌, ◌<◌, ◌≡◌, [], ◌∷◌, ◌++◌, length, drop};
 ghost use Rattle.std.proofs.lemmas.List.Edits.{sets};
 ghost use Rattle.std.proofs.Math.Seq.{slice};

@@ -1,5 +1,6 @@
 // Does a session record fit a page: any record whatever, and any bytes, are looked at safely.
 #![tactic(auto)]
+
 ghost use Rattle.std.specs.Prelude.{◌≤◌, ◌≡◌, take};
 ghost use Rattle.nibl.specs.Bytes.{all};
 ghost use Rattle.nibl.specs.Page.{places_of, fits_paused, fits};

@@ -6,6 +6,7 @@
 // open bracket. For the others a state is what they go from and to, so that readers follow one another with no test
 // between them: where one finds no reading, the rest of them pass that on.
 #![tactic(auto)]
+
 ghost use Rattle.std.specs.Prelude.{◌+◌, ◌≤◌, ◌<◌, ◌≡◌, true, false, length, drop, get_or, set};
 ghost use Rattle.nibl.specs.Bytes.{is_space, is_digit, starts};
 ghost use Rattle.nibl.specs.Grammar.{factor_joints, term_joints, sum_joints};

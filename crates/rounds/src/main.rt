@@ -2,6 +2,7 @@
 // Standard input has the work's number, the number of rounds, LF and the bytes to work on. It writes the sum of what the
 // rounds found, which is to be the model's too.
 #![tactic(auto)]
+
 ghost use Rattle.std.specs.Prelude.{◌≡◌, ◌+◌, ◌-◌, ◌<◌, ◌≤◌, length};
 ghost use Rattle.table.specs.Index.{Indexed};
 

@@ -2,6 +2,7 @@
 // What a run needs besides is lent down: the operations of a statement and of a reply, their values, and the reply's bytes,
 // which are as many as the limit.
 #![tactic(auto)]
+
 ghost use Rattle.std.specs.Prelude.{◌≤◌, [], ◌∷◌, ◌≡◌, length};
 ghost use Rattle.nibl.specs.Page.{line_of};
 ghost use Rattle.nibl.specs.Runs.{stop_at, run_from, run_outcome};

@@ -2,6 +2,7 @@
 // output. Every line goes through the proved call `calls::take_line`, and what is proved of a line is what that call promises.
 // Of the program itself it is proved that it is safe and ends: no promise can say which bytes the system reads and writes.
 #![tactic(auto)]
+
 use nibl::{Answer, Call, END_MARK, NO_LINE, Session};
 use outcome::Ended;
 

@@ -1,5 +1,6 @@
 // A statement's operations run. What that needs besides is lent: room for values, for a reply's bytes and its operations.
 #![tactic(auto)]
+
 ghost use Rattle.std.specs.Prelude.{◌≤◌, ◌<◌, [], ◌≡◌, length, drop};
 ghost use Rattle.nibl.specs.Stack.{no_place};
 ghost use Rattle.operation.specs.Operations.{is_last, last_by, run_ops, variables_of};

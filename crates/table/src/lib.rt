@@ -1,6 +1,7 @@
 // The table beside the page: "the line count, then each record's position, in order". The line finder that halves over it, the edits
 // that keep it true, and the check. An empty table is none: then the page's own walk does the work.
 #![tactic(auto)]
+
 ghost use Rattle.std.specs.Prelude.{◌≤◌, ◌≡◌, length, drop, take};
 ghost use Rattle.nibl.specs.Page.{find, records_of};
 ghost use Rattle.nibl.specs.Table.{describes};

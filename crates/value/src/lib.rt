@@ -1,6 +1,7 @@
 // 16-bit values: the operators on patterns of 16 bits, and a number's bytes. A pattern is signed where the order or
 // the sign counts. Nothing here traps: what has no value is answered by its stop number.
 #![tactic(auto)]
+
 ghost use Rattle.std.specs.Prelude.{◌≡◌, ◌+◌, ◌-◌, ◌^◌, ◌<◌, ◌≤◌, length, nat_le, slice_set};
 ghost use Rattle.std.proofs.lemmas.List.Edits.{sets};
 ghost use Rattle.nibl.specs.Bytes.{byte};

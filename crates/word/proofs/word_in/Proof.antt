@@ -9,7 +9,7 @@ use lib.ListN.{length}
 use Rattle.nibl.specs.Bytes.{is_space}
 use Rattle.word.specs.Found.{spellings_of}
 use Rattle.word.proofs.Runs.{run_end, end-go, end-here, stops_at, stops_end}
-use Rattle.word.proofs.Answers.{is-capital, is_digit, found-end, found-letters, found-decimal, found-hex, found-quoted, found-symbol}
+use Rattle.word.proofs.Answers.{is-capital, is_digit_lem, found-end, found-letters, found-decimal, found-hex, found-quoted, found-symbol}
 use Rattle.word.proofs.word_in.Statement.{statement}
 use Rattle.word.proofs.word_in.Tie as tie
 
@@ -55,7 +55,7 @@ decimal-requires c κs =
     let x = c.before in
     let a = x.before.before.before.before.before.before.before.before.args in
     let k = x.class-by-range in
-    (search rules, is_digit (spellings_of a.commands) a.text.now a.from x.before.before.before.before.before.before.loop.i (ended x) (omega arith) k.result k.ensures.0 c.match.keys2)
+    (search rules, is_digit_lem (spellings_of a.commands) a.text.now a.from x.before.before.before.before.before.before.loop.i (ended x) (omega arith) k.result k.ensures.0 c.match.keys2)
 
 returns-3 : tie.Need-returns-3 invariant-loop decreases-loop
 returns-3 c =

@@ -1,0 +1,12 @@
+use Prim.Native.Nat.{ℕ, ◌+◌, ◌-◌, ◌*◌, ◌≤◌, ◌<◌}
+use mathlib.Core.Path.{◌≡◌, refl, sym, ap, subst}
+use native.Mathlib.Omega.{arith}
+use lib.ListN.{length, drop, set}
+use borrow.Author.Rules.{rules}
+use Rattle.carry.proofs.Values.{Taking, taking-none, taking-turn, taking-end}
+use Rattle.carry.proofs.form_values.Goals as goal
+
+pub loop-i-preserved : goal.loop-i-preserved
+loop-i-preserved c =
+    let l = c.loop-i in
+    subst (λ (v : ℕ). Taking c.args.form.now (set l.vars l.i v) (l.i + 1)) (sym c.number_at.ensures) (taking-turn l.invariant c.loop-i-test.true)

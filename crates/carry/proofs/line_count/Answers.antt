@@ -1,0 +1,35 @@
+use Prim.Native.Nat.{ℕ, ◌+◌, ◌-◌, ◌≤◌}
+use mathlib.Core.Path.{◌≡◌, refl, sym, ap, ◌∙◌}
+use native.Mathlib.Omega.{arith}
+use lib.ListN.{length, drop}
+use borrow.Author.Rules.{rules}
+use Rattle.nibl.specs.Page.{records_of}
+use Rattle.page.specs.Walk.{size_at}
+use Rattle.page.proofs.Walk.{met, past}
+use Rattle.page.proofs.Tables.{lines-most}
+use Rattle.carry.proofs.line_count.Goals as goal
+
+pub loop-size-init : goal.loop-size-init
+loop-size-init c = (c.size_at-size.ensures, (omega arith, omega arith))
+
+pub overflow_add-k : goal.overflow_add-k
+overflow_add-k c =
+    let p = c.args.page.now in let t = (let it : (let p = c.args.page.now in let l = c.loop-size in (l.at + l.size ≤ length p + 1) × ((l.at + 3 ≤ length p) × (length (records_of (drop l.at p)) ≡ 1 + length (records_of (drop (l.at + l.size) p))))) = let p = c.args.page.now in let l = c.loop-size in let m = met p l.at l.size l.invariant.0 c.loop-size-test.true in (m.next, (m.inside, omega (arith, ap length m.records))) in it) in omega (arith, lines-most p)
+
+pub overflow_add-at : goal.overflow_add-at
+overflow_add-at c =
+    let t = (let it : (let p = c.args.page.now in let l = c.loop-size in (l.at + l.size ≤ length p + 1) × ((l.at + 3 ≤ length p) × (length (records_of (drop l.at p)) ≡ 1 + length (records_of (drop (l.at + l.size) p))))) = let p = c.args.page.now in let l = c.loop-size in let m = met p l.at l.size l.invariant.0 c.loop-size-test.true in (m.next, (m.inside, omega (arith, ap length m.records))) in it) in omega arith
+
+pub loop-size-smaller : goal.loop-size-smaller
+loop-size-smaller c =
+    let t = (let it : (let p = c.args.page.now in let l = c.loop-size in (l.at + l.size ≤ length p + 1) × ((l.at + 3 ≤ length p) × (length (records_of (drop l.at p)) ≡ 1 + length (records_of (drop (l.at + l.size) p))))) = let p = c.args.page.now in let l = c.loop-size in let m = met p l.at l.size l.invariant.0 c.loop-size-test.true in (m.next, (m.inside, omega (arith, ap length m.records))) in it) in omega arith
+
+pub loop-size-preserved : goal.loop-size-preserved
+loop-size-preserved c =
+    let t = (let it : (let p = c.args.page.now in let l = c.loop-size in (l.at + l.size ≤ length p + 1) × ((l.at + 3 ≤ length p) × (length (records_of (drop l.at p)) ≡ 1 + length (records_of (drop (l.at + l.size) p))))) = let p = c.args.page.now in let l = c.loop-size in let m = met p l.at l.size l.invariant.0 c.loop-size-test.true in (m.next, (m.inside, omega (arith, ap length m.records))) in it) in (c.size_at-size-in-loop-size.ensures, (t.0, omega (arith, c.loop-size.invariant.1.1)))
+
+pub returns : goal.returns
+returns c =
+    let p = c.args.page.now in
+    let l = c.loop-size in
+    omega (arith, l.invariant.1.1, ap length (past p l.at l.size l.invariant.0 c.loop-size-test.false))

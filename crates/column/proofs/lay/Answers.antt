@@ -1,0 +1,10 @@
+use Prim.Native.Nat.{◌-◌}
+use native.Mathlib.Omega.{arith}
+use lib.ListN.{length}
+use Rattle.column.proofs.Fronts.{Laying, laying-first, laying-size, laying-room, laying-on, laying-end, laying-last}
+use Rattle.column.proofs.lay.Goals as goal
+
+pub loop-j-preserved : goal.loop-j-preserved
+loop-j-preserved c =
+    let a = c.args in
+    laying-on a.text.now a.n a.z.now a.i c.requires.0 c.requires.1 c.loop-j.invariant (omega arith)

@@ -1,0 +1,12 @@
+-- `column::lay` meets its contract: byte by byte. Assumes nothing.
+use Prim.Native.Nat.{◌-◌}
+use native.Mathlib.Omega.{arith}
+use lib.ListN.{length}
+use Rattle.column.proofs.Fronts.{Laying, laying-first, laying-size, laying-room, laying-on, laying-end, laying-last}
+use Rattle.column.proofs.lay.Given as goal
+
+abbrev pub invariant-loop-j : goal.invariant-loop-j
+invariant-loop-j l = Laying l.initial.text l.n l.z l.i l.text l.j l.to
+
+abbrev pub decreases-loop-j : goal.decreases-loop-j
+decreases-loop-j l = length l.z - l.j

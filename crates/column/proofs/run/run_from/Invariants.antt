@@ -1,0 +1,17 @@
+-- `run::run_from` meets its contract: each word, and each way out, is a law of Steps. Assumes nothing.
+use Prim.Native.Nat.{◌-◌}
+use mathlib.Core.Path.{refl, subst, sym, ◌∙◌}
+use native.Mathlib.Omega.{arith}
+use borrow.Author.Rules.{rules}
+use lib.ListN.{length, drop}
+use Rattle.word.specs.Found.{spellings_of}
+use Rattle.column.specs.Runs.{NextIs, run_by}
+use Rattle.column.proofs.Steps.{Running, running-remark, running-end, running-wrong, running-stuck, running-room, running-on}
+use Rattle.column.proofs.run.run_from.Given as goal
+
+abbrev pub invariant-loop-from : goal.invariant-loop-from
+invariant-loop-from l =
+    Running l.text (run_by (spellings_of l.commands) (drop l.bottom l.initial.stack) (drop l.from l.text)) l.initial.stack l.stack l.at l.by l.top
+
+abbrev pub decreases-loop-from : goal.decreases-loop-from
+decreases-loop-from l = length l.text - l.at

@@ -1,0 +1,16 @@
+-- `input_string` meets its contract: by the reply. Assumes nothing.
+-- the reply is within the slots
+use Prim.Native.Nat.{◌≤◌}
+use mathlib.Core.Path.{sym}
+use native.Mathlib.Omega.{arith}
+use lib.ListN.{length}
+use lib.Seq.{length-take-le}
+use Rattle.effect.proofs.Answers.{no-reply, reply-stored}
+use borrow.Author.Rules.{rules}
+use Rattle.effect.proofs.input_string.Goals as goal
+
+pub returns-in-Line : goal.returns-in-Line
+returns-in-Line c =
+    let a = c.args in
+    let h = rw c.in-Line.is at c.ask-r.ensures.answer in
+    rw (c.store_ends.ensures, c.at_positions-in-Line.ensures) (reply-stored a.access a.parts a.memory.now a.output.now (length a.reply.now) a.input.now a.x c.store_text.result h c.store_text.ensures)

@@ -1,0 +1,19 @@
+-- `letter::clear_from` meets its contract: the slots before i are those before n, then zeros. Assumes nothing.
+use Prim.Native.Nat.{ℕ, ◌≤◌, ◌-◌}
+use mathlib.Core.Path.{◌≡◌, ◌∙◌, refl, sym}
+use mathlib.Core.List.{List, ◌++◌, append-nil}
+use native.Mathlib.Omega.{arith}
+use borrow.Author.Rules.{rules}
+use lib.ListN.{length, take, set, replicate, length-set}
+use lib.Seq.{take_all}
+use Rattle.letter.proofs.Keeping.{zero_more}
+use Rattle.letter.proofs.clear_from.Reads as reads
+use Rattle.letter.proofs.clear_from.Lts as lts
+use Rattle.letter.proofs.clear_from.Given as goal
+
+abbrev pub invariant-loop-i : goal.invariant-loop-i
+invariant-loop-i l =
+    (l.n ≤ l.i) × (l.i ≤ length l.initial.line) × (length l.line ≡ length l.initial.line) × (take l.i l.line ≡ take l.n l.initial.line ++ replicate (l.i - l.n) 0)
+
+abbrev pub decreases-loop-i : goal.decreases-loop-i
+decreases-loop-i l = length l.initial.line - l.i

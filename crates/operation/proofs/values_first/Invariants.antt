@@ -1,0 +1,21 @@
+-- `values_first` meets its contract: what is worked out so far stands on the stack. Assumes nothing.
+use Prim.Native.Nat.{◌+◌, ◌-◌, ◌≤◌}
+use mathlib.Core.Path.{◌≡◌, refl, sym, ap, ◌∙◌}
+use mathlib.Core.List.{[]}
+use native.Mathlib.Omega.{arith}
+use lib.ListN.{length, drop}
+use Rattle.operation.specs.Operations.{values_first}
+use Rattle.operation.specs.Stacks.{sources, stack_of, top_in}
+use Rattle.operation.proofs.Stacks.{stack-none, top-none}
+use Rattle.operation.proofs.Firsts.{first_on, first_off, first-effect, first-end}
+use borrow.Author.Rules.{rules}
+use Rattle.operation.proofs.values_first.Given as goal
+
+abbrev pub invariant-loop-i : goal.invariant-loop-i
+invariant-loop-i l =
+    (l.height ≤ l.i) × (l.from ≤ l.i) × (length l.values ≡ length l.initial.values) × (l.top ≡ top_in l.values l.height)
+    × (values_first (sources l.vars l.flags l.sight l.page l.memory) (drop l.from l.ops) [] ≡ values_first (sources l.vars l.flags l.sight l.page l.memory) (drop l.i l.ops) (stack_of l.values l.height))
+    × (l.i ≤ l.from + (length l.ops - l.from))
+
+abbrev pub decreases-loop-i : goal.decreases-loop-i
+decreases-loop-i l = length l.ops - l.i

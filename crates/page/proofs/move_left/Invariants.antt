@@ -1,0 +1,17 @@
+-- `move_left` meets its contract: after i turns, i bytes have moved. Assumes nothing.
+use Prim.Native.Nat.{ℕ, ◌≤◌, ◌+◌, ◌-◌}
+use mathlib.Core.Path.{◌≡◌, refl, ap, ◌∙◌}
+use mathlib.Core.List.{List}
+use native.Mathlib.Omega.{arith}
+use lib.ListN.{length, length-set, drop, get_or, set}
+use lib.Seq.{paste-zero}
+use borrow.Author.Rules.{rules}
+use Rattle.page.specs.Edits.{moved}
+use Rattle.page.proofs.Moves.{left_step}
+use Rattle.page.proofs.move_left.Given as goal
+
+abbrev pub invariant-loop-i : goal.invariant-loop-i
+invariant-loop-i l = (l.i ≤ l.n) × ((length l.s ≡ length l.initial.s) × (l.s ≡ moved l.initial.s l.from l.to l.i))
+
+abbrev pub decreases-loop-i : goal.decreases-loop-i
+decreases-loop-i l = l.n - l.i

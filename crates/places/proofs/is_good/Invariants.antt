@@ -1,0 +1,19 @@
+-- `is_good` meets its contract: each record passed leaves the page as good as it is from there on. Assumes nothing.
+-- a record that may stand here was found
+use Prim.Native.Nat.{suc, ◌+◌, ◌-◌, ◌≤◌}
+use mathlib.Core.Path.{◌≡◌, refl, sym, ◌∙◌}
+use native.Mathlib.Omega.{arith}
+use lib.ListN.{length, drop, length-drop}
+use lib.Seq.{drop-drop}
+use borrow.Author.Rules.{rules}
+use borrow.Author.Tests.{not-true, not-false}
+use Rattle.nibl.specs.Page.{is_good, line_at}
+use Rattle.places.proofs.Checks.{good_from, good-end, good_none, NextRecord, good-next}
+use Rattle.places.proofs.is_good.Given as goal
+
+abbrev pub invariant-loop-ops : goal.invariant-loop-ops
+invariant-loop-ops l =
+    (l.at ≤ length l.page) × ((length l.ops ≡ 256) × (good_from l.lim l.low (drop l.at l.page) ≡ is_good l.lim l.page))
+
+abbrev pub decreases-loop-ops : goal.decreases-loop-ops
+decreases-loop-ops l = length l.page - l.at

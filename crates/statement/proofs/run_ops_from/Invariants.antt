@@ -1,0 +1,29 @@
+-- `run_ops_from` meets its contract: what is left of the list, run on the world and the values so far, does what the whole list
+-- does. Assumes nothing.
+-- at the head of the loop: the list, the world, the values
+-- where the function returns: a value is refused; the rest of the list is taken; an effect ends the statement; the list ends
+use Prim.Native.Nat.{ℕ, ◌+◌, ◌-◌, ◌≤◌}
+use mathlib.Core.Path.{◌≡◌, refl, sym, ap, ◌∙◌}
+use mathlib.Core.List.{List}
+use native.Mathlib.Omega.{arith}
+use borrow.Author.Tests.{not-true, not-false}
+use lib.ListN.{length, drop}
+use Rattle.nibl.specs.Meaning.{World, Env}
+use Rattle.line.proofs.Lists.{part-rest}
+use Rattle.operation.specs.Operations.{run_ops}
+use Rattle.operation.specs.Stacks.{stack_of}
+use Rattle.operation.proofs.Stacks.{stack-none}
+use Rattle.effect.specs.Worlds.{world_with, env_with}
+use Rattle.statement.proofs.Running.{value_on, value-off, last-run, effect-on, effect-off, run_end}
+use borrow.Author.Rules.{rules}
+use Rattle.statement.proofs.run_ops_from.Given as goal
+
+abbrev pub invariant-loop-i : goal.invariant-loop-i
+invariant-loop-i l =
+    (l.height ≤ l.i) × (length l.vars ≡ length l.initial.vars) × (length l.memory ≡ length l.initial.memory) × (length l.output ≡ length l.initial.output)
+    × (length l.reply ≡ length l.initial.reply) × (length l.replies ≡ length l.initial.replies) × (length l.values ≡ length l.initial.values)
+    × (run_ops (env_with (length l.initial.reply) l.page l.input l.sight l.here) (drop l.from l.ops) (world_with l.initial.vars l.initial.p l.initial.memory l.initial.output) (stack_of l.initial.values l.filled)
+    ≡ run_ops (env_with (length l.initial.reply) l.page l.input l.sight l.here) (drop l.i l.ops) (world_with l.vars l.p l.memory l.output) (stack_of l.values l.height))
+
+abbrev pub decreases-loop-i : goal.decreases-loop-i
+decreases-loop-i l = length l.ops - l.i

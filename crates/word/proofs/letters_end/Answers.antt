@@ -1,0 +1,15 @@
+-- `word::letters_end` meets its contract: with few bytes left the cut takes nothing away. Assumes nothing.
+use Prim.Native.Nat.{◌+◌}
+use mathlib.Core.Path.{sym}
+use native.Mathlib.Omega.{arith}
+use borrow.Author.Rules.{rules}
+use lib.Seq.{length-take-le}
+use Rattle.word.proofs.Capitals.{end-near, end-far}
+use Rattle.word.proofs.letters_end.Goals as goal
+
+pub returns-then-text-from-le-LONGEST_KEYWORD : goal.returns-then-text-from-le-LONGEST_KEYWORD
+returns-then-text-from-le-LONGEST_KEYWORD c =
+    let a = c.args in end-near a.text.now a.from c.if-text-from-le-LONGEST_KEYWORD.true c.run_end.ensures
+
+pub returns : goal.returns
+returns c = let a = c.args in end-far a.text.now a.from c.run_end-2.ensures
