@@ -1,10 +1,6 @@
-use Prim.Native.Nat.{◌+◌, ◌-◌}
-use mathlib.Core.Path.{◌≡◌, refl, ◌∙◌, sym}
+use mathlib.Core.Path.{refl, ◌∙◌, sym}
 use native.Mathlib.Omega.{arith}
-use borrow.Author.Rules.{rules}
-use lib.ListN.{length, drop}
-use Rattle.word.specs.Found.{key_common}
-use Rattle.word.proofs.Partings.{part_end, part-spelled, part-other, part-go}
+use Rattle.word.proofs.Partings.{part-spelled, part-other, part-go}
 use Rattle.word.proofs.common_end.Goals as goal
 
 pub loop-i-init : goal.loop-i-init

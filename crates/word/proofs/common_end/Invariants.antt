@@ -1,11 +1,8 @@
 -- `word::common_end` meets its contract: where what is left of the spelling parts from the text at `i`, the whole does. Assumes nothing.
 use Prim.Native.Nat.{◌+◌, ◌-◌}
-use mathlib.Core.Path.{◌≡◌, refl, ◌∙◌, sym}
-use native.Mathlib.Omega.{arith}
-use borrow.Author.Rules.{rules}
+use mathlib.Core.Path.{◌≡◌}
 use lib.ListN.{length, drop}
 use Rattle.word.specs.Found.{key_common}
-use Rattle.word.proofs.Partings.{part_end, part-spelled, part-other, part-go}
 use Rattle.word.proofs.common_end.Given as goal
 
 abbrev pub invariant-loop-i : goal.invariant-loop-i

@@ -1,12 +1,10 @@
-use Prim.Native.Nat.{◌-◌, ◌≤◌}
 use mathlib.Core.Path.{refl, ◌∙◌, sym}
 use native.Mathlib.Omega.{arith}
 use borrow.Author.Rules.{rules}
 use borrow.Author.Tests.{not-true, not-false}
-use lib.ListN.{length}
 use Rattle.nibl.specs.Bytes.{is_digit}
 use Rattle.word.proofs.Runs.{stops_at, stops_end}
-use Rattle.word.proofs.Numbers.{word_small, word-large, Counted, counted-go, counted_stop, counted-large}
+use Rattle.word.proofs.Numbers.{word_small, word-large, counted-go, counted_stop, counted-large}
 use Rattle.word.proofs.decimal_at.Goals as goal
 
 pub loop-i-init : goal.loop-i-init

@@ -1,6 +1,5 @@
 -- `word::first_at` meets its contract: by where the run of spaces ends. Assumes nothing.
 use Rattle.word.proofs.Firsts.{first-none, first_byte}
-use borrow.Author.Rules.{rules}
 use Rattle.word.proofs.first_at.Goals as goal
 
 pub returns-then-text-i : goal.returns-then-text-i

@@ -1,11 +1,8 @@
 -- `word::index_of` meets its contract: the key's index from `i` on is its index in the whole list. Assumes nothing.
 use Prim.Native.Nat.{◌+◌, ◌-◌, ◌≤◌}
-use mathlib.Core.Path.{◌≡◌, refl, ◌∙◌, sym}
-use native.Mathlib.Omega.{arith}
-use borrow.Author.Rules.{rules}
+use mathlib.Core.Path.{◌≡◌}
 use lib.ListN.{length, drop}
 use Rattle.word.specs.Found.{key_index}
-use Rattle.word.proofs.Keys.{seat-hit, seat-miss, seat-none}
 use Rattle.word.proofs.index_of.Given as goal
 
 abbrev pub invariant-loop-i : goal.invariant-loop-i

@@ -1,6 +1,5 @@
 -- `word::is_blank` meets its contract: by where the run of spaces ends. Assumes nothing.
 use Rattle.word.proofs.Firsts.{blank-all, blank-not}
-use borrow.Author.Rules.{rules}
 use Rattle.word.proofs.is_blank.Goals as goal
 
 pub returns-then-text-i : goal.returns-then-text-i

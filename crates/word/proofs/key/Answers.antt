@@ -1,9 +1,7 @@
-use Prim.Native.Nat.{◌-◌, ◌^◌, ◌≤◌, ◌<◌}
+use Prim.Native.Nat.{◌-◌}
 use mathlib.Core.Path.{◌≡◌}
 use native.Mathlib.Omega.{arith}
 use borrow.Author.Rules.{rules}
-use lib.Seq.{slice}
-use Rattle.word.specs.Found.{key_of}
 use Rattle.word.proofs.Keys.{key-zero, key-none, key_more, key_fits, key-grows}
 use Rattle.word.proofs.key.Goals as goal
 

@@ -1,11 +1,8 @@
 -- `word::key` meets its contract: `k` is the key of the letters from `i` on, and small enough for one more. Assumes nothing.
 use Prim.Native.Nat.{◌-◌, ◌^◌, ◌≤◌, ◌<◌}
 use mathlib.Core.Path.{◌≡◌}
-use native.Mathlib.Omega.{arith}
-use borrow.Author.Rules.{rules}
 use lib.Seq.{slice}
 use Rattle.word.specs.Found.{key_of}
-use Rattle.word.proofs.Keys.{key-zero, key-none, key_more, key_fits, key-grows}
 use Rattle.word.proofs.key.Given as goal
 
 abbrev pub invariant-loop-i : goal.invariant-loop-i

@@ -1,10 +1,8 @@
-use Prim.Native.Nat.{◌+◌, ◌≤◌}
 use mathlib.Core.Path.{◌≡◌}
 use native.Mathlib.Omega.{arith}
 use borrow.Author.Rules.{rules}
-use lib.ListN.{length, drop}
+use lib.ListN.{drop}
 use lib.Seq.{drop-length}
-use Rattle.word.specs.Found.{most_key}
 use Rattle.word.proofs.Partings.{last_more, last-same}
 use Rattle.word.proofs.last_parting.Goals as goal
 

@@ -1,12 +1,8 @@
 -- `word::last_parting` meets its contract: `last` is the answer for the keys from `i` on. Assumes nothing.
 use Prim.Native.Nat.{◌+◌, ◌≤◌}
 use mathlib.Core.Path.{◌≡◌}
-use native.Mathlib.Omega.{arith}
-use borrow.Author.Rules.{rules}
 use lib.ListN.{length, drop}
-use lib.Seq.{drop-length}
 use Rattle.word.specs.Found.{most_key}
-use Rattle.word.proofs.Partings.{last_more, last-same}
 use Rattle.word.proofs.last_parting.Given as goal
 
 abbrev pub invariant-loop-i : goal.invariant-loop-i

@@ -1,12 +1,9 @@
-use Prim.Native.Nat.{◌-◌}
 use native.Mathlib.Omega.{arith}
 use mathlib.Core.Path.{◌∙◌, sym}
-use borrow.Author.Rules.{rules}
 use borrow.Author.Tests.{not-true, not-false}
 use Rattle.nibl.specs.Bytes.{is_capital}
-use Rattle.word.specs.Found.{spellings_of}
-use Rattle.word.proofs.Runs.{between, end-within}
-use Rattle.word.proofs.Capitals.{Tried, tried-first, tried-on, letters-one, letters-sign, letters-wrong}
+use Rattle.word.proofs.Runs.{end-within}
+use Rattle.word.proofs.Capitals.{tried-first, tried-on, letters-one, letters-sign, letters-wrong}
 use Rattle.word.proofs.letters.Goals as goal
 
 pub returns-then-not-letter_at : goal.returns-then-not-letter_at

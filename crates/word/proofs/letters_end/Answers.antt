@@ -1,9 +1,4 @@
 -- `word::letters_end` meets its contract: with few bytes left the cut takes nothing away. Assumes nothing.
-use Prim.Native.Nat.{◌+◌}
-use mathlib.Core.Path.{sym}
-use native.Mathlib.Omega.{arith}
-use borrow.Author.Rules.{rules}
-use lib.Seq.{length-take-le}
 use Rattle.word.proofs.Capitals.{end-near, end-far}
 use Rattle.word.proofs.letters_end.Goals as goal
 

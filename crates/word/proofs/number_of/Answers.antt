@@ -1,5 +1,4 @@
 -- `word::number_of` meets its contract: the two lists are the keys of the definition's, which antt computes. Assumes nothing.
-use borrow.Author.Rules.{rules}
 use Rattle.word.proofs.number_of.Goals as goal
 
 pub returns-else-commands : goal.returns-else-commands

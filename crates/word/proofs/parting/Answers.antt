@@ -4,7 +4,6 @@ use mathlib.Core.Path.{◌∙◌, ap}
 use mathlib.Core.Bool.{true, false}
 use lib.ListN.{drop}
 use Rattle.word.proofs.Partings.{most-letters}
-use borrow.Author.Rules.{rules}
 use Rattle.word.proofs.parting.Goals as goal
 
 pub returns-then-commands : goal.returns-then-commands

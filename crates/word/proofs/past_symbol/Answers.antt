@@ -1,7 +1,5 @@
 use mathlib.Core.Path.{sym, ◌∙◌}
-use native.Mathlib.Omega.{arith}
-use borrow.Author.Rules.{rules}
-use Rattle.word.proofs.Spelled.{symbol-inside, past-there, past-other}
+use Rattle.word.proofs.Spelled.{past-there, past-other}
 use Rattle.word.proofs.past_symbol.Goals as goal
 
 pub returns-then-byte_at-b : goal.returns-then-byte_at-b

@@ -3,7 +3,6 @@ use mathlib.Core.Path.{sym, ◌∙◌}
 use borrow.Author.Tests.{not-true, not-false}
 use native.Mathlib.Omega.{arith}
 use Rattle.word.proofs.Answers.{quoted-end, quoted-other, quoted-closed}
-use borrow.Author.Rules.{rules}
 use Rattle.word.proofs.quoted.Goals as goal
 
 pub returns-then-text-to : goal.returns-then-text-to

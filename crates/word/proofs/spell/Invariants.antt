@@ -1,9 +1,7 @@
 -- `word::spell` meets its contract. The loop's invariant: `Spelling`. Assumes nothing.
 use Prim.Native.Nat.{◌-◌}
-use native.Mathlib.Omega.{arith}
-use borrow.Author.Rules.{rules}
 use lib.ListN.{length}
-use Rattle.word.proofs.Spelling.{Spelling, spelling-none, spelling-turn, spelling-spelt, spelling-full}
+use Rattle.word.proofs.Spelling.{Spelling}
 use Rattle.word.proofs.spell.Given as goal
 
 abbrev pub invariant-loop-n : goal.invariant-loop-n

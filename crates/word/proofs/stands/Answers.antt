@@ -1,11 +1,7 @@
-use Prim.Native.Nat.{◌+◌, ◌-◌, ◌≤◌}
-use mathlib.Core.Path.{◌≡◌, refl, sym, ◌∙◌}
-use native.Mathlib.Nat.{add-zero}
+use Prim.Native.Nat.{◌+◌}
+use mathlib.Core.Path.{sym, ◌∙◌}
 use native.Mathlib.Omega.{arith}
-use borrow.Author.Rules.{rules}
-use lib.ListN.{length, drop}
-use Rattle.nibl.specs.Words.{begins}
-use Rattle.word.proofs.Spelled.{stands_on, stands-not, stands-short, stands-whole}
+use Rattle.word.proofs.Spelled.{stands-short}
 use Rattle.word.proofs.stands.Goals as goal
 
 pub returns-then-text-k : goal.returns-then-text-k

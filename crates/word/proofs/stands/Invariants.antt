@@ -1,12 +1,8 @@
 -- `word::stands` meets its contract: what is left of the spelling stands where the text was read to. Assumes nothing.
 use Prim.Native.Nat.{◌+◌, ◌-◌, ◌≤◌}
-use mathlib.Core.Path.{◌≡◌, refl, sym, ◌∙◌}
-use native.Mathlib.Nat.{add-zero}
-use native.Mathlib.Omega.{arith}
-use borrow.Author.Rules.{rules}
+use mathlib.Core.Path.{◌≡◌}
 use lib.ListN.{length, drop}
 use Rattle.nibl.specs.Words.{begins}
-use Rattle.word.proofs.Spelled.{stands_on, stands-not, stands-short, stands-whole}
 use Rattle.word.proofs.stands.Given as goal
 
 abbrev pub invariant-loop-i : goal.invariant-loop-i

@@ -2,15 +2,10 @@
 -- Answers. Assumes nothing.
 -- where the loop broke off the spaces end
 use Prim.Native.Nat.{◌-◌}
-use mathlib.Core.Path.{◌≡◌, refl, sym, ◌∙◌}
-use native.Mathlib.Omega.{arith}
-use borrow.Author.Rules.{rules}
-use borrow.Author.Tests.{not-true, not-false}
+use mathlib.Core.Path.{◌≡◌}
 use lib.ListN.{length}
 use Rattle.nibl.specs.Bytes.{is_space}
-use Rattle.word.specs.Found.{spellings_of}
-use Rattle.word.proofs.Runs.{run_end, end-go, end-here, stops_at, stops_end}
-use Rattle.word.proofs.Answers.{is-capital, is_digit_lem, found-end, found-letters, found-decimal, found-hex, found-quoted, found-symbol}
+use Rattle.word.proofs.Runs.{run_end}
 use Rattle.word.proofs.word_in.Given as goal
 
 abbrev pub invariant-loop-i : goal.invariant-loop-i
