@@ -1,6 +1,5 @@
 -- `add_step` meets its contract: the sum is stored, then compared. Assumes nothing.
 use Rattle.world.specs.Turns.{adds_step}
-use borrow.Author.Rules.{rules}
 use Rattle.world.proofs.jump.add_step.Goals as goal
 
 pub returns : goal.returns

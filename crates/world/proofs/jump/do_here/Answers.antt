@@ -1,6 +1,5 @@
 -- `do_here` meets its contract. Assumes nothing.
 use Rattle.world.specs.Turns.{do_turn}
-use borrow.Author.Rules.{rules}
 use Rattle.world.proofs.jump.do_here.Goals as goal
 
 pub returns : goal.returns

@@ -1,6 +1,5 @@
 -- `for_here` meets its contract: as the push went. Assumes nothing.
 use Rattle.world.specs.Turns.{for_turn}
-use borrow.Author.Rules.{rules}
 use Rattle.world.proofs.jump.for_here.Goals as goal
 
 pub returns-then-pushed : goal.returns-then-pushed

@@ -1,6 +1,5 @@
 -- `keep` meets its contract: as the push went. Assumes nothing.
 use Rattle.world.specs.Turns.{keep_turn}
-use borrow.Author.Rules.{rules}
 use Rattle.world.proofs.jump.keep.Goals as goal
 
 pub returns-then-pushed : goal.returns-then-pushed

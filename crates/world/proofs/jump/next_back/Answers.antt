@@ -3,7 +3,6 @@
 use mathlib.Core.Path.{◌≡◌}
 use borrow.Author.Tests.{eq-eqb, ne_eqb, not-true, not-false}
 use Rattle.world.specs.Turns.{adds_step, back_by, back_on, next_back}
-use borrow.Author.Rules.{rules}
 use Rattle.world.proofs.jump.next_back.Goals as goal
 
 pub returns-in_default : goal.returns-in_default

@@ -3,7 +3,6 @@
 use mathlib.Core.Path.{◌≡◌}
 use borrow.Author.Tests.{eq-eqb, ne_eqb}
 use Rattle.world.specs.Turns.{adds_step, stepped_on, next_on, next_turn}
-use borrow.Author.Rules.{rules}
 use Rattle.world.proofs.jump.next_of.Goals as goal
 
 pub returns-in_default : goal.returns-in_default

@@ -2,7 +2,6 @@
 use mathlib.Core.Path.{ap}
 use Rattle.nibl.specs.declared.Popped.{Popped}
 use Rattle.world.specs.Turns.{return_on, return_turn}
-use borrow.Author.Rules.{rules}
 use Rattle.world.proofs.jump.return_from.Goals as goal
 
 pub returns-in-Empty : goal.returns-in-Empty

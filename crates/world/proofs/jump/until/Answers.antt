@@ -1,7 +1,6 @@
 -- `until` meets its contract: by what is on top, then by the value. Assumes nothing.
 use borrow.Author.Tests.{eq-eqb, ne_eqb}
 use Rattle.world.specs.Turns.{until_on, until_turn}
-use borrow.Author.Rules.{rules}
 use Rattle.world.proofs.jump.until.Goals as goal
 
 pub returns-in_default : goal.returns-in_default

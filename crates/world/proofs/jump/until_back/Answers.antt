@@ -2,7 +2,6 @@
 use borrow.Author.Tests.{eq-eqb, ne_eqb}
 use native.Mathlib.Omega.{arith}
 use Rattle.world.specs.Turns.{until_back_on, until_back}
-use borrow.Author.Rules.{rules}
 use Rattle.world.proofs.jump.until_back.Goals as goal
 
 pub returns-in_default : goal.returns-in_default

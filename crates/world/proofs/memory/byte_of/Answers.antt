@@ -1,8 +1,6 @@
 -- `byte_of` meets its contract: all ways out are the definition's. Assumes nothing.
 use mathlib.Core.Path.{sym, ◌∙◌}
-use native.Mathlib.Omega.{arith}
 use lib.ListN.{length}
-use borrow.Author.Rules.{rules}
 use borrow.Author.Tests.{lt-ltb, le-ltb, not-true, not-false}
 use Rattle.nibl.specs.Meaning.{byte_of}
 use Rattle.world.proofs.memory.byte_of.Goals as goal

@@ -1,8 +1,7 @@
 -- `copy_string` meets its contract: the bytes up to the CR, and the CR, are moved where they may be stored. Assumes nothing.
 -- the string was found
 use native.Mathlib.Omega.{arith}
-use borrow.Author.Rules.{rules}
-use Rattle.world.proofs.memory.Strings.{StringRuns, string-to, string-no}
+use Rattle.world.proofs.memory.Strings.{StringRuns, string-to}
 use Rattle.world.proofs.memory.Storing.{movable, copied, not-copied}
 use Rattle.world.proofs.memory.copy_string.Goals as goal
 

@@ -1,11 +1,9 @@
-use Prim.Native.Nat.{◌+◌, ◌-◌, ◌≤◌}
-use mathlib.Core.Path.{◌≡◌, refl}
+use mathlib.Core.Path.{◌≡◌}
 use native.Mathlib.Omega.{arith}
-use lib.ListN.{length, take, length-set}
-use lib.Seq.{sets, take-length}
-use borrow.Author.Rules.{rules}
+use lib.ListN.{length, length-set}
+use lib.Seq.{take-length}
 use Rattle.world.specs.Stores.{args_of}
-use Rattle.world.proofs.memory.Storing.{stored, refused, room, args-length, args_more}
+use Rattle.world.proofs.memory.Storing.{stored, refused, args-length, args_more}
 use Rattle.world.proofs.memory.store_args.Goals as goal
 
 pub returns-in_default : goal.returns-in_default

@@ -1,12 +1,9 @@
 -- `store_args` meets its contract: after i turns, i bytes are there. Assumes nothing.
 use Prim.Native.Nat.{◌+◌, ◌-◌, ◌≤◌}
-use mathlib.Core.Path.{◌≡◌, refl}
-use native.Mathlib.Omega.{arith}
-use lib.ListN.{length, take, length-set}
-use lib.Seq.{sets, take-length}
-use borrow.Author.Rules.{rules}
+use mathlib.Core.Path.{◌≡◌}
+use lib.ListN.{length, take}
+use lib.Seq.{sets}
 use Rattle.world.specs.Stores.{args_of}
-use Rattle.world.proofs.memory.Storing.{stored, refused, room, args-length, args_more}
 use Rattle.world.proofs.memory.store_args.Given as goal
 
 abbrev pub invariant-loop-i : goal.invariant-loop-i

@@ -2,10 +2,7 @@
 use Prim.Native.Nat.{◌%◌}
 use mathlib.Core.List.{[], ◌∷◌}
 use mathlib.Core.Path.{refl}
-use native.Mathlib.Omega.{arith}
-use lib.ListN.{length}
-use borrow.Author.Rules.{rules}
-use Rattle.world.proofs.memory.Storing.{stored, refused, room}
+use Rattle.world.proofs.memory.Storing.{stored, refused}
 use Rattle.world.proofs.memory.store_byte.Goals as goal
 
 pub returns-in_default : goal.returns-in_default

@@ -1,10 +1,7 @@
 -- `store_text` meets its contract: the text, and then its CR, where both may be stored. Assumes nothing.
-use Prim.Native.Nat.{◌+◌}
 use mathlib.Core.List.{[], ◌∷◌, ◌++◌}
-use native.Mathlib.Omega.{arith}
-use lib.ListN.{length, length-append}
-use borrow.Author.Rules.{rules}
-use Rattle.world.proofs.memory.Storing.{refused, room, text-stored}
+use lib.ListN.{length-append}
+use Rattle.world.proofs.memory.Storing.{refused, text-stored}
 use Rattle.world.proofs.memory.store_text.Goals as goal
 
 pub returns-in_default : goal.returns-in_default

@@ -1,11 +1,8 @@
-use Prim.Native.Nat.{◌-◌, ◌<◌}
-use mathlib.Core.Path.{◌≡◌, refl, sym, ◌∙◌}
+use mathlib.Core.Path.{sym, ◌∙◌}
 use native.Mathlib.Omega.{arith}
 use native.Mathlib.Nat.{add-zero}
-use lib.ListN.{length}
-use borrow.Author.Rules.{rules}
 use borrow.Author.Tests.{not-true, not-false}
-use Rattle.world.proofs.memory.Strings.{ending, string-past, string-foreign, string-ends, end_goes}
+use Rattle.world.proofs.memory.Strings.{string-past, string-foreign, string-ends, end_goes}
 use Rattle.world.proofs.memory.string_end.Goals as goal
 
 pub returns-then-not-may_read : goal.returns-then-not-may_read

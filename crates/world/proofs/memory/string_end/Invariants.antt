@@ -1,12 +1,8 @@
 -- `string_end` meets its contract: each byte passed may be read and is one of the string. Assumes nothing.
 use Prim.Native.Nat.{◌-◌, ◌<◌}
-use mathlib.Core.Path.{◌≡◌, refl, sym, ◌∙◌}
-use native.Mathlib.Omega.{arith}
-use native.Mathlib.Nat.{add-zero}
+use mathlib.Core.Path.{◌≡◌}
 use lib.ListN.{length}
-use borrow.Author.Rules.{rules}
-use borrow.Author.Tests.{not-true, not-false}
-use Rattle.world.proofs.memory.Strings.{ending, string-past, string-foreign, string-ends, end_goes}
+use Rattle.world.proofs.memory.Strings.{ending}
 use Rattle.world.proofs.memory.string_end.Given as goal
 
 abbrev pub invariant-loop-i : goal.invariant-loop-i
