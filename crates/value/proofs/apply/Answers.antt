@@ -1,5 +1,4 @@
 -- `apply` meets its contract: an arm for each operator, and the relations together. Assumes nothing.
-use Rattle.std.proofs.Common.{rules}
 use Rattle.nibl.specs.Values.{apply}
 use Rattle.codes.specs.Operators.{op_of}
 use Rattle.value.proofs.apply.Goals as goal

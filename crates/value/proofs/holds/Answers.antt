@@ -1,5 +1,5 @@
 -- `holds` meets its contract: an arm for each relation. Assumes nothing.
-use Rattle.std.proofs.Common.{◌≤◌, arith, rules}
+use Rattle.std.proofs.Common.{◌≤◌, arith}
 use Rattle.nibl.specs.Values.{apply}
 use Rattle.codes.specs.Operators.{op_of}
 use Rattle.value.proofs.Laws.{op-last}

@@ -1,7 +1,6 @@
 -- `modulo` meets its contract. Assumes nothing.
-use Rattle.std.proofs.Common.{rules}
 use Rattle.nibl.specs.Values.{mod16}
-use Rattle.value.proofs.Laws.{magnitude-pos, divided}
+use Rattle.value.proofs.Laws.{divided}
 use Rattle.value.proofs.modulo.Goals as goal
 
 pub returns-then-b-eq0 : goal.returns-then-b-eq0

@@ -1,5 +1,5 @@
 -- `printed_length` meets its contract. Assumes nothing.
-use Rattle.std.proofs.Common.{sym, arith, rules}
+use Rattle.std.proofs.Common.{sym, arith}
 use Rattle.value.proofs.Digits.{digits-few, printed-length}
 use Rattle.value.proofs.printed_length.Goals as goal
 

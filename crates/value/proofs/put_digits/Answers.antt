@@ -1,7 +1,6 @@
-use Rattle.std.proofs.Common.{◌+◌, ◌-◌, ◌/◌, ◌<◌, [], ◌∷◌, arith, rules}
+use Rattle.std.proofs.Common.{◌+◌, ◌/◌, [], ◌∷◌, arith}
 use Rattle.value.proofs.Digits.{digits-few}
-use Rattle.value.specs.Digits.{Putting}
-use Rattle.value.proofs.Putting.{putting-none, putting-turn, putting-end, power-not-zero, digit-below}
+use Rattle.value.proofs.Putting.{putting-none, putting-turn}
 use Rattle.value.proofs.Writing.{part-sets}
 use Rattle.value.proofs.put_digits.Goals as goal
 

@@ -1,10 +1,7 @@
 -- `put_digits` meets its contract. The loop's invariant: `Putting`. Assumes nothing.
 -- a power of ten is not 0
-use Rattle.std.proofs.Common.{◌+◌, ◌-◌, ◌/◌, ◌<◌, [], ◌∷◌, arith, rules}
-use Rattle.value.proofs.Digits.{digits-few}
+use Rattle.std.proofs.Common.{◌-◌}
 use Rattle.value.specs.Digits.{Putting}
-use Rattle.value.proofs.Putting.{putting-none, putting-turn, putting-end, power-not-zero, digit-below}
-use Rattle.value.proofs.Writing.{part-sets}
 use Rattle.value.proofs.put_digits.Given as goal
 
 abbrev pub invariant-loop-next : goal.invariant-loop-next

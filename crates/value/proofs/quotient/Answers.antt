@@ -1,7 +1,7 @@
 -- `quotient` meets its contract: the signs choose between the quotient of the magnitudes and its negation. Assumes nothing.
-use Rattle.std.proofs.Common.{true, false, refl, rules}
+use Rattle.std.proofs.Common.{true, false, refl}
 use Rattle.nibl.specs.Values.{apply}
-use Rattle.value.proofs.Laws.{magnitude-pos, quotient-value}
+use Rattle.value.proofs.Laws.{quotient-value}
 use Rattle.value.proofs.quotient.Goals as goal
 
 pub returns-then-b-eq0 : goal.returns-then-b-eq0

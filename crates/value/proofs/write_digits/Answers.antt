@@ -1,8 +1,8 @@
 -- `write_digits` meets its contract: the digits are put where they have room. Assumes nothing.
 -- the digits have room
-use Rattle.std.proofs.Common.{◌+◌, ◌<◌, ◌≤◌, length, arith, rules}
+use Rattle.std.proofs.Common.{◌+◌, ◌≤◌, length, arith}
 use Rattle.nibl.specs.Values.{digits}
-use Rattle.value.proofs.Writing.{room_for, room-lacks, part-sets, writes-whole, writes-none}
+use Rattle.value.proofs.Writing.{room_for, part-sets, writes-whole}
 use Rattle.value.proofs.write_digits.Goals as goal
 
 pub returns : goal.returns

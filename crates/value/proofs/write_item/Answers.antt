@@ -1,6 +1,5 @@
-use Rattle.std.proofs.Common.{◌≡◌, ◌+◌, ◌-◌, ◌<◌, ◌≤◌, length, take, refl, arith, length-set, rules}
-use lib.Seq.{sets, take-length}
-use Rattle.value.proofs.Writing.{sets_more, room_for, room-lacks, writes-whole, writes-none}
+use Rattle.std.proofs.Common.{◌<◌, length, arith, length-set}
+use Rattle.value.proofs.Writing.{sets_more}
 use Rattle.value.proofs.write_item.Goals as goal
 
 pub loop-i-preserved : goal.loop-i-preserved

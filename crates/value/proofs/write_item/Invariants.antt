@@ -1,8 +1,7 @@
 -- `write_item` meets its contract. The loop's invariant: the first i bytes of the item stand in the output. Assumes nothing.
 -- the item has room
-use Rattle.std.proofs.Common.{◌≡◌, ◌+◌, ◌-◌, ◌<◌, ◌≤◌, length, take, refl, arith, length-set, rules}
-use lib.Seq.{sets, take-length}
-use Rattle.value.proofs.Writing.{sets_more, room_for, room-lacks, writes-whole, writes-none}
+use Rattle.std.proofs.Common.{◌≡◌, ◌-◌, ◌≤◌, length, take}
+use lib.Seq.{sets}
 use Rattle.value.proofs.write_item.Given as goal
 
 abbrev pub invariant-loop-i : goal.invariant-loop-i
