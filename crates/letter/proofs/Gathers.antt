@@ -2,7 +2,7 @@
 use mathlib.Core.Path.{◌≡◌, ◌∙◌, ap}
 use mathlib.Core.Bool.{true, false}
 use mathlib.Core.List.{List, ◌∷◌, ◌++◌}
-use mathlib.Core.Option.{Option, none, some}
+use mathlib.Core.Option.{none, some}
 use Prim.Native.Nat.{ℕ, suc, ◌+◌, ◌-◌, ◌<◌, ◌≤◌}
 use native.Mathlib.Numerals.{add-one}
 use native.Mathlib.Omega.{arith}
@@ -11,7 +11,6 @@ use lib.Seq.{length-take-le, drop-cons}
 use borrow.Author.Tests.{ne_eqb}
 use Rattle.nibl.specs.Bytes.{class_of}
 use Rattle.nibl.specs.Typing.{Kept, keep, Gathered, gather_from, gather}
-use Rattle.letter.specs.declared.Gathering.{Gathering}
 use Rattle.letter.specs.declared.Gathering.TheVariants.{Line, TooLong, NoCr}
 use Rattle.letter.specs.declared.Tally.{Tally}
 use Rattle.letter.specs.Slots.{answer, padded, held, kept_in}

@@ -280,7 +280,7 @@ module _ (lim : ℕ) (page : List ℕ) where
           record {
             start = d.start;
             above = rw line (omega arith);
-            found = rw (line, ne_eqb r.line (line_in (p - (at + size r)) rs) (λ f. omega arith)) d.found;
+            found = ap (λ (n : ℕ). position_in n at (r ∷ rs)) line ∙ rw (ne_eqb r.line (line_in (p - (at + size r)) rs) (λ f. omega arith)) d.found;
             ahead = omega arith;
             behind = d.behind;
             inside = d.inside;

@@ -1,14 +1,8 @@
 -- `letter::clear_from` meets its contract: the slots before i are those before n, then zeros. Assumes nothing.
-use Prim.Native.Nat.{ℕ, ◌≤◌, ◌-◌}
-use mathlib.Core.Path.{◌≡◌, ◌∙◌, refl, sym}
-use mathlib.Core.List.{List, ◌++◌, append-nil}
-use native.Mathlib.Omega.{arith}
-use borrow.Author.Rules.{rules}
-use lib.ListN.{length, take, set, replicate, length-set}
-use lib.Seq.{take_all}
-use Rattle.letter.proofs.Keeping.{zero_more}
-use Rattle.letter.proofs.clear_from.Reads as reads
-use Rattle.letter.proofs.clear_from.Lts as lts
+use Prim.Native.Nat.{◌≤◌, ◌-◌}
+use mathlib.Core.Path.{◌≡◌}
+use mathlib.Core.List.{◌++◌}
+use lib.ListN.{length, take, replicate}
 use Rattle.letter.proofs.clear_from.Given as goal
 
 abbrev pub invariant-loop-i : goal.invariant-loop-i
