@@ -17,7 +17,7 @@ use Rattle.nibl.proofs.Words.{if-split, and_left, and_right, or_cases, true-all,
 use Rattle.nibl.proofs.Rules.{W}
 use Rattle.nibl.proofs.Taken.{Taken, ended, remarked, in_string, takes, LineTaken, by_keywords, by_command}
 use Rattle.nibl.proofs.Joined.{Apart, nothing, a_quote, word-joined}
-use Rattle.nibl.proofs.Means.{more, turn-means, command-means}
+use Rattle.nibl.proofs.Means.{turn-means, command-means}
 use Rattle.nibl.proofs.Closes.{Fits, nil, and, turn-fits, line-fits, command-fits, Ended, closes, remark-ends, one}
 
 -- the text goes on to one that the stack means
