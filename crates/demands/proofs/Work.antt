@@ -355,6 +355,7 @@ module _ (e : Env) (w : World) where
   -- the first value of one, two or three that is refused
   one-refused : {a : Expr} {n : ℕ} (k : ℕ → Done) → FirstRefused e w (a ∷ []) n → given (eval e w a) w k ≡ done (stop n) w
   one-refused k (at_first h) = rw (value-one e w h)
+  one-refused k (at_later _ h) = elim h [ ]
 
   two-refused : {a b : Expr} {n : ℕ} (k : ℕ → ℕ → Done) → FirstRefused e w (a ∷ b ∷ []) n
       → given (eval e w a) w (λ x. given (eval e w b) w (k x)) ≡ done (stop n) w
@@ -369,6 +370,7 @@ module _ (e : Env) (w : World) where
   line_refused : {a : Expr} {n : ℕ} (k : ℕ → Done) → FirstRefused e w (a ∷ []) n
       → given (bind (eval e w a) (λ m. line_there (find e.page m))) w k ≡ done (stop n) w
   line_refused k (at_first h) = rw (value-one e w h)
+  line_refused k (at_later _ h) = elim h [ ]
 
   no-values : {as' : List Expr} {n : ℕ} → as' ≡ [] → FirstRefused e w as' n → ⊥
   no-values h (at_first v) = let z : ◌≡◌ {A = ℕ} 0 1 = cc in omega arith
