@@ -1,5 +1,6 @@
 -- What is found to be a front (specs/found/Column.antt) is one (specs/Fronts.antt): a text whose words are taken goes on to a line with a reading.
 -- Assumes nothing.
+use Rattle.std.specs.Prelude.{if◌then◌else◌}
 use Prim.Native.Nat.{ℕ, zero, suc, ◌-◌}
 use mathlib.Core.Path.{◌≡◌, refl}
 use mathlib.Core.Bool.{Bool, true, false, ◌&&◌, false≢true}
@@ -8,7 +9,7 @@ use mathlib.Core.Option.{Option, none, some}
 use borrow.Author.Tests.{eqb-true}
 use lib.Dec.{eqb}
 use lib.ListN.{length, take, drop}
-use Rattle.nibl.specs.Bytes.{if◌then◌else◌, is_space, is_text, is_quotable, none as done, past, all}
+use Rattle.nibl.specs.Bytes.{is_space, is_text, is_quotable, none as done, past, all}
 use Rattle.nibl.specs.Words.{Token, string, spaced, quoted, keywords, commands}
 use Rattle.nibl.specs.found.Read.{FrontWord, at_end, wrong, got, step_in}
 use Rattle.nibl.specs.Fronts.{Front}

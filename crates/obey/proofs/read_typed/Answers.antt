@@ -1,4 +1,5 @@
 -- `read_typed` meets its contract: the running text is the typed line. Assumes nothing.
+use Rattle.std.specs.Prelude.{if◌then◌else◌}
 use Prim.Native.Nat.{ℕ, ◌≤◌}
 use mathlib.Core.List.{List}
 use mathlib.Core.Path.{◌≡◌, ap, ◌∙◌}
@@ -9,7 +10,6 @@ use Rattle.reader.specs.Answers.{has_room}
 use Rattle.line.specs.Answers.{kind_of, line_ops}
 use Rattle.line.specs.declared.LineRead.{LineRead}
 use Rattle.line.specs.declared.LineRead.TheVariants as line
-use Rattle.nibl.specs.Bytes.{if◌then◌else◌}
 use Rattle.obey.proofs.read_typed.Goals as goal
 
 -- with room, and from the same text
