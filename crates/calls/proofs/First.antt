@@ -1,4 +1,5 @@
 -- The two calls by their first refusal, and a paused run by its pause. Assumes nothing.
+use Rattle.std.specs.Prelude.{if◌then◌else◌}
 use Prim.Native.Nat.{ℕ, zero, suc, ◌+◌}
 use mathlib.Core.Path.{◌≡◌, refl, sym, ap, ◌∙◌}
 use mathlib.Core.Bool.{Bool, true, false, not}
@@ -6,7 +7,6 @@ use native.Mathlib.Omega.{arith}
 use lib.ListN.{length, drop, replicate}
 use lib.Dec.{leb}
 use borrow.Author.Tests.{leb-true}
-use Rattle.nibl.specs.Bytes.{if◌then◌else◌}
 use Rattle.nibl.specs.Typing.{gather}
 use Rattle.nibl.specs.Page.{is_good, places_of, fits, fits_paused}
 use Rattle.nibl.specs.Record.{nowhere, paused_at, pause_number, unpaused}

@@ -1,6 +1,5 @@
 -- What a call does past its first refusals.
-use Rattle.std.specs.Prelude.{Bool, drop}
-use Rattle.nibl.specs.Bytes.{if◌then◌else◌}
+use Rattle.std.specs.Prelude.{Bool, drop, if◌then◌else◌}
 use Rattle.nibl.specs.Typing.{gather}
 use Rattle.nibl.specs.Lent.{Lent, Outcome}
 use Rattle.nibl.specs.Typing.{limit}

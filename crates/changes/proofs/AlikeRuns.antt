@@ -11,7 +11,7 @@ use Rattle.demands.specs.Leaves.{WholeLines, none_taken, line}
 use Rattle.changes.specs.Alike.{Likeness, WorldsAlike, go_on, skips, goes, stops, Both, both, EnvsAlike, Alike, alike, heard, parted, StandsAlike, FetchedAlike, past, unread, here, RunsAlike, together, apart}
 use Rattle.changes.proofs.AlikeStatements.{exec-alike}
 
-pub lines_then : {lim i j k : ℕ} {input : List ℕ} → WholeLines lim input i j → WholeLines lim input j k → WholeLines lim input i k
+pub lines_then : {lim : ℕ} {input : List ℕ} {i j k : ℕ} → WholeLines lim input i j → WholeLines lim input j k → WholeLines lim input i k
 lines_then none_taken m = m
 lines_then (line g h l) m = line g h (lines_then l m)
 

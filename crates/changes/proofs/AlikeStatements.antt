@@ -1,4 +1,5 @@
 -- A statement does alike in surroundings that are alike. Assumes nothing.
+use Rattle.std.specs.Prelude.{if◌then◌else◌}
 use Prim.Native.Nat.{ℕ, suc, ◌+◌, ◌%◌}
 use mathlib.Core.Path.{◌≡◌, refl, sym, ap, ◌∙◌, subst}
 use mathlib.Core.Bool.{Bool, true, false, not}
@@ -8,7 +9,7 @@ use mathlib.Core.Logic.{◌⊎◌, inl, inr}
 use lib.ListN.{length, get_or, drop, set}
 use lib.Seq.{sets}
 use lib.Dec.{leb, eqb}
-use Rattle.nibl.specs.Bytes.{if◌then◌else◌, bytes, byte_cr, byte_lf}
+use Rattle.nibl.specs.Bytes.{bytes, byte_cr, byte_lf}
 use Rattle.nibl.specs.Tree.{Expr, var, const, stat, top, byte_at, invert, negate, modulo, two}
 use Rattle.nibl.specs.Tree.{Item, text, stored, value}
 use Rattle.nibl.specs.Tree.{Stmt, let_var, let_stat, let_byte, let_text, let_copy, goto, gosub, return, print, if_then, do_loop, until, for, next, input, input_text, remark, end}

@@ -1,4 +1,5 @@
 -- A call of a box: what it answers, prints and keeps, and what it writes. Assumes nothing.
+use Rattle.std.specs.Prelude.{if◌then◌else◌}
 use Prim.Native.Nat.{ℕ, zero, suc, ◌+◌, ◌≤◌, ◌<◌}
 use mathlib.Core.Path.{◌≡◌, refl, sym, ap, ◌∙◌, subst}
 use mathlib.Core.Bool.{Bool, true, false, not, ◌&&◌}
@@ -10,7 +11,6 @@ use lib.ListN.{length, get_or, drop, set}
 use lib.Seq.{sets, length-sets, get_or-set_other}
 use lib.Dec.{ltb, leb, eqb}
 use borrow.Author.Tests.{ltb-true, ltb-false, leb-true, leb-false}
-use Rattle.nibl.specs.Bytes.{if◌then◌else◌}
 use Rattle.nibl.specs.Tree.{Stmt, Typed, blank, new, clear, run, delete, list, store, immediate}
 use Rattle.nibl.specs.found.Read.{typed}
 use Rattle.nibl.specs.found.Column.{column_of}

@@ -1,5 +1,6 @@
 -- Item 5, the two calls: what each leaves exactly, refusal by refusal; that what was saved is loaded, and what was loaded saves to the same
 -- bytes. Assumes nothing.
+use Rattle.std.specs.Prelude.{if◌then◌else◌}
 use Prim.Native.Nat.{ℕ, suc, ◌+◌, ◌-◌, ◌≤◌, ◌<◌}
 use mathlib.Core.Path.{◌≡◌, refl, sym, ap, subst, ◌∙◌}
 use mathlib.Core.Bool.{Bool, true, false, not, false≢true}
@@ -10,7 +11,6 @@ use lib.ListN.{length, take, drop}
 use lib.Seq.{sets, sets-eq, take_at, drop_at, length-take-le}
 use lib.Dec.{leb, eqb}
 use borrow.Author.Tests.{leb-true, leb-false, le-leb, lt-leb, eqb-true, eqb-false, eq-eqb, ne_eqb}
-use Rattle.nibl.specs.Bytes.{if◌then◌else◌}
 use Rattle.nibl.specs.Values.{Result, is, no}
 use Rattle.nibl.specs.Typing.{limit}
 use Rattle.nibl.specs.Page.{line_at, is_good, fits, program_bytes}

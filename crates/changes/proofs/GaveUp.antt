@@ -1,5 +1,6 @@
 -- A reader of words gives up no sooner than it must: up to the byte at which it gave up some word could still go on. With `gave-up`, which
 -- says that with that byte none can, the byte is the first at which no word could go on. Assumes nothing.
+use Rattle.std.specs.Prelude.{if◌then◌else◌}
 use Prim.Native.Nat.{ℕ, suc, ◌+◌, ◌-◌, ◌*◌, ◌≤◌}
 use mathlib.Core.Path.{◌≡◌, refl, ap, subst}
 use mathlib.Core.Bool.{Bool, true, false, ◌&&◌, false≢true}
@@ -11,7 +12,7 @@ use borrow.Author.Tests.{leb-true, le-leb, eqb-true}
 use lib.Dec.{leb, eqb}
 use lib.ListN.{length, take, drop, take-append-drop, length-append}
 use lib.Seq.{take-append_seam}
-use Rattle.nibl.specs.Bytes.{if◌then◌else◌, is_space, is_digit, is_capital, is_quotable, same, All, none as done, each, front, past, all, decimal_value}
+use Rattle.nibl.specs.Bytes.{is_space, is_digit, is_capital, is_quotable, same, All, none as done, each, front, past, all, decimal_value}
 use Rattle.nibl.specs.Words.{Token, keywords, commands, index_from, index_in, there, Word, spaced, keyword, letter, decimal_digits, hex_digits, quoted}
 use Rattle.nibl.specs.found.GaveUp.{common, most_common, past_largest, word_gave_up, gave_up}
 use Rattle.nibl.proofs.Tests.{if-split, and_left, and_right, between, true-all, front-all, front-past, front-run}

@@ -1,4 +1,5 @@
 -- A line gathered within two limits is the same line, or over-long for the smaller one. Assumes nothing.
+use Rattle.std.specs.Prelude.{if◌then◌else◌}
 use Prim.Native.Nat.{ℕ, suc, ◌-◌, ◌≤◌}
 use mathlib.Core.Path.{◌≡◌, refl, sym, ap, subst}
 use mathlib.Core.Bool.{Bool, true, false}
@@ -9,7 +10,7 @@ use native.Mathlib.Omega.{arith}
 use lib.ListN.{length, take}
 use lib.Dec.{ltb, eqb}
 use borrow.Author.Tests.{ltb-true, lt-ltb}
-use Rattle.nibl.specs.Bytes.{if◌then◌else◌, class_dropped, class_cr, class_erase, class_discard, class_of}
+use Rattle.nibl.specs.Bytes.{class_dropped, class_cr, class_erase, class_discard, class_of}
 use Rattle.nibl.specs.Typing.{Kept, kept, keep, Gathered, gather_from, gather}
 use Rattle.changes.specs.Alike.{LongLine}
 

@@ -42,7 +42,7 @@ lines_stay = same_lines (λ t ms ns p q. members-unique p q) refl
 data From (lim : ℕ) (page : List ℕ) (at : ℕ) : Type 0 where
   from : (low : ℕ) → GoodFrom lim page low at → From lim page at
 
-good-from : {lim at : ℕ} {page : List ℕ} → GoodPage lim page → Boundary page at → From lim page at
+good-from : {lim : ℕ} {page : List ℕ} {at : ℕ} → GoodPage lim page → Boundary page at → From lim page at
 good-from g start = from 0 g
 good-from {lim} {page = page} g (behind {at = a} {t = t} b r) = by (good-from g b) where
   by : From lim page a → From lim page (a + (length t + 4))

@@ -1,4 +1,5 @@
 -- A single box is the double box whose own range is every address: what memory gives and takes is as it was. Assumes nothing.
+use Rattle.std.specs.Prelude.{if◌then◌else◌}
 use Prim.Native.Nat.{ℕ, suc, ◌+◌, ◌≤◌, ◌<◌}
 use mathlib.Core.Path.{◌≡◌, refl}
 use mathlib.Core.Bool.{Bool, true, false, not, ◌&&◌}
@@ -8,7 +9,7 @@ use lib.ListN.{length, drop, length-drop, drop_of_length-le}
 use lib.Seq.{sets}
 use lib.Dec.{ltb, leb, eqb}
 use borrow.Author.Tests.{ltb-true, lt-ltb, le-leb, leb-true, leb-false}
-use Rattle.nibl.specs.Bytes.{if◌then◌else◌, not_cr, front, all}
+use Rattle.nibl.specs.Bytes.{not_cr, front, all}
 use Rattle.nibl.specs.Values.{Result, is, no}
 use Rattle.nibl.specs.Access.{may_read, may_write, every_address}
 use Rattle.nibl.specs.Meaning.{bind, byte_of, string_from, string_at, store_at}

@@ -1,4 +1,5 @@
 -- Reads and stores of a box in two memories that it sees alike, and items in two outputs. Assumes nothing.
+use Rattle.std.specs.Prelude.{if◌then◌else◌}
 use Prim.Native.Nat.{ℕ, suc, ◌+◌, ◌≤◌, ◌<◌}
 use mathlib.Core.Path.{◌≡◌, refl, sym, ◌∙◌, subst}
 use mathlib.Core.Bool.{Bool, true, false, not}
@@ -9,7 +10,6 @@ use lib.ListN.{length, get_or, drop, set, length-set, length-drop, get_or-eq_def
 use lib.Seq.{sets, get_or-drop, get_or-set_same, get_or-set_other, set_out}
 use lib.Dec.{ltb, leb, eqb}
 use borrow.Author.Tests.{ltb-true, ltb-false, eqb-true, eqb-false}
-use Rattle.nibl.specs.Bytes.{if◌then◌else◌}
 use Rattle.nibl.specs.Values.{is, no}
 use Rattle.nibl.specs.Access.{may_read, may_write}
 use Rattle.nibl.specs.Meaning.{byte_of, string_from, string_at, store_at}

@@ -1,7 +1,7 @@
 -- Memory before document 02's item 6, when all of it was for one box.
-use Rattle.std.specs.Prelude.{ℕ, ◌+◌, List, length, get_or, drop, ltb, leb}
+use Rattle.std.specs.Prelude.{ℕ, ◌+◌, List, length, get_or, drop, ltb, leb, if◌then◌else◌}
 use Rattle.std.proofs.lemmas.List.Edits.{sets}
-use Rattle.nibl.specs.Bytes.{if◌then◌else◌, not_cr, front, all}
+use Rattle.nibl.specs.Bytes.{not_cr, front, all}
 use Rattle.nibl.specs.Values.{Result, is, no, Value}
 
 -- "'@' reads one byte, 0 to 255, at the value read as 0 to 65,535"

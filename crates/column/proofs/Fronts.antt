@@ -1,4 +1,5 @@
 -- Whether a text is the front of a line, a spelling and a byte at a time. Assumes nothing.
+use Rattle.std.specs.Prelude.{if◌then◌else◌}
 use Prim.Native.Nat.{ℕ, zero, suc, ◌+◌, ◌-◌, ◌/◌, ◌%◌, ◌≤◌, ◌<◌, min, max}
 use mathlib.Core.Path.{◌≡◌, refl, sym, ap, ◌∙◌}
 use mathlib.Core.Bool.{Bool, true, false, false≢true, ◌&&◌, ◌||◌}
@@ -9,7 +10,7 @@ use borrow.Author.Tests.{leb-true, leb-false, le-leb, lt-leb, eq-eqb, ne_eqb}
 use lib.Dec.{eqb, leb}
 use lib.ListN.{length, take, drop, get_or, set, length-drop, drop_of_length-le, take-append-drop}
 use lib.Seq.{sets, sets-eq, length-sets, take-append_seam, paste, paste-zero, paste-suc, length-paste, take-paste, length-take-le, take_all, take-take, take-append-le, get_or-take, get_or-drop}
-use Rattle.nibl.specs.Bytes.{if◌then◌else◌, same}
+use Rattle.nibl.specs.Bytes.{same}
 use Rattle.nibl.specs.Words.{keywords, commands}
 use Rattle.nibl.specs.found.Column.{typed_line, typed_command, Verdict, alive, stuck, is_alive, line_run, all_taken, spellings, ends_with, begun_by, begun_in, is_front, column_down, column_of}
 use Rattle.nibl.proofs.Bound.{begun-hit, begun-miss, begun-here, begun-later, front-taken, front-begun, column-hit, column-miss, column-bound}

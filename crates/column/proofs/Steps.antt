@@ -1,15 +1,16 @@
 -- A run over a text, a word at a time. Assumes nothing.
+use Rattle.std.specs.Prelude.{if◌then◌else◌}
 use Prim.Native.Nat.{ℕ, zero, suc, ◌+◌, ◌-◌, ◌*◌, ◌≤◌, ◌<◌}
 use mathlib.Core.Path.{◌≡◌, refl, sym, ap, ◌∙◌}
 use mathlib.Core.Bool.{Bool, true, false, ◌&&◌}
 use mathlib.Core.List.{List, [], ◌∷◌}
 use mathlib.Core.Option.{Option, none, some}
 use native.Mathlib.Omega.{arith}
-use borrow.Author.Tests.{eqb-true, eq-eqb, ne_eqb}
+use borrow.Author.Tests.{eq-eqb, ne_eqb}
 use lib.Dec.{eqb}
 use lib.ListN.{length, drop, get_or, set, length-drop, length-set, drop_of_length-le}
 use lib.Seq.{lt-length-set, get_or-set_same}
-use Rattle.nibl.specs.Bytes.{if◌then◌else◌, is_space, is_quotable, is_text, past, all}
+use Rattle.nibl.specs.Bytes.{is_space, is_quotable, is_text, past, all}
 use Rattle.nibl.specs.Words.{keywords, commands}
 use Rattle.nibl.specs.found.Read.{FrontWord, at_end, wrong, got, step_in}
 use Rattle.nibl.specs.found.GaveUp.{gave_up, word_gave_up}

@@ -1,4 +1,5 @@
 -- The table of the rules is the definition's, by computation. Assumes nothing.
+use Rattle.std.specs.Prelude.{if◌then◌else◌}
 use Prim.Native.Nat.{ℕ, zero, suc, ◌+◌, ◌-◌, ◌*◌, ◌/◌, ◌%◌, ◌≤◌, ◌<◌}
 use mathlib.Core.Path.{◌≡◌, refl, sym, ap, ◌∙◌}
 use mathlib.Core.Bool.{Bool, true, false, ◌&&◌}
@@ -10,7 +11,7 @@ use borrow.Author.Tests.{leb-true, ltb-true, eq-eqb, ne_eqb}
 use lib.Dec.{eqb, leb, ltb}
 use lib.ListN.{length, get_or, take}
 use lib.Seq.{slice}
-use Rattle.nibl.specs.Bytes.{if◌then◌else◌, all}
+use Rattle.nibl.specs.Bytes.{all}
 use Rattle.nibl.specs.found.Read.{choose}
 use Rattle.nibl.specs.found.Column.{Cases, factor, first_factor, target, statement, consequence, typed_line, rules, cases_of, case_in}
 use Rattle.nibl.proofs.Words.{and_left, and_right}

@@ -1,7 +1,7 @@
 -- What the contracts of a run over a text's words say, beyond the definition of the column.
-use Rattle.std.specs.Prelude.{ℕ, suc, ◌+◌, ◌-◌, ◌*◌, ◌≤◌, ◌<◌, ◌≡◌, Bool, true, false, ◌&&◌, List, eqb, length, drop}
+use Rattle.std.specs.Prelude.{ℕ, suc, ◌+◌, ◌-◌, ◌*◌, ◌≤◌, ◌<◌, ◌≡◌, Bool, true, false, ◌&&◌, List, eqb, length, drop, if◌then◌else◌}
 use Rattle.std.proofs.Math.Option.{Option, none, some}
-use Rattle.nibl.specs.Bytes.{if◌then◌else◌, is_space, past, byte_quote}
+use Rattle.nibl.specs.Bytes.{is_space, past, byte_quote}
 use Rattle.nibl.specs.found.Read.{FrontWord, at_end, wrong, got, step_in}
 use Rattle.nibl.specs.found.GaveUp.{gave_up}
 use Rattle.nibl.specs.found.Column.{sort_of, a_text, typed_line, typed_command, turn, is_some, is_remark, Verdict, alive, stuck, advance, remark_at, run_n}

@@ -1,4 +1,5 @@
 -- What a call past its first refusals has. Assumes nothing.
+use Rattle.std.specs.Prelude.{if◌then◌else◌}
 use Prim.Native.Nat.{ℕ, ◌≤◌}
 use mathlib.Core.Path.{◌≡◌, refl}
 use mathlib.Core.Bool.{Bool, true, false, not}
@@ -6,7 +7,6 @@ use native.Mathlib.Omega.{arith}
 use lib.ListN.{length}
 use lib.Dec.{leb, eqb}
 use borrow.Author.Tests.{leb-true, le-leb, eqb-false, ne_eqb}
-use Rattle.nibl.specs.Bytes.{if◌then◌else◌}
 use Rattle.nibl.specs.Page.{is_good, fits}
 use Rattle.nibl.specs.Lent.{Lent}
 use Rattle.nibl.specs.FirstRefusals.{page_in_range, memory_in_range, input_in_range, output_in_range, position_in_range, budget_in_range, table_in_range, table_is_true, in_range, first_refusal}

@@ -1,4 +1,5 @@
 -- A statement does nothing but what the list of effects has. Assumes nothing.
+use Rattle.std.specs.Prelude.{if◌then◌else◌}
 use Prim.Native.Nat.{ℕ, suc, ◌+◌, ◌≤◌}
 use mathlib.Core.Path.{◌≡◌, refl, ap}
 use mathlib.Core.Bool.{Bool, true, false, not, ◌||◌}
@@ -9,7 +10,7 @@ use lib.ListN.{length, get_or, drop}
 use lib.Seq.{sets, length-sets}
 use lib.Dec.{ltb, leb, eqb}
 use borrow.Author.Tests.{leb-true, eq-eqb, eqb-true}
-use Rattle.nibl.specs.Bytes.{if◌then◌else◌, bytes}
+use Rattle.nibl.specs.Bytes.{bytes}
 use Rattle.nibl.specs.Tree.{Op, times, divided_by, and_bits, plus, minus, or_bits, equal, less, greater, at_most, at_least, unequal}
 use Rattle.nibl.specs.Tree.{Expr, var, const, stat, top, byte_at, invert, negate, modulo, two}
 use Rattle.nibl.specs.Tree.{Item, text, stored, value}

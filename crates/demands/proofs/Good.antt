@@ -67,8 +67,8 @@ stored-good {r = r} s =
       short = stored_short s;
     }
 
-laid-good : {lim low at : ℕ} {page : List ℕ} {rs : List Stored} → Laid lim page low at rs → GoodFrom lim page low at
-laid-good {at = at} {page = page} (laid.ends e) = ends (record { after = drop 2 (drop at page); bytes = end-bytes (drop at page) e })
+laid-good : {lim : ℕ} {page : List ℕ} {low at : ℕ} {rs : List Stored} → Laid lim page low at rs → GoodFrom lim page low at
+laid-good {page = page} {at = at} (laid.ends e) = ends (record { after = drop 2 (drop at page); bytes = end-bytes (drop at page) e })
 laid-good (laid.laid l w p) = goes_on l (whole-record w) (stored-good w.storable) (laid-good p)
 
 -- From the grammar to the test
@@ -108,11 +108,11 @@ module _ (h l : ℕ) (t rest : List ℕ) where
       ) (good-storable g)
 
 module _ (lim : ℕ) (page : List ℕ) where
-  good-tests : {low at : ℕ} (k : ℕ) → length (drop at page) < k → GoodFrom lim page low at → good_n lim k low (drop at page) ≡ true
+  good-tests : (k : ℕ) {low at : ℕ} → length (drop at page) < k → GoodFrom lim page low at → good_n lim k low (drop at page) ≡ true
   unfolding good_n
   good-tests zero h g = absurd (omega arith)
-  good-tests {low = low} (suc k) h (ends m) = ap (good_n lim (suc k) low) m.bytes
-  good-tests {low = low} {at = at} (suc k) h (goes_on {n = n} {t = t} a r g more) =
+  good-tests (suc k) {low = low} h (ends m) = ap (good_n lim (suc k) low) m.bytes
+  good-tests (suc k) {low = low} {at = at} h (goes_on {n = n} {t = t} a r g more) =
       let q : List ℕ = written r.high r.low t r.after in
       let e = written-end r.high r.low t r.after (omega arith) in
       let is = written-record r.high r.low t r.after lim low (rw r.number at a) (rw r.number at r.small) (rw r.number at g) in

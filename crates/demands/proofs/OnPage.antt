@@ -29,8 +29,8 @@ same_size w a = sym w.long ∙ ap length_at a.bytes
 same_line : {lim at n : ℕ} {page t : List ℕ} {r : Stored} → Whole lim page at r → RecordAt page at n t → r.line ≡ n
 same_line w a = sym w.line ∙ ap line_at a.bytes ∙ sym a.number
 
-records-of : {lim low at : ℕ} {page : List ℕ} {rs : List Stored} → Laid lim page low at rs → RecordsStand page at rs
-records-of {at = at} {page = page} (laid.ends e) = no_more (record { after = drop 2 (drop at page); bytes = end-bytes (drop at page) e })
+records-of : {lim : ℕ} {page : List ℕ} {low at : ℕ} {rs : List Stored} → Laid lim page low at rs → RecordsStand page at rs
+records-of {page = page} {at = at} (laid.ends e) = no_more (record { after = drop 2 (drop at page); bytes = end-bytes (drop at page) e })
 records-of (laid.laid l w p) = one_more (whole-record w) (records-of p)
 
 module _ (page : List ℕ) where
@@ -65,6 +65,7 @@ module _ (page : List ℕ) where
   on-boundary g (behind {at = at} {n = n} {t = t} b a) = let o = on-boundary g b in on-behind at n t a o.laid o.lifts o.uses
 
   stands_of : {low at n q : ℕ} {rs : List Stored} → Boundary page at → Laid limit page low at rs → LineAt n at rs q → LineStands page n q
+  stands_of b (laid.ends _) h = elim h [ ]
   stands_of b (laid.laid {r = r} l w p) (this_line h) = record { boundary = b; text = r.text; stands = rw h at (whole-record w) }
   stands_of b (laid.laid {r = r} l w p) (later_line h i) = stands_of (behind b (whole-record w)) p i
 

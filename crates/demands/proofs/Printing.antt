@@ -1,4 +1,5 @@
 -- PRINT works item by item and LIST line by line: a 17 leaves exactly what came before the item that does not fit. Assumes nothing.
+use Rattle.std.specs.Prelude.{if◌then◌else◌}
 use Prim.Native.Nat.{ℕ, ◌+◌}
 use mathlib.Core.Path.{◌≡◌, refl}
 use mathlib.Core.Bool.{Bool, true, false}
@@ -6,7 +7,6 @@ use mathlib.Core.List.{List, [], ◌∷◌}
 use lib.ListN.{length}
 use lib.Dec.{leb}
 use borrow.Author.Tests.{leb-true, leb-false}
-use Rattle.nibl.specs.Bytes.{if◌then◌else◌}
 use Rattle.nibl.specs.Tree.{Item, text, stored, value, print}
 use Rattle.nibl.specs.Values.{Result, is, no, Value, printed}
 use Rattle.nibl.specs.Page.{Stored}

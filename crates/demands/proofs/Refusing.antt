@@ -1,4 +1,5 @@
 -- What a refusing statement leaves of the variables, and what it may be refused with. Assumes nothing.
+use Rattle.std.specs.Prelude.{if◌then◌else◌}
 use Prim.Native.Nat.{ℕ, suc, ◌+◌}
 use mathlib.Core.Path.{◌≡◌, refl, sym, ◌∙◌}
 use mathlib.Core.Bool.{Bool, true, false, not, true≢false}
@@ -7,7 +8,7 @@ use mathlib.Core.Option.{Option, none, some}
 use lib.ListN.{length, drop, set}
 use lib.Seq.{sets}
 use lib.Dec.{leb, eqb}
-use Rattle.nibl.specs.Bytes.{if◌then◌else◌, bytes}
+use Rattle.nibl.specs.Bytes.{bytes}
 use Rattle.nibl.specs.Tree.{Expr, Item, text, stored, value}
 use Rattle.nibl.specs.Tree.{Role, anywhere, in_loop, counts, asks_for, role_of}
 use Rattle.nibl.specs.Tree.{Stmt, let_var, let_stat, let_byte, let_copy, let_text, goto, gosub, until, return, do_loop, remark, end, print, if_then, for, next, input, input_text}

@@ -13,7 +13,7 @@ use Rattle.nibl.specs.Tree.{Typed}
 use Rattle.nibl.specs.found.Read.{typed}
 use Rattle.nibl.specs.found.Column.{column_of}
 use Rattle.nibl.specs.Typing.{Gathered}
-use Rattle.nibl.specs.Page.{is_good, places_of}
+use Rattle.nibl.specs.Page.{is_good, places_of, line_of}
 use Rattle.nibl.specs.Meaning.{World, Env, with_session}
 use Rattle.nibl.specs.Lent.{Lent, Outcome, stops, refused_line, outcome, lent_all, with_positions}
 use Rattle.nibl.specs.Runs.{Ran, run_from, stop_at, run_outcome, pausing}
@@ -51,8 +51,8 @@ line-joined n l (k ∷ m ∷ ks) ls = line-joined n l (m ∷ ks) ls
 goings-line : {page : List ℕ} {k : ℕ} {r : Ran} → Goings page k r → (ks : List ℕ) → stop_at r.stop (ks ++ r.lines) ≡ stop_at r.stop r.lines
 goings-line (runs_out h f) ks = silent 0 (ks ++ []) refl
 goings-line (pauses h s f) ks = silent 14 (ks ++ []) refl
-goings-line (halts h m f) ks = line-joined _ _ ks []
-goings-line (steps {r = r} p h g) ks = line-joined r.stop _ ks r.lines
+goings-line {page = page} (halts {n = n} {p = p} h m f) ks = line-joined n (line_of page p) ks []
+goings-line {page = page} (steps {r = r} p h g) ks = line-joined r.stop (line_of page p) ks r.lines
 
 module _ (lim : ℕ) (short : lim ≤ 251) (x : Lent) (good : is_good lim x.page ≡ true) (q : ℕ) (w : World) (s : Stands (places_of x.page) q)
     (f : Fit (places_of x.page) w.session) (p : Placed x.input w) (l : Steady (begun x 0) w) where

@@ -35,6 +35,8 @@ data Unmoved : Done → Type 0 where
 went-unmoved : (d : Done) (k : World → Done) → Unmoved d → ((u : World) → Unmoved (k u)) → Unmoved (went d k)
 went-unmoved (done on u) k h f = f u
 went-unmoved (done (stop n) u) k h f = halted
+went-unmoved (done skip u) k h f = elim h [ ]
+went-unmoved (done (go _) u) k h f = elim h [ ]
 
 list-unmoved : (n : ℕ) (rs : List Stored) (w : World) → Unmoved (list_from n rs w)
 unfolding list_from put

@@ -6,7 +6,7 @@ use Rattle.nibl.specs.Tree.{Stmt, blank, clear, list, immediate}
 use Rattle.nibl.specs.Page.{records_of}
 use Rattle.nibl.specs.Readings.{LineReading}
 use Rattle.nibl.specs.Typing.{Gathered}
-use Rattle.nibl.specs.Meaning.{World, Next, on, skip, stop, done, exec}
+use Rattle.nibl.specs.Meaning.{World, Next, on, skip, go, stop, done, exec}
 use Rattle.nibl.specs.Lent.{Lent, stops}
 use Rattle.nibl.specs.Typing.{limit}
 use Rattle.nibl.specs.Lent.{begun, lent_env}
@@ -39,6 +39,7 @@ module _ (x : Lent) (g : Gathered) (h : Typing limit x g) where
   at_once on n w goes_on = refl
   at_once skip n w skips = refl
   at_once (stop m) n w gives = refl
+  at_once (go _) n w h = elim h [ ]
 
   -- any other immediate statement is done at once, and so is the line, unless it goes to the program
   pub an-immediate-statement-is-done : (s : Stmt) (how : Next) (n : ℕ) (w : World) → LineReading g.line.bytes (immediate s) → needs_program s ≡ false

@@ -63,6 +63,7 @@ module _ (lim : ℕ) (e : Env) (short : lim ≤ 251) (good : is_good lim e.page 
       by (to_next i) after_it = readable.end
       by (to_record i) after_record = readable.cr
       by (to_place c i) jumps = c
+      by (to_end _) h = elim h [ ]
 
     its-runs : (k : ℕ) → Fit (places_of e.page) w.session → ((q : ℕ) (u : World) → Stands (places_of e.page) q → Fit (places_of e.page) u.session → Runs e k q u (run_from k e q u))
         → Runs e (suc k) q w (stepped x.line (after_step (exec (env_at e x.place) x.statement w) x.place x.cr (run_from k e)))

@@ -1,5 +1,6 @@
 -- "No stop clears the stacks", and what a refusing statement leaves, of the calls: what a call of one or more steps leaves is what its last
 -- statement made of what the same call with one step less left. Assumes nothing.
+use Rattle.std.specs.Prelude.{if◌then◌else◌}
 use Prim.Native.Nat.{ℕ, ◌-◌, ◌≤◌}
 use mathlib.Core.Path.{◌≡◌, refl, ap, ◌∙◌}
 use mathlib.Core.Bool.{Bool, true, false, false≢true}
@@ -10,7 +11,6 @@ use lib.ListN.{length}
 use lib.Dec.{leb, eqb}
 use borrow.Author.Tests.{eq-eqb, eqb-true, eqb-false, ne_eqb, leb-true, leb-false}
 use Rattle.page.proofs.Walk.{by_cases}
-use Rattle.nibl.specs.Bytes.{if◌then◌else◌}
 use Rattle.nibl.specs.Tree.{Typed, blank, new, clear, run, delete, list, store, immediate}
 use Rattle.nibl.specs.found.Read.{typed}
 use Rattle.nibl.specs.Page.{Stored, is_good, records_of, used_by, has_line, with, without, places_of}

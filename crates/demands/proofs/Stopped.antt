@@ -292,9 +292,9 @@ a-replys-stop x sized = (λ h. by (s.0 h), λ r. s.1 (inr r)) where
 -- A continued run has no statement but the program's: all of these numbers, INPUT's 7 too, are its last statement's
 module _ (x : Lent) (n : ℕ) (q : OneOfThese statement_numbers n) where
   paused-lined : (p : ℕ) → Lined x.page → (continue_from limit x p).answer.stop ≡ n → (continue_from limit x p).answer.line ≡ no_line → ⊥
-  paused-lined zero low h l = apart statement_numbers (0 ∷ []) refl n q (subst (OneOfThese (0 ∷ [])) h refl)
-  paused-lined (suc at) low h l =
-      apart statement_numbers unsaid refl n q (subst (OneOfThese unsaid) h (run-named x.call.budget (lent_env limit x) at (begun x 0) low l))
+  paused-lined zero lows h l = apart statement_numbers (0 ∷ []) refl n q (subst (OneOfThese (0 ∷ [])) h refl)
+  paused-lined (suc at) lows h l =
+      apart statement_numbers unsaid refl n q (subst (OneOfThese unsaid) h (run-named x.call.budget (lent_env limit x) at (begun x 0) lows l))
 
   continue-lined : {o : Outcome} → Continues limit x o → o.answer.stop ≡ n → o.answer.line ≡ no_line → ⊥
   continue-lined (refused' {n = m} h) i l = apart statement_numbers first_numbers refl n q (subst (OneOfThese first_numbers) i (first-numbers limit x (suc m) h))

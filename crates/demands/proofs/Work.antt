@@ -1,4 +1,5 @@
 -- A statement does what document 01's rules say, and nothing else: the definition and the rules are one. Assumes nothing.
+use Rattle.std.specs.Prelude.{if◌then◌else◌}
 use Prim.Native.Nat.{ℕ, suc, ◌+◌, ◌-◌, ◌%◌, ◌≤◌, ◌<◌}
 use mathlib.Core.Path.{◌≡◌, refl, sym, ap, subst, ◌∙◌}
 use mathlib.Core.Bool.{Bool, true, false, not, true≢false, false≢true}
@@ -10,7 +11,7 @@ use lib.ListN.{length, get_or, drop, length-append}
 use lib.Seq.{sets}
 use lib.Dec.{ltb, leb, eqb}
 use borrow.Author.Tests.{ltb-true, ltb-false, leb-true, leb-false, lt-ltb, le-ltb, le-leb, lt-leb, eqb-true, eqb-false, eq-eqb, ne_eqb}
-use Rattle.nibl.specs.Bytes.{if◌then◌else◌, bytes}
+use Rattle.nibl.specs.Bytes.{bytes}
 use Rattle.nibl.specs.Tree.{Expr, Item, Stmt, let_var, let_stat, let_byte, let_copy, let_text, goto, gosub, until, return, do_loop, remark, end, print, if_then, for, next, input, input_text}
 use Rattle.nibl.specs.found.Read.{replied}
 use Rattle.nibl.specs.Readings.{ReplyReading}
@@ -355,6 +356,7 @@ module _ (e : Env) (w : World) where
   -- the first value of one, two or three that is refused
   one-refused : {a : Expr} {n : ℕ} (k : ℕ → Done) → FirstRefused e w (a ∷ []) n → given (eval e w a) w k ≡ done (stop n) w
   one-refused k (at_first h) = rw (value-one e w h)
+  one-refused k (at_later _ h) = elim h [ ]
 
   two-refused : {a b : Expr} {n : ℕ} (k : ℕ → ℕ → Done) → FirstRefused e w (a ∷ b ∷ []) n
       → given (eval e w a) w (λ x. given (eval e w b) w (k x)) ≡ done (stop n) w
@@ -369,6 +371,7 @@ module _ (e : Env) (w : World) where
   line_refused : {a : Expr} {n : ℕ} (k : ℕ → Done) → FirstRefused e w (a ∷ []) n
       → given (bind (eval e w a) (λ m. line_there (find e.page m))) w k ≡ done (stop n) w
   line_refused k (at_first h) = rw (value-one e w h)
+  line_refused k (at_later _ h) = elim h [ ]
 
   no-values : {as' : List Expr} {n : ℕ} → as' ≡ [] → FirstRefused e w as' n → ⊥
   no-values h (at_first v) = let z : ◌≡◌ {A = ℕ} 0 1 = cc in omega arith

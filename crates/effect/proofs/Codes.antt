@@ -1,11 +1,11 @@
 -- What an operation of each code leaves, by the answer that its function gave. Assumes nothing.
+use Rattle.std.specs.Prelude.{if◌then◌else◌}
 use Prim.Native.Nat.{ℕ, ◌+◌, ◌%◌, ◌≤◌}
 use mathlib.Core.Path.{◌≡◌, refl, sym, ap, ◌∙◌}
 use mathlib.Core.List.{List, [], ◌∷◌, ◌++◌}
 use lib.Dec.{leb, eqb}
 use lib.ListN.{length, set}
 use borrow.Author.Tests.{ne_eqb}
-use Rattle.nibl.specs.Bytes.{if◌then◌else◌}
 use Rattle.nibl.specs.Values.{printed}
 use Rattle.nibl.specs.Page.{find}
 use Rattle.nibl.specs.Meaning.{World, Env, on, skip, stop, Done, done, bind, string_at, store_at, asked, gosub_to, do_here, for_here}

@@ -1,8 +1,7 @@
 -- The operations that act at once: what they do needs, besides the values, the page, the variables and a look at two stacks, and
 -- changes the variables alone. The turns change one stack besides, and no other part.
-use Rattle.std.specs.Prelude.{ℕ, suc, ◌%◌, List, eqb, set}
+use Rattle.std.specs.Prelude.{ℕ, suc, ◌%◌, List, eqb, set, if◌then◌else◌}
 use Rattle.std.proofs.Math.Option.{Option, none, some}
-use Rattle.nibl.specs.Bytes.{if◌then◌else◌}
 use Rattle.nibl.specs.Page.{find}
 use Rattle.nibl.specs.Meaning.{Next, on, skip, go}
 use Rattle.nibl.specs.declared.Place.{Place}

@@ -2,8 +2,8 @@
 // The record is taken apart: the variables are lent, the rest and the call's positions go by value, as `Parts`.
 #![tactic(auto)]
 
-ghost use Rattle.std.specs.Prelude.{◌+◌, ◌≤◌, ◌%◌, [], ◌∷◌, ◌≡◌, leb, eqb, length, set};
-ghost use Rattle.nibl.specs.Bytes.{if◌then◌else◌, byte_cr, byte_lf};
+ghost use Rattle.std.specs.Prelude.{◌+◌, ◌≤◌, ◌%◌, [], ◌∷◌, ◌≡◌, leb, eqb, length, set, if◌then◌else◌};
+ghost use Rattle.nibl.specs.Bytes.{byte_cr, byte_lf};
 ghost use Rattle.nibl.specs.Meaning.{on, skip, stop};
 ghost use Rattle.world.specs.Turns.{way_of, turned, turned_for};
 ghost use Rattle.value.specs.Writes.{Writes};

@@ -1,4 +1,5 @@
 -- What each answer of gathering tells its caller. Assumes nothing.
+use Rattle.std.specs.Prelude.{if◌then◌else◌}
 use mathlib.Core.Path.{◌≡◌, refl}
 use mathlib.Core.Bool.{Bool, true, false}
 use mathlib.Core.List.{List}
@@ -7,7 +8,6 @@ use Prim.Native.Nat.{ℕ, ◌+◌, ◌-◌, ◌<◌, ◌≤◌}
 use native.Mathlib.Omega.{arith}
 use lib.ListN.{length, take, drop, replicate, length-drop}
 use lib.Seq.{take-append_seam}
-use Rattle.nibl.specs.Bytes.{if◌then◌else◌}
 use Rattle.nibl.specs.Typing.{Gathered, gather}
 use Rattle.letter.specs.declared.Gathering.{Gathering}
 use Rattle.letter.specs.declared.Gathering.TheVariants.{Line, TooLong, NoCr}

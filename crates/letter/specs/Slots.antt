@@ -1,7 +1,6 @@
 -- What gathering answers, and what it leaves in the slots lent to it: all from the definition's `gather`.
-use Rattle.std.specs.Prelude.{ℕ, ◌+◌, ◌-◌, List, [], ◌++◌, length, take, replicate}
+use Rattle.std.specs.Prelude.{ℕ, ◌+◌, ◌-◌, List, [], ◌++◌, length, take, replicate, if◌then◌else◌}
 use Rattle.std.proofs.Math.Option.{Option, none, some}
-use Rattle.nibl.specs.Bytes.{if◌then◌else◌}
 use Rattle.nibl.specs.Typing.{Kept, kept, Gathered}
 use Rattle.letter.specs.declared.Gathering.{Gathering}
 use Rattle.letter.specs.declared.Gathering.TheVariants.{Line, TooLong, NoCr}

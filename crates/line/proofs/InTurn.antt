@@ -1,4 +1,5 @@
 -- A reply's relations in turn: the first of them is what one reading gives, and the rest of the text holds the others. Assumes nothing.
+use Rattle.std.specs.Prelude.{if◌then◌else◌}
 use Prim.Native.Nat.{ℕ, zero, suc, ◌+◌, ◌-◌, ◌≤◌}
 use mathlib.Core.Path.{◌≡◌, refl, sym, ap, subst, ◌∙◌}
 use mathlib.Core.Bool.{true}
@@ -9,7 +10,6 @@ use denote.Enum.Declared.{tag_of}
 use types.Run.{OneOf, miss}
 use lib.ListN.{length, take, drop, length-drop}
 use lib.Seq.{drop-drop}
-use Rattle.nibl.specs.Bytes.{if◌then◌else◌}
 use Rattle.nibl.specs.Tree.{Expr}
 use Rattle.nibl.specs.Grammar.{Key, Relation, Reply, last_reply, enough, more_reply}
 use Rattle.nibl.specs.found.Read.{found, give, may, read, relation, cons_some, replied}

@@ -1,4 +1,5 @@
 -- Typed lines: one law for each answer. Assumes nothing.
+use Rattle.std.specs.Prelude.{if◌then◌else◌}
 use Prim.Native.Nat.{ℕ, zero, suc, ◌-◌, ◌≤◌}
 use mathlib.Core.Path.{◌≡◌, refl, sym, ap, subst, ◌∙◌}
 use mathlib.Core.Bool.{Bool, true, false, false≢true}
@@ -11,7 +12,7 @@ use types.Run.{OneOf}
 use lib.ListN.{length, take, drop}
 use lib.Seq.{sets}
 use lib.Dec.{leb, eqb}
-use Rattle.nibl.specs.Bytes.{if◌then◌else◌, is_space, past, all}
+use Rattle.nibl.specs.Bytes.{is_space, past, all}
 use Rattle.nibl.specs.Words.{Token, sign, keywords, commands, command, spaced, keyword, letter, decimal_digits, hex_digits, quoted, pair, symbol}
 use Rattle.nibl.specs.Tree.{Stmt, Member, Typed, blank, new, clear, run, delete, list, immediate}
 use Rattle.nibl.specs.found.Read.{FrontWord, step_in, at_end, Found, nothing, found, Reader, and_then, if_key, or_else, on_step, choose, decimal_of, sign_of, a_sign, a_decimal, ◌>>=◌, statement, ends_member, member, unread, reading, alone, storing, numbered, alone_statement, command_cases, unnumbered, typed}

@@ -1,4 +1,5 @@
 -- What a caller learns of the first member of a text, and a list by its first member. Assumes nothing.
+use Rattle.std.specs.Prelude.{if◌then◌else◌}
 use Prim.Native.Nat.{ℕ, zero, suc, ◌+◌, ◌-◌, ◌≤◌, ◌<◌}
 use mathlib.Core.Path.{◌≡◌, refl, sym, ap, subst, ◌∙◌}
 use mathlib.Core.Bool.{Bool, true, false, ◌||◌}
@@ -11,7 +12,6 @@ use types.Run.{OneOf, miss}
 use lib.ListN.{length, take, drop, replicate, length-drop}
 use lib.Seq.{take_all, drop-drop}
 use lib.Dec.{leb, eqb}
-use Rattle.nibl.specs.Bytes.{if◌then◌else◌}
 use Rattle.nibl.specs.Tree.{Member}
 use Rattle.nibl.specs.found.Read.{Found, nothing, found, or_else, unread, cons_some, member, reading}
 use Rattle.nibl.specs.Page.{ends_from, ends_of, is_among}

@@ -1,4 +1,5 @@
 -- Replies: one law for each answer. Assumes nothing.
+use Rattle.std.specs.Prelude.{if◌then◌else◌}
 use Prim.Native.Nat.{ℕ, zero, suc, ◌-◌, ◌≤◌, ◌<◌}
 use mathlib.Core.Path.{◌≡◌, refl, sym, ap, subst, ◌∙◌}
 use mathlib.Core.Bool.{Bool, true, false, ◌||◌}
@@ -8,7 +9,7 @@ use native.Mathlib.Omega.{arith}
 use borrow.Author.Tests.{leb-true, leb-false}
 use lib.ListN.{length, drop, length-drop, drop_of_length-le}
 use lib.Dec.{leb}
-use Rattle.nibl.specs.Bytes.{if◌then◌else◌, is_space, all}
+use Rattle.nibl.specs.Bytes.{is_space, all}
 use Rattle.nibl.specs.Tree.{Expr}
 use Rattle.nibl.specs.Words.{number}
 use Rattle.nibl.specs.found.Read.{Found, nothing, found, Reader, give, fail, key, may, if_key, or_else, is_found, ◌>>=◌, read, relation, unread, cons_some, last_reply, replied}

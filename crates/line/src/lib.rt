@@ -2,8 +2,8 @@
 // reader of a member and that of a relation, in a lent list of operations that has room for one to each byte.
 #![tactic(auto)]
 
-ghost use Rattle.std.specs.Prelude.{◌≤◌, ◌≡◌, true, false, length, take, drop};
-ghost use Rattle.nibl.specs.Bytes.{if◌then◌else◌, is_space, all};
+ghost use Rattle.std.specs.Prelude.{◌≤◌, ◌≡◌, true, false, length, take, drop, if◌then◌else◌};
+ghost use Rattle.nibl.specs.Bytes.{is_space, all};
 ghost use Rattle.nibl.specs.found.Read.{a_decimal, or_else, unread, choose, reading, replied, numbered, alone_statement, command_cases, typed};
 ghost use Rattle.nibl.specs.found.Read.{alone as alone_at};
 ghost use Rattle.nibl.specs.Tree.{list};

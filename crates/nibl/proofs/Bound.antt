@@ -1,5 +1,6 @@
 -- How long a front part need be tried: from the fifth byte on behind the one at which a line could not go on, no front part of it is the
 -- front of a line (`stuck-bound`). Assumes nothing.
+use Rattle.std.specs.Prelude.{if◌then◌else◌}
 use Prim.Native.Nat.{ℕ, zero, suc, ◌+◌, ◌-◌, ◌≤◌, ◌<◌}
 use mathlib.Core.Path.{◌≡◌, refl, sym, ap, ◌∙◌, subst}
 use mathlib.Core.Bool.{Bool, true, false, ◌&&◌}
@@ -10,7 +11,7 @@ use borrow.Author.Tests.{leb-true, leb-false}
 use lib.Dec.{leb}
 use lib.ListN.{length, take, drop, length-append}
 use lib.Seq.{length-take-le, take-append-le, take-append-add, take-take}
-use Rattle.nibl.specs.Bytes.{if◌then◌else◌, is_text, is_capital, starts, front, past, all}
+use Rattle.nibl.specs.Bytes.{is_text, is_capital, starts, front, past, all}
 use Rattle.nibl.specs.Words.{Token, keywords, commands, pairs_with, begins, none_over, Word, spaced, keyword, letter, decimal_digits, hex_digits, quoted, pair, symbol}
 use Rattle.nibl.specs.found.Read.{FrontWord, at_end, wrong, got, step_in}
 use Rattle.nibl.specs.found.GaveUp.{gave_up}

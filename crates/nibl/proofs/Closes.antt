@@ -1,5 +1,6 @@
 -- Every stack that comes of a line (specs/found/Column.antt) can be brought to an end: its ending, and that the stack then means the text.
 -- Assumes nothing.
+use Rattle.std.specs.Prelude.{if◌then◌else◌}
 use Prim.Native.Nat.{ℕ, zero, suc}
 use mathlib.Core.Path.{◌≡◌, refl, sym, ◌∙◌}
 use mathlib.Core.Bool.{Bool, true, false, not, ◌&&◌, ◌||◌, false≢true}
@@ -8,7 +9,7 @@ use mathlib.Core.Option.{Option, none, some}
 use native.Mathlib.Omega.{arith}
 use borrow.Author.Tests.{eqb-true}
 use lib.Dec.{eqb}
-use Rattle.nibl.specs.Bytes.{if◌then◌else◌, bytes, is_space, is_text, All, none as done, starts, all}
+use Rattle.nibl.specs.Bytes.{bytes, is_space, is_text, All, none as done, starts, all}
 use Rattle.nibl.specs.Words.{Token, keywords}
 use Rattle.nibl.specs.Grammar.{a_blank}
 use Rattle.nibl.specs.found.Read.{FrontWord, at_end, wrong, got, letters_step, word_step, step_in, choose}

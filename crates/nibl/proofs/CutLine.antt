@@ -1,16 +1,17 @@
 -- A front part of a text whose words are taken is found to be a front: its own words are taken, or those of it and the rest of a word that
 -- it has begun (`is_front`, specs/found/Column.antt). Assumes nothing.
+use Rattle.std.specs.Prelude.{if◌then◌else◌}
 use Prim.Native.Nat.{ℕ, zero, suc, ◌-◌, ◌≤◌, ◌<◌}
 use mathlib.Core.Path.{◌≡◌, refl, sym, ◌∙◌}
 use mathlib.Core.Bool.{Bool, true, false, not, ◌&&◌, ◌||◌, false≢true}
 use mathlib.Core.List.{List, [], ◌∷◌, ◌++◌, append-nil}
 use mathlib.Core.Option.{Option, none, some}
 use native.Mathlib.Omega.{arith}
-use borrow.Author.Tests.{le-leb, eqb-true, eqb-false, eq-eqb}
+use borrow.Author.Tests.{le-leb, eqb-true, eqb-false}
 use lib.Dec.{eqb}
 use lib.ListN.{length, take, drop, length-append}
 use lib.Seq.{take-append_seam, drop-append_seam}
-use Rattle.nibl.specs.Bytes.{if◌then◌else◌, same, is_space, is_text, is_quotable, All, none as done, each, past, all}
+use Rattle.nibl.specs.Bytes.{is_space, is_text, is_quotable, All, none as done, past, all}
 use Rattle.nibl.specs.Words.{Token, Word, index_in, there, keywords, commands}
 use Rattle.nibl.specs.found.Read.{wrong, word_step, step_in}
 use Rattle.nibl.specs.found.Column.{sort_of, a_text, typed_line, typed_command, turn, is_some, is_remark, opened, is_open_string, Verdict, alive, is_alive, advance, run_n, line_run, all_taken, spellings, ends_with, begun_by, begun_in, is_front}

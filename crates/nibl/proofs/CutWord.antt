@@ -1,5 +1,6 @@
 -- A word of a text that is cut somewhere: it stands before the cut, or is a string that the cut leaves open, or what is left of it is a
 -- word of the same sort, or the front of a spelling whose rest stands behind the cut. Assumes nothing.
+use Rattle.std.specs.Prelude.{if◌then◌else◌}
 use Prim.Native.Nat.{ℕ, zero, suc, ◌+◌, ◌-◌, ◌*◌, ◌%◌, ◌≤◌, ◌<◌}
 use mathlib.Core.Path.{◌≡◌, refl, sym, ap, ◌∙◌}
 use mathlib.Core.Bool.{Bool, true, false, not, ◌&&◌, ◌||◌, false≢true}
@@ -9,7 +10,7 @@ use native.Mathlib.Omega.{arith}
 use borrow.Author.Tests.{eqb-true, eqb-false}
 use lib.Dec.{leb, eqb}
 use lib.ListN.{length}
-use Rattle.nibl.specs.Bytes.{if◌then◌else◌, is_space, is_digit, is_capital, is_hex_digit, is_quotable, All, none as done, each, starts, front, all, decimal_value, hex_value}
+use Rattle.nibl.specs.Bytes.{is_space, is_digit, is_capital, is_hex_digit, is_quotable, All, none as done, each, starts, front, all, decimal_value, hex_value}
 use Rattle.nibl.specs.Words.{Token, variable, decimal, hex, string, sign, index_in, there, pairs, pairs_with, is_symbol, ByteRun, begins, none_over, Keyword, Word, spaced, keyword, letter, decimal_digits, hex_digits, quoted, pair, symbol}
 use Rattle.nibl.specs.found.Column.{sort_of, a_text, is_open_string, spellings}
 use Rattle.nibl.proofs.Tests.{and_left, and_right, or_cases, or-true, of-pairs, between, all_true}

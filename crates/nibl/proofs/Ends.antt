@@ -1,4 +1,5 @@
 -- Which bytes a reading is of, and where its members end. Assumes nothing.
+use Rattle.std.specs.Prelude.{if◌then◌else◌}
 use Prim.Native.Nat.{ℕ, suc, ◌-◌, ◌≤◌, ◌<◌}
 use mathlib.Core.Path.{◌≡◌, refl, sym, ap, ◌∙◌}
 use mathlib.Core.Bool.{Bool, true, false, not, ◌&&◌, false≢true}
@@ -10,7 +11,7 @@ use borrow.Author.Tests.{eqb-true, leb-true, ne_eqb, not-true}
 use lib.ListN.{length, take, drop, get_or, length-append, length-drop}
 use lib.Seq.{take_at, get_or-drop}
 use lib.Dec.{leb, eqb}
-use Rattle.nibl.specs.Bytes.{if◌then◌else◌, is_space, is_digit, is_text, is_quotable, not_cr, All, none as done, each, starts, past}
+use Rattle.nibl.specs.Bytes.{is_space, is_digit, is_text, is_quotable, not_cr, All, none as done, each, starts, past}
 use Rattle.nibl.specs.Words.{Token, string, sign, Word, spaced, keyword, letter, decimal_digits, hex_digits, quoted, pair, symbol}
 use Rattle.nibl.specs.Grammar.{Key, Statement, an_if, a_remark, Members, last_member, more_members, Line, a_blank, a_delete, a_store, a_new, a_clear, a_run, a_list, a_list_from, an_immediate}
 use Rattle.nibl.specs.Tree.{Expr, Stmt, remark, if_then, Member, Typed, store}

@@ -1,5 +1,6 @@
 -- What is found to be a front (specs/found/Column.antt) is one (specs/Fronts.antt): a text whose words are taken goes on to a line with a reading.
 -- Assumes nothing.
+use Rattle.std.specs.Prelude.{if◌then◌else◌}
 use Prim.Native.Nat.{ℕ, zero, suc, ◌-◌}
 use mathlib.Core.Path.{◌≡◌, refl}
 use mathlib.Core.Bool.{Bool, true, false, ◌&&◌, false≢true}
@@ -8,7 +9,7 @@ use mathlib.Core.Option.{Option, none, some}
 use borrow.Author.Tests.{eqb-true}
 use lib.Dec.{eqb}
 use lib.ListN.{length, take, drop}
-use Rattle.nibl.specs.Bytes.{if◌then◌else◌, is_space, is_text, is_quotable, none as done, past, all}
+use Rattle.nibl.specs.Bytes.{is_space, is_text, is_quotable, none as done, past, all}
 use Rattle.nibl.specs.Words.{Token, string, spaced, quoted, keywords, commands}
 use Rattle.nibl.specs.found.Read.{FrontWord, at_end, wrong, got, step_in}
 use Rattle.nibl.specs.Fronts.{Front}
@@ -17,7 +18,7 @@ use Rattle.nibl.proofs.Words.{if-split, and_left, and_right, or_cases, true-all,
 use Rattle.nibl.proofs.Rules.{W}
 use Rattle.nibl.proofs.Taken.{Taken, ended, remarked, in_string, takes, LineTaken, by_keywords, by_command}
 use Rattle.nibl.proofs.Joined.{Apart, nothing, a_quote, word-joined}
-use Rattle.nibl.proofs.Means.{more, turn-means, command-means}
+use Rattle.nibl.proofs.Means.{turn-means, command-means}
 use Rattle.nibl.proofs.Closes.{Fits, nil, and, turn-fits, line-fits, command-fits, Ended, closes, remark-ends, one}
 
 -- the text goes on to one that the stack means

@@ -1,4 +1,5 @@
 -- Where a reader of words gave up, no text that agrees with its text up to and with that byte has a word at its front. Assumes nothing.
+use Rattle.std.specs.Prelude.{if◌then◌else◌}
 use Prim.Native.Nat.{ℕ, zero, suc, ◌+◌, ◌-◌, ◌*◌, ◌≤◌, ◌<◌}
 use mathlib.Core.Path.{◌≡◌, refl, sym, ap, ◌∙◌}
 use mathlib.Core.Bool.{Bool, true, false, not, ◌&&◌, ◌||◌}
@@ -8,7 +9,7 @@ use native.Mathlib.Omega.{arith}
 use borrow.Author.Tests.{leb-true, leb-false, lt-leb, eqb-true}
 use lib.Dec.{leb, eqb}
 use lib.ListN.{length, take, drop}
-use Rattle.nibl.specs.Bytes.{if◌then◌else◌, is_space, is_digit, is_capital, is_hex_digit, is_quotable, none as done, each, starts, front, past, all, decimal_value}
+use Rattle.nibl.specs.Bytes.{is_space, is_digit, is_capital, is_hex_digit, is_quotable, none as done, each, starts, front, past, all, decimal_value}
 use Rattle.nibl.specs.Words.{Token, string, pairs, is_symbol, begins, none_over, index_in, Word, letter}
 use Rattle.nibl.specs.found.Read.{FrontWord, wrong, got, sign_or, letters_step, digits_step, hex_step, quoted_step, pair_or, symbol_step, word_step, step_in}
 use Rattle.nibl.specs.found.GaveUp.{common, most_common, past_largest, word_gave_up, gave_up}

@@ -1,4 +1,5 @@
 -- A word stays the word that it is where more text follows that begins with a space or a quote. Assumes nothing.
+use Rattle.std.specs.Prelude.{if◌then◌else◌}
 use Prim.Native.Nat.{ℕ}
 use mathlib.Core.Path.{◌≡◌, refl}
 use mathlib.Core.Bool.{Bool, true, false, ◌&&◌}
@@ -6,7 +7,7 @@ use mathlib.Core.List.{List, [], ◌∷◌, ◌++◌, append_assoc}
 use mathlib.Core.Option.{none, some}
 use borrow.Author.Tests.{eqb-true}
 use lib.Dec.{eqb}
-use Rattle.nibl.specs.Bytes.{if◌then◌else◌, is_space, is_digit, is_capital, is_hex_digit, All, none as done, each, starts, front}
+use Rattle.nibl.specs.Bytes.{is_space, is_digit, is_capital, is_hex_digit, All, none as done, each, starts, front}
 use Rattle.nibl.specs.Words.{Token, there, pairs_with, ByteRun, Word, spaced, keyword, letter, decimal_digits, hex_digits, quoted, pair, symbol}
 
 pub data Apart : List ℕ → Type 0 where

@@ -1,5 +1,6 @@
 -- Tables of spellings, and the longest of them that begins a text. Assumes nothing.
-use Prim.Native.Nat.{ℕ, zero, suc, ◌-◌, ◌≤◌, ◌<◌}
+use Rattle.std.specs.Prelude.{if◌then◌else◌}
+use Prim.Native.Nat.{ℕ, zero, suc, ◌≤◌, ◌<◌}
 use mathlib.Core.Path.{◌≡◌, refl, sym, ap, ◌∙◌, subst}
 use mathlib.Core.Bool.{Bool, true, false, not, ◌&&◌, ◌||◌, false≢true}
 use mathlib.Core.List.{List, [], ◌∷◌, ◌++◌}
@@ -9,8 +10,8 @@ use borrow.Author.Tests.{leb-true, le-leb, lt-leb, eqb-true, eqb-false, eq-eqb}
 use lib.Dec.{leb, eqb}
 use lib.ListN.{length, take}
 use lib.Seq.{length-take-le}
-use Rattle.nibl.specs.Bytes.{if◌then◌else◌, same, is_capital, All, none as done, each, front, all}
-use Rattle.nibl.specs.Words.{index_from, index_in, there, begins, none_over, keyword}
+use Rattle.nibl.specs.Bytes.{same, is_capital, All, none as done, each, front, all}
+use Rattle.nibl.specs.Words.{index_from, index_in, begins, none_over}
 use Rattle.nibl.specs.found.Read.{letters_step}
 use Rattle.nibl.proofs.Tests.{if-split, and_left, and_right, or_cases, or-true}
 

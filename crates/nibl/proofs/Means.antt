@@ -1,4 +1,5 @@
 -- What a stack of what may still come (specs/found/Column.antt) means in the grammar; and a word that is taken keeps its meaning. Assumes nothing.
+use Rattle.std.specs.Prelude.{if◌then◌else◌}
 use Prim.Native.Nat.{ℕ}
 use mathlib.Core.Path.{◌≡◌, refl, sym, ◌∙◌}
 use mathlib.Core.Bool.{Bool, true, false, ◌&&◌, false≢true}
@@ -7,7 +8,7 @@ use mathlib.Core.Option.{Option, none as nothing, some}
 use native.Mathlib.Omega.{arith}
 use borrow.Author.Tests.{eqb-true, ne_eqb, le-leb, lt-leb}
 use lib.Dec.{leb, eqb}
-use Rattle.nibl.specs.Bytes.{if◌then◌else◌, is_space, is_text, All, all}
+use Rattle.nibl.specs.Bytes.{is_space, is_text, All, all}
 use Rattle.nibl.specs.Words.{Token, variable, decimal, hex, string, sign, command, Word, spaced, keyword, pair, symbol}
 use Rattle.nibl.specs.Grammar.{joint_of, factor_joints, term_joints, sum_joints, Key, May, no_word, a_word, Joint, joint, Factor, Sum, Relation, a_variable, a_constant, a_hex, a_stat, a_top, in_brackets, a_byte, a_not, a_mod, a_factor, factors, a_term, less_term, terms, a_sum, related}
 use Rattle.nibl.specs.Grammar.{whole, parted, PrintWord, short_print, long_print, AnItem, a_string, a_stored, a_value, Items, one_item, LastSemicolon, no_semicolon, a_semicolon, AStep, no_step, some_step, Variables}

@@ -1,9 +1,7 @@
 -- Every name that the grammar writes is one of a word. Assumes nothing.
-use Prim.Native.String.{String}
-use Prim.Native.Nat.{ℕ}
 use mathlib.Core.Path.{◌≡◌, refl}
 use mathlib.Core.Bool.{true, not}
-use mathlib.Core.List.{List, [], ◌∷◌}
+use mathlib.Core.List.{[], ◌∷◌}
 use lib.Dec.{eqb}
 use Rattle.nibl.specs.Bytes.{all}
 use Rattle.nibl.specs.Words.{number, command}

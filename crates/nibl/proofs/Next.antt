@@ -1,4 +1,5 @@
 -- The word that stands next, and what each reader does at it. Assumes nothing.
+use Rattle.std.specs.Prelude.{if◌then◌else◌}
 use Prim.Native.Nat.{ℕ}
 use Prim.Native.String.{String}
 use mathlib.Core.Path.{◌≡◌, refl, sym, ap, ◌∙◌}
@@ -8,7 +9,7 @@ use mathlib.Core.Option.{Option, none, some}
 use native.Mathlib.Omega.{arith}
 use borrow.Author.Tests.{eqb-true, eq-eqb, not-true}
 use lib.Dec.{eqb}
-use Rattle.nibl.specs.Bytes.{if◌then◌else◌, is_space, All}
+use Rattle.nibl.specs.Bytes.{is_space, All}
 use Rattle.nibl.specs.Words.{Token, variable, decimal, hex, string, sign, keywords, number}
 use Rattle.nibl.specs.Grammar.{Joints, joint_of, Key, Joint, joint}
 use Rattle.nibl.specs.Tree.{Op}

@@ -1,6 +1,7 @@
 -- Laws of the ways in which readers are made of readers. Each says of two readers at once that they find the same and that
 -- what they find is so: with one reader twice this is soundness, with two bounds of one reader it is that the bound does not matter.
 -- Assumes nothing.
+use Rattle.std.specs.Prelude.{if◌then◌else◌}
 use Prim.Native.Nat.{ℕ}
 use Prim.Native.String.{String}
 use mathlib.Core.Path.{◌≡◌, refl}
@@ -9,7 +10,6 @@ use mathlib.Core.List.{List, [], ◌∷◌}
 use mathlib.Core.Option.{Option, none, some}
 use borrow.Author.Tests.{eqb-true}
 use lib.Dec.{eqb}
-use Rattle.nibl.specs.Bytes.{if◌then◌else◌}
 use Rattle.nibl.specs.Words.{Token, variable, decimal, hex, string, sign, keywords, Word}
 use Rattle.nibl.specs.Grammar.{Joints, joint_of, Key, May, no_word, a_word, Joint, joint}
 use Rattle.nibl.specs.Tree.{Op}

@@ -1,18 +1,11 @@
 -- How long a record's arrays are, from what a function that takes the record knows of it, `c.good.0`. Assumes nothing.
-use mathlib.Core.Path.{◌≡◌, refl, ap, sym, ◌∙◌}
-use mathlib.Core.List.{List, [], ◌∷◌, map}
-use Prim.Native.Nat.{ℕ, suc}
+use mathlib.Core.Path.{◌≡◌}
 use lib.ListN.{length}
-use borrow.Author.Rules.{length_unmapped}
 use denote.Laws.{Is}
 use denote.Struct.Laws as LL
 use Rattle.nibl.specs.declared.Session.{Session}
 use Rattle.nibl.specs.declared.ForStack.{ForStack}
 use Rattle.nibl.specs.declared.PlaceStack.{PlaceStack}
-use Rattle.nibl.specs.declared.Place.{Place}
-use Rattle.nibl.specs.declared.ForEntry.{ForEntry}
-use Rattle.nibl.specs.contracts.Place as E
-use Rattle.nibl.specs.contracts.ForEntry as N
 use Rattle.nibl.specs.contracts.Session as S
 use Rattle.nibl.proofs.Session.TheLaws as S'
 use Rattle.nibl.specs.contracts.ForStack as F

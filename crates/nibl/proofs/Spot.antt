@@ -3,7 +3,7 @@
 use Prim.Native.Nat.{ℕ, zero, suc, ◌≤◌, ◌<◌}
 use mathlib.Core.Path.{◌≡◌, refl, sym, subst, ◌∙◌}
 use mathlib.Core.Bool.{Bool, true, false, false≢true}
-use mathlib.Core.List.{List, [], ◌++◌, append_assoc}
+use mathlib.Core.List.{List, []}
 use mathlib.Core.Logic.{◌↔◌}
 use native.Mathlib.Omega.{arith}
 use borrow.Author.Tests.{ltb-true, ltb-false, eqb-true, eqb-false}
@@ -11,7 +11,6 @@ use lib.Dec.{ltb, eqb}
 use lib.ListN.{length, take}
 use Rattle.nibl.specs.Bytes.{none}
 use Rattle.nibl.specs.Grammar.{a_blank}
-use Rattle.nibl.specs.Readings.{LineReading}
 use Rattle.nibl.specs.Tree.{blank}
 use Rattle.nibl.specs.Fronts.{Front, IsColumn}
 use Rattle.nibl.specs.found.Column.{is_front, column_down, column_of}

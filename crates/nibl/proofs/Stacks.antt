@@ -1,11 +1,11 @@
 -- Laws of the stacks of places, for callers to cite. Assumes nothing.
 use Prim.Native.Nat.{ℕ, ◌+◌, ◌-◌, ◌<◌, ◌≤◌}
 use mathlib.Core.Path.{◌≡◌, ◌∙◌, ap}
-use mathlib.Core.Bool.{true, false}
+use mathlib.Core.Bool.{false}
 use mathlib.Core.List.{List, [], ◌∷◌, ◌++◌}
 use native.Mathlib.Numerals.{add-one}
 use native.Mathlib.Omega.{arith}
-use lib.ListN.{length, take, set, get_or}
+use lib.ListN.{length, take, set}
 use lib.Seq.{take-suc-set, get_or-set_same}
 use borrow.Author.Tests.{lt-ltb, le-ltb}
 use Rattle.nibl.specs.declared.Place.{Place}

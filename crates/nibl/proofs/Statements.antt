@@ -15,7 +15,7 @@ use Rattle.nibl.specs.found.Read.{Reader, give, ◌>>=◌, if_key, Part, relatio
 use Rattle.nibl.specs.found.Read.{a_variable as variable_read}
 use Rattle.nibl.proofs.Words.{if-split, true-all}
 use Rattle.nibl.proofs.Over.{Outside, here, outside_trans, outside-passed, outside-length, Passed, passed-text, text-passed, Over, ◌⨾◌, word_over}
-use Rattle.nibl.proofs.Rules.{same, one, W, Same, neither, gives, by-word, or-else, and-then, Cases, no_more, ◌and◌, chosen, Case, variable-same, string-same, if-key, by_key, by_may}
+use Rattle.nibl.proofs.Rules.{same, W, Same, neither, gives, by-word, or-else, and-then, Cases, no_more, ◌and◌, chosen, Case, variable-same, string-same, if-key, by_key, by_may}
 use Rattle.nibl.proofs.Sound.{may-out, onto, factor-over, relation-over, Reads, read_same}
 
 -- What stands before the rest

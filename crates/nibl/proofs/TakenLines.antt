@@ -1,4 +1,5 @@
 -- Every line that the grammar reads is taken word by word by the stack of specs/found/Column.antt. Assumes nothing.
+use Rattle.std.specs.Prelude.{if◌then◌else◌}
 use Prim.Native.Nat.{ℕ}
 use mathlib.Core.Path.{◌≡◌, refl, ◌∙◌}
 use mathlib.Core.Bool.{Bool, true, false}
@@ -7,7 +8,6 @@ use mathlib.Core.Option.{Option, some}
 use native.Mathlib.Omega.{arith}
 use borrow.Author.Tests.{eqb-true}
 use lib.Dec.{eqb}
-use Rattle.nibl.specs.Bytes.{if◌then◌else◌}
 use Rattle.nibl.specs.Words.{Token, number}
 use Rattle.nibl.specs.Grammar.{Joints, factor_joints, term_joints, sum_joints, joint_of, Key, May, no_word, a_word, Joint, joint, Factor, Term, Sum, Relation, a_variable, a_constant, a_hex, a_stat, a_top, in_brackets, a_byte, a_not, a_mod, a_factor, factors, a_term, less_term, terms, a_sum, related}
 use Rattle.nibl.specs.Grammar.{whole, parted, short_print, long_print, AnItem, a_string, a_stored, a_value, Items, one_item, more_items as items_on, LastSemicolon, no_semicolon, a_semicolon, AStep, no_step, some_step, Variables, one_variable as last_variable, more_variables as variables_on}

@@ -1,5 +1,6 @@
 -- Tests, the classes of bytes, and runs of bytes. Assumes nothing.
-use Prim.Native.Nat.{ℕ, ◌-◌, ◌≤◌}
+use Rattle.std.specs.Prelude.{if◌then◌else◌}
+use Prim.Native.Nat.{ℕ, ◌≤◌}
 use mathlib.Core.Path.{◌≡◌, refl, sym, ap, subst}
 use mathlib.Core.Bool.{Bool, true, false, not, ◌&&◌, ◌||◌, false≢true}
 use mathlib.Core.List.{List, [], ◌∷◌, ◌++◌}
@@ -7,8 +8,8 @@ use mathlib.Core.Option.{Option, some}
 use native.Mathlib.Omega.{arith}
 use borrow.Author.Tests.{leb-true, le-leb, lt-leb, eqb-true, ne_eqb, not-true}
 use lib.Dec.{leb, eqb}
-use Rattle.nibl.specs.Bytes.{if◌then◌else◌, is_space, is_digit, is_capital, All, none as done, each, starts, front, past, all}
-use Rattle.nibl.specs.Words.{pairs, is_symbol, ByteRun, pair}
+use Rattle.nibl.specs.Bytes.{is_space, is_digit, is_capital, All, none as done, each, starts, front, past, all}
+use Rattle.nibl.specs.Words.{pairs, is_symbol, ByteRun}
 
 -- a fact about a choice, from the fact at each branch with what the test gave
 module _ {A : Type 0} (P : A → Type 0) where

@@ -1,7 +1,7 @@
 -- The function of words finds exactly the words of the rule; so a text begins with at most one word. Assumes nothing.
 use Prim.Native.Nat.{ℕ, zero, suc, ◌-◌, ◌%◌, ◌≤◌}
 use mathlib.Core.Path.{◌≡◌, refl, sym, ap, ◌∙◌, subst}
-use mathlib.Core.Bool.{Bool, true, false, not, false≢true}
+use mathlib.Core.Bool.{Bool, true, false, false≢true}
 use mathlib.Core.List.{List, [], ◌∷◌, ◌++◌}
 use mathlib.Core.Option.{Option, none, some}
 use native.Mathlib.Omega.{arith}
@@ -9,8 +9,8 @@ use borrow.Author.Tests.{leb-true, le-leb, eqb-true}
 use lib.Dec.{leb, eqb}
 use lib.ListN.{length, take, drop, take-append-drop, length-append}
 use lib.Seq.{length-take-le, take-append_seam, drop-append_seam}
-use Rattle.nibl.specs.Bytes.{if◌then◌else◌, is_space, is_digit, is_capital, is_hex_digit, is_quotable, All, none as done, each, starts, front, past, all, decimal_value, hex_value}
-use Rattle.nibl.specs.Words.{Token, variable, decimal, hex, string, sign, index_in, pairs, there, pairs_with, is_symbol, ByteRun, begins, none_over, Keyword, Word, spaced, keyword, letter, decimal_digits, hex_digits, quoted, pair, symbol}
+use Rattle.nibl.specs.Bytes.{is_space, is_digit, is_capital, is_hex_digit, is_quotable, All, none as done, each, starts, front, past, all, decimal_value, hex_value}
+use Rattle.nibl.specs.Words.{Token, variable, decimal, hex, string, sign, index_in, pairs, there, pairs_with, is_symbol, ByteRun, none_over, Keyword, Word, spaced, keyword, letter, decimal_digits, hex_digits, quoted, pair, symbol}
 use Rattle.nibl.specs.Longest.{is_whole}
 use Rattle.nibl.specs.found.Read.{FrontWord, at_end, wrong, got, sign_or, letter_step, letters_step, digits_step, hex_step, quoted_step, pair_or, symbol_step, word_step, step_in}
 pub use Rattle.nibl.proofs.Tests.{if-split, and_left, and_right, or_cases, or-true, of-symbols, no_symbol, of-pairs, between, capital-other, digit-other, all_true, true-all, front-run}

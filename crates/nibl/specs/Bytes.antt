@@ -1,14 +1,7 @@
 -- Bytes, their classes, and runs of them.
-use Rattle.std.specs.Prelude.{ℕ, ◌+◌, ◌-◌, ◌*◌, ◌≡◌, Bool, true, false, not, ◌&&◌, ◌||◌, List, [], ◌∷◌, leb, eqb}
+use Rattle.std.specs.Prelude.{ℕ, if◌then◌else◌, ◌+◌, ◌-◌, ◌*◌, ◌≡◌, Bool, true, false, not, ◌&&◌, ◌||◌, List, [], ◌∷◌, leb, eqb}
 use Prim.Native.String.{String, [] as nil, ◌∷◌ as ◌⊲◌}
 use Prim.Native.Char.{code}
-
-module _ {A : Type 0} where
-  infix 10 if◌then◌else◌
-  -- a choice by a test
-  abbrev pub if◌then◌else◌ : Bool → A → A → A
-  if true then x else y = x
-  if false then x else y = y
 
 -- the bytes of a quoted text
 abbrev pub bytes : String → List ℕ

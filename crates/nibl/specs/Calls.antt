@@ -1,7 +1,7 @@
 -- What a typed line does, and the two calls: from all that is lent to all that is left.
-use Rattle.std.specs.Prelude.{ℕ, zero, suc, Bool, true, false, ◌&&◌, List, [], ◌∷◌, ◌++◌, length, drop, leb, eqb}
+use Rattle.std.specs.Prelude.{ℕ, zero, suc, Bool, true, false, ◌&&◌, List, [], ◌∷◌, ◌++◌, length, drop, leb, eqb, if◌then◌else◌}
 use Rattle.std.proofs.Math.Option.{Option, none, some}
-use Rattle.nibl.specs.Bytes.{if◌then◌else◌, byte_cr, byte_lf}
+use Rattle.nibl.specs.Bytes.{byte_cr, byte_lf}
 use Rattle.nibl.specs.Tree.{Stmt, anywhere, in_loop, counts, asks_for, role_of}
 use Rattle.nibl.specs.Tree.{Typed, blank, new, clear, run, delete, list, store, immediate}
 use Rattle.nibl.specs.found.Read.{typed}

@@ -1,8 +1,7 @@
 -- Document 02's item 5, the two calls that carry a rule set to another box: a save writes its form, and a load takes one. "Refused, either
 -- changes nothing", the pause included. What a call does not look at is not asked for its range and comes back as it came.
-use Rattle.std.specs.Prelude.{ℕ, ◌+◌, Bool, not, ◌&&◌, List, length, leb, eqb}
+use Rattle.std.specs.Prelude.{ℕ, ◌+◌, Bool, not, ◌&&◌, List, length, leb, eqb, if◌then◌else◌}
 use Rattle.std.proofs.lemmas.List.Edits.{sets}
-use Rattle.nibl.specs.Bytes.{if◌then◌else◌}
 use Rattle.nibl.specs.Values.{Result, is, no}
 use Rattle.nibl.specs.Typing.{limit}
 use Rattle.nibl.specs.Record.{loaded_session}

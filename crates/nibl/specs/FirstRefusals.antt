@@ -1,6 +1,5 @@
 -- The first refusals of a call: what it is lent is out of range, the page is bad, the table false, or the record does not fit.
-use Rattle.std.specs.Prelude.{ℕ, Bool, true, not, ◌&&◌, List, length, leb, eqb}
-use Rattle.nibl.specs.Bytes.{if◌then◌else◌}
+use Rattle.std.specs.Prelude.{ℕ, Bool, true, not, ◌&&◌, List, length, leb, eqb, if◌then◌else◌}
 use Rattle.nibl.specs.Page.{is_good, fits}
 use Rattle.nibl.specs.Table.{describes}
 use Rattle.nibl.specs.Lent.{Lent}

@@ -1,9 +1,9 @@
 -- The grammar, over any rule of words. `Factor s a s'`: the text s begins with a factor that is read as a, and s' follows it.
 -- Nothing here looks for a reading.
-use Rattle.std.specs.Prelude.{ℕ, suc, ◌≡◌, Bool, true, false, List, [], ◌∷◌, length, eqb}
+use Rattle.std.specs.Prelude.{ℕ, suc, ◌≡◌, Bool, true, false, List, [], ◌∷◌, length, eqb, if◌then◌else◌}
 use Prim.Native.String.{String}
 use Rattle.std.proofs.Math.Option.{Option, none, some}
-use Rattle.nibl.specs.Bytes.{if◌then◌else◌, is_space, is_text, All}
+use Rattle.nibl.specs.Bytes.{is_space, is_text, All}
 use Rattle.nibl.specs.Words.{Token, variable, decimal, hex, string, sign, number, command}
 use Rattle.nibl.specs.Tree.{Op, times, divided_by, and_bits, plus, minus, or_bits, equal, less, greater, at_most, at_least, unequal}
 use Rattle.nibl.specs.Tree.{Expr, var, const, stat, top, byte_at, invert, negate, modulo, two}

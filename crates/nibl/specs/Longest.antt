@@ -1,7 +1,7 @@
 -- "Always the longest that fits", for what is shown of words (`word-longest`, proofs/Words.antt): a text s begins with the word, s' follows
 -- it, and no more of s would be one.
-use Rattle.std.specs.Prelude.{ℕ, ◌-◌, Bool, true, not, List, length, leb}
-use Rattle.nibl.specs.Bytes.{if◌then◌else◌, is_digit, is_capital, is_hex_digit, starts, front}
+use Rattle.std.specs.Prelude.{ℕ, ◌-◌, Bool, true, not, List, length, leb, if◌then◌else◌}
+use Rattle.nibl.specs.Bytes.{is_digit, is_capital, is_hex_digit, starts, front}
 use Rattle.nibl.specs.Words.{Token, variable, decimal, hex, string, sign, pairs_with, none_over, first_keyword}
 
 abbrev pub is_whole : List (List ℕ) → List ℕ → Token → List ℕ → Bool

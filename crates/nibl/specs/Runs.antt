@@ -1,7 +1,7 @@
 -- A run within its budget: what stands at a position of the page, one step, and steps up to a stop.
-use Rattle.std.specs.Prelude.{ℕ, zero, suc, ◌+◌, ◌-◌, ◌&&◌, ◌||◌, List, [], ◌∷◌, length, get_or, drop, leb, eqb}
+use Rattle.std.specs.Prelude.{ℕ, zero, suc, ◌+◌, ◌-◌, ◌&&◌, ◌||◌, List, [], ◌∷◌, length, get_or, drop, leb, eqb, if◌then◌else◌}
 use Rattle.std.proofs.Math.Option.{Option, none, some}
-use Rattle.nibl.specs.Bytes.{if◌then◌else◌, not_cr, front, byte}
+use Rattle.nibl.specs.Bytes.{not_cr, front, byte}
 use Rattle.nibl.specs.Tree.{Stmt, Member}
 use Rattle.nibl.specs.found.Read.{Found, nothing, found, member}
 use Rattle.nibl.specs.Record.{paused_at, with_paused}

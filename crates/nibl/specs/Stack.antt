@@ -1,6 +1,5 @@
 -- The stacks: what a push, a look at the top and a pop give, of any record, a bad depth included.
-use Rattle.std.specs.Prelude.{ℕ, ◌+◌, ◌-◌, Bool, true, false, ltb, set, get_or}
-use Rattle.nibl.specs.Bytes.{if◌then◌else◌}
+use Rattle.std.specs.Prelude.{ℕ, ◌+◌, ◌-◌, true, false, ltb, set, get_or, if◌then◌else◌}
 use Rattle.nibl.specs.declared.Place.{Place}
 use Rattle.nibl.specs.declared.PlaceStack.{PlaceStack}
 use Rattle.nibl.specs.declared.Pushed.{Pushed}

@@ -1,7 +1,7 @@
 -- "A line is gathered from the input up to CR", within a limit.
-use Rattle.std.specs.Prelude.{ℕ, suc, ◌-◌, Bool, true, false, List, [], ◌∷◌, ◌++◌, length, take, ltb, eqb}
+use Rattle.std.specs.Prelude.{ℕ, suc, ◌-◌, Bool, true, false, List, [], ◌∷◌, ◌++◌, length, take, ltb, eqb, if◌then◌else◌}
 use Rattle.std.proofs.Math.Option.{Option, none, some}
-use Rattle.nibl.specs.Bytes.{if◌then◌else◌, class_dropped, class_cr, class_erase, class_discard, class_of}
+use Rattle.nibl.specs.Bytes.{class_dropped, class_cr, class_erase, class_discard, class_of}
 
 -- "If a 73rd byte would be kept, the line is over-long"; a stored line's text and digits are "at most 72"
 abbrev pub limit : ℕ

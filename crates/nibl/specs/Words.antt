@@ -1,8 +1,8 @@
 -- Words: "always the longest that fits".
-use Rattle.std.specs.Prelude.{ℕ, suc, ◌-◌, ◌%◌, ◌≤◌, ◌≡◌, Bool, true, false, not, ◌&&◌, ◌||◌, List, [], ◌∷◌, ◌++◌, length, eqb, leb}
+use Rattle.std.specs.Prelude.{ℕ, suc, ◌-◌, ◌%◌, ◌≤◌, ◌≡◌, Bool, true, false, not, ◌&&◌, ◌||◌, List, [], ◌∷◌, ◌++◌, length, eqb, leb, if◌then◌else◌}
 use Prim.Native.String.{String}
 use Rattle.std.proofs.Math.Option.{Option, none, some}
-use Rattle.nibl.specs.Bytes.{if◌then◌else◌, byte, bytes, same, is_digit, is_capital, is_hex_digit, is_quotable, All, starts, front, all, decimal_value, hex_value, byte_quote}
+use Rattle.nibl.specs.Bytes.{byte, bytes, same, is_digit, is_capital, is_hex_digit, is_quotable, All, starts, front, all, decimal_value, hex_value, byte_quote}
 
 pub data Token : Type 0 where
   variable : ℕ → Token  -- 0 for A to 25 for Z

@@ -1,4 +1,5 @@
 -- A line gathered and read: from the answers to the definition's words. Assumes nothing.
+use Rattle.std.specs.Prelude.{if◌then◌else◌}
 use Prim.Native.Nat.{ℕ, ◌+◌, ◌-◌, ◌≤◌}
 use mathlib.Core.Bool.{Bool, true, false}
 use mathlib.Core.List.{List, [], ◌++◌}
@@ -7,7 +8,6 @@ use mathlib.Core.Path.{◌≡◌, refl, sym, ap, subst, ◌∙◌}
 use native.Mathlib.Omega.{arith}
 use lib.ListN.{length, take, drop, replicate, length-append}
 use lib.Seq.{take_at}
-use Rattle.nibl.specs.Bytes.{if◌then◌else◌}
 use Rattle.nibl.specs.Words.{Word, keywords, commands}
 use Rattle.nibl.specs.Grammar.{Line, an_immediate}
 use Rattle.nibl.specs.Tree.{Stmt, immediate}

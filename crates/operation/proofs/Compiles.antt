@@ -1,4 +1,5 @@
 -- To run the operations of a statement is to do what the statement says. Assumes nothing.
+use Rattle.std.specs.Prelude.{if◌then◌else◌}
 use Prim.Native.Nat.{ℕ, suc, ◌+◌, ◌/◌, ◌%◌, ◌≤◌, ◌<◌}
 use mathlib.Core.Path.{◌≡◌, refl, sym, ap, ◌∙◌}
 use mathlib.Core.Bool.{Bool, true, false, not, ◌&&◌}
@@ -9,7 +10,7 @@ use borrow.Author.Tests.{ltb-true, leb-true, le-leb, not-true}
 use lib.Dec.{ltb, leb, eqb}
 use lib.ListN.{length, get_or, set, length-set}
 use lib.Seq.{sets}
-use Rattle.nibl.specs.Bytes.{if◌then◌else◌, is_text, is_quotable, All, none as no_byte, each as each_byte}
+use Rattle.nibl.specs.Bytes.{is_text, is_quotable, All, none as no_byte, each as each_byte}
 use Rattle.nibl.specs.Tree.{Expr, Item, Stmt}
 use Rattle.nibl.specs.Values.{Result, is, no}
 use Rattle.nibl.specs.found.Read.{replied}

@@ -1,8 +1,8 @@
 -- What a list of operations does: it is defined over the operations alone, without words or grammar but for replies.
 -- Codes below `effects` take values off a stack and put one on; the others see the three values on top, change the world and
 -- leave no values.
-use Rattle.std.specs.Prelude.{ℕ, ◌%◌, ◌+◌, Bool, true, false, ◌||◌, List, [], ◌∷◌, ◌++◌, map, ltb, leb, eqb, length, get_or, drop}
-use Rattle.nibl.specs.Bytes.{if◌then◌else◌, byte_cr, byte_lf}
+use Rattle.std.specs.Prelude.{ℕ, ◌%◌, ◌+◌, Bool, true, false, ◌||◌, List, [], ◌∷◌, ◌++◌, map, ltb, leb, eqb, length, get_or, drop, if◌then◌else◌}
+use Rattle.nibl.specs.Bytes.{byte_cr, byte_lf}
 use Rattle.nibl.specs.Values.{Result, is, Value, sub16, not16, mod16, apply, printed}
 use Rattle.nibl.specs.Stack.{pop_of, pop_for}
 use Rattle.nibl.specs.Page.{find, used}

@@ -1,5 +1,6 @@
 -- A record put in or taken out leaves the records of a good page; and the page with other records is good.
 -- Assumes nothing.
+use Rattle.std.specs.Prelude.{if◌then◌else◌}
 use Prim.Native.Nat.{ℕ, suc, ◌≤◌}
 use mathlib.Core.Path.{◌≡◌, refl, sym, ◌∙◌}
 use mathlib.Core.Bool.{Bool, true, false, false≢true}
@@ -8,7 +9,6 @@ use native.Mathlib.Omega.{arith}
 use lib.ListN.{length, drop}
 use lib.Dec.{ltb, eqb}
 use borrow.Author.Tests.{ltb-true, ltb-false, eqb-true, eqb-false}
-use Rattle.nibl.specs.Bytes.{if◌then◌else◌}
 use Rattle.nibl.specs.found.Read.{step_in, word_step, ◌>>=◌, a_statement, statement_n, statement, member, members_n, reading}
 use Rattle.nibl.specs.Page.{Stored, program_bytes, has_reading, is_storable, is_good, records_of, without, with, onto}
 use Rattle.page.proofs.Walk.{by_cases}

@@ -1,4 +1,5 @@
 -- One outcome: two answers that meet a public function's promise for the same arguments are equal, and so are all lent bytes. Assumes nothing.
+use Rattle.std.specs.Prelude.{if◌then◌else◌}
 use Prim.Native.Nat.{ℕ}
 use mathlib.Core.Path.{◌≡◌, refl, sym, ap, ◌∙◌}
 use mathlib.Core.Bool.{Bool}
@@ -8,7 +9,6 @@ use lib.ListN.{length, drop}
 use lib.Dec.{eqb}
 use native.Mathlib.Omega.{arith}
 use Rattle.nibl.proofs.Determined.{determined, onward-same}
-use Rattle.nibl.specs.Bytes.{if◌then◌else◌}
 use Rattle.nibl.specs.declared.LineNumber.{LineNumber}
 use Rattle.nibl.specs.Page.{is_end, line_at, records_of, find, line_of, used}
 use Rattle.nibl.specs.Record.{position_of}

@@ -1,4 +1,5 @@
 -- A form is read as what it carries exactly where it is the form of that, by the tests that a page's records meet. Assumes nothing.
+use Rattle.std.specs.Prelude.{if◌then◌else◌}
 use Prim.Native.Nat.{ℕ, zero, suc, ◌+◌, ◌-◌, ◌*◌, ◌/◌, ◌%◌, ◌≤◌, ◌<◌}
 use mathlib.Core.Path.{◌≡◌, refl, sym, ap, ◌∙◌, subst}
 use mathlib.Core.Bool.{Bool, true, false, not, ◌&&◌, false≢true}
@@ -9,7 +10,6 @@ use lib.ListN.{length, get_or, take, drop, length-append, length-drop, replicate
 use lib.Seq.{drop_at, take_at, get_or_at, drop-drop, get_or-drop, length-take-le, take_all, get_or-append-add}
 use lib.Dec.{leb, eqb}
 use borrow.Author.Tests.{le-leb, leb-true, eqb-true, ne_eqb, eq-eqb, le-ltb}
-use Rattle.nibl.specs.Bytes.{if◌then◌else◌}
 use Rattle.nibl.specs.Values.{Result, is, no}
 use Rattle.nibl.specs.Page.{Stored, record_bytes, line_at, length_at, text_at, is_record, size}
 use Rattle.page.specs.Standing.{Bytes, Storable}

@@ -1,5 +1,6 @@
 -- On a good page the edits are the definition's: the bytes spliced are the page with the records that the definition names.
 -- Assumes nothing.
+use Rattle.std.specs.Prelude.{if◌then◌else◌}
 use Prim.Native.Nat.{ℕ, ◌+◌, ◌-◌, ◌≤◌, ◌<◌}
 use mathlib.Core.Path.{◌≡◌, refl, sym, ap, ◌∙◌}
 use mathlib.Core.Bool.{true, false, not, false≢true}
@@ -9,7 +10,6 @@ use lib.ListN.{length, take, drop, length-append}
 use lib.Seq.{take-append_seam, drop-append-add, drop_at, take_at}
 use lib.Dec.{ltb, leb, eqb}
 use borrow.Author.Tests.{ltb-true, ltb-false, eqb-true, eqb-false, lt-ltb, le-ltb, le-leb, eq-eqb, ne_eqb}
-use Rattle.nibl.specs.Bytes.{if◌then◌else◌}
 use Rattle.nibl.specs.Page.{Stored, record_bytes, program_bytes, is_good, records_of, size, used, used_by, has_line, with, without, onto}
 use Rattle.nibl.specs.Lent.{stops}
 use Rattle.nibl.specs.Calls as calls

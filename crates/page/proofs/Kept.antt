@@ -1,4 +1,5 @@
 -- What edits keep: a good page stays good, bytes stay bytes, and a refused edit changes nothing. What the finder finds. Assumes nothing.
+use Rattle.std.specs.Prelude.{if◌then◌else◌}
 use Prim.Native.Nat.{ℕ, zero, suc, ◌+◌, ◌-◌, ◌/◌, ◌%◌, ◌≤◌, ◌<◌}
 use mathlib.Core.Path.{◌≡◌, refl, sym, ap, ◌∙◌}
 use mathlib.Core.Bool.{Bool, true, false, ◌&&◌}
@@ -9,7 +10,7 @@ use lib.ListN.{length, take, drop}
 use lib.Seq.{get_or-drop}
 use lib.Dec.{ltb, leb, eqb}
 use borrow.Author.Tests.{leb-true, eqb-true, lt-ltb}
-use Rattle.nibl.specs.Bytes.{if◌then◌else◌, is_text, All, none as no_byte, each as each-byte}
+use Rattle.nibl.specs.Bytes.{is_text, All, none as no_byte, each as each-byte}
 use Rattle.nibl.specs.Page.{Stored, record_bytes, program_bytes, is_good, records_of, line_at, size, used, has_line, with, position_in, find, onto}
 use Rattle.nibl.proofs.Words.{if-split}
 use Rattle.page.specs.Walk.{stops_at, size_at, reached, LineRecord, is_there}

@@ -1,4 +1,5 @@
 -- Where a run can stand on a good page, what it reads there, and in which record a place lies. Assumes nothing.
+use Rattle.std.specs.Prelude.{if◌then◌else◌}
 use Prim.Native.Nat.{ℕ, zero, suc, ◌+◌, ◌-◌, ◌≤◌, ◌<◌}
 use mathlib.Core.Path.{◌≡◌, refl, sym, ap, ◌∙◌}
 use mathlib.Core.Bool.{Bool, true, false, ◌&&◌, ◌||◌, false≢true}
@@ -9,7 +10,7 @@ use lib.ListN.{length, get_or, drop, length-append, length-drop}
 use lib.Seq.{drop-append-le, drop-length, drop-drop}
 use lib.Dec.{leb, eqb}
 use borrow.Author.Tests.{eqb-true, eq-eqb, ne_eqb, le-leb, le-ltb, lt-ltb}
-use Rattle.nibl.specs.Bytes.{if◌then◌else◌, not_cr, All, none as every-none, each, front}
+use Rattle.nibl.specs.Bytes.{not_cr, All, none as every-none, each, front}
 use Rattle.nibl.specs.Tree.{Member}
 use Rattle.nibl.specs.Grammar.{Members, last_member, more_members}
 use Rattle.nibl.specs.found.Read.{nothing as unread, found, member, reading}
@@ -280,7 +281,7 @@ module _ (lim : ℕ) (page : List ℕ) where
           record {
             start = d.start;
             above = rw line (omega arith);
-            found = rw (line, ne_eqb r.line (line_in (p - (at + size r)) rs) (λ f. omega arith)) d.found;
+            found = ap (λ (n : ℕ). position_in n at (r ∷ rs)) line ∙ rw (ne_eqb r.line (line_in (p - (at + size r)) rs) (λ f. omega arith)) d.found;
             ahead = omega arith;
             behind = d.behind;
             inside = d.inside;

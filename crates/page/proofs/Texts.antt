@@ -1,4 +1,5 @@
 -- The text from a position on, up to the next CR, a byte at a time. Assumes nothing.
+use Rattle.std.specs.Prelude.{if◌then◌else◌}
 use Prim.Native.Nat.{ℕ, suc, ◌+◌, ◌≤◌, ◌<◌}
 use mathlib.Core.Path.{◌≡◌, refl, ap}
 use mathlib.Core.Bool.{Bool, true, false}
@@ -8,7 +9,7 @@ use native.Mathlib.Omega.{arith}
 use lib.ListN.{length, get_or, take, drop, drop_of_length-le, length-drop}
 use lib.Seq.{drop-cons}
 use borrow.Author.Tests.{eq-eqb, ne_eqb}
-use Rattle.nibl.specs.Bytes.{if◌then◌else◌, not_cr, front}
+use Rattle.nibl.specs.Bytes.{not_cr, front}
 use Rattle.nibl.specs.Runs.{line_from}
 
 module _ (s : List ℕ) (at : ℕ) where

@@ -1,7 +1,6 @@
 -- What an edit does to a page's bytes, whatever they are. On a good page it is the definition's (proofs/Good.antt).
-use Rattle.std.specs.Prelude.{ℕ, ◌+◌, ◌-◌, ◌≤◌, ◌≡◌, Bool, true, false, ◌&&◌, List, [], ◌∷◌, ◌++◌, length, take, drop, ltb, leb, eqb}
+use Rattle.std.specs.Prelude.{ℕ, ◌+◌, ◌-◌, ◌≤◌, ◌≡◌, Bool, true, false, ◌&&◌, List, [], ◌∷◌, ◌++◌, length, take, drop, ltb, leb, eqb, if◌then◌else◌}
 use Rattle.std.proofs.Math.Seq.{paste}
-use Rattle.nibl.specs.Bytes.{if◌then◌else◌}
 use Rattle.nibl.specs.Page.{Stored, record_bytes, records_of, size, used, used_by, onto}
 use Rattle.nibl.specs.Lent.{Outcome, stops}
 use Rattle.nibl.specs.Record.{stackless}

@@ -1,7 +1,6 @@
 -- What LIST writes into an output, from a position on: each line whole or not at all.
-use Rattle.std.specs.Prelude.{ℕ, ◌+◌, ◌≡◌, true, false, List, [], ◌∷◌, length, leb, eqb}
+use Rattle.std.specs.Prelude.{ℕ, ◌+◌, ◌≡◌, true, false, List, [], ◌∷◌, length, leb, eqb, if◌then◌else◌}
 use Rattle.std.proofs.lemmas.List.Edits.{sets}
-use Rattle.nibl.specs.Bytes.{if◌then◌else◌}
 use Rattle.nibl.specs.Page.{Stored}
 use Rattle.nibl.specs.Meaning.{World, with_output, on, stop, Done, done}
 use Rattle.nibl.specs.Calls.{listed}

@@ -1,7 +1,6 @@
 -- The walk along a page by its length bytes, and what the answers of its functions say.
-use Rattle.std.specs.Prelude.{ℕ, ◌+◌, ◌≤◌, Bool, true, false, ◌||◌, ◌≡◌, List, length, drop, ltb, leb}
+use Rattle.std.specs.Prelude.{ℕ, ◌+◌, ◌≤◌, Bool, true, false, ◌||◌, ◌≡◌, List, length, drop, ltb, leb, if◌then◌else◌}
 use Rattle.std.proofs.Math.Option.{Option, none, some}
-use Rattle.nibl.specs.Bytes.{if◌then◌else◌}
 use Rattle.nibl.specs.Page.{Stored, is_end, line_at, length_at, text_at}
 use Rattle.nibl.specs.Record.{position_of}
 use Rattle.nibl.specs.Runs.{line_from}

@@ -2,10 +2,10 @@
 // Any bytes whatever are looked at safely; what is said of a good page is said in proofs/.
 #![tactic(auto)]
 
-ghost use Rattle.std.specs.Prelude.{◌+◌, ◌-◌, ◌≤◌, ◌<◌, ◌&&◌, not, ◌++◌, leb, eqb, ◌≡◌, length, get_or, drop};
+ghost use Rattle.std.specs.Prelude.{◌+◌, ◌-◌, ◌≤◌, ◌<◌, ◌&&◌, not, ◌++◌, leb, eqb, ◌≡◌, length, get_or, drop, if◌then◌else◌};
 ghost use Rattle.std.proofs.Math.Option.{some};
 ghost use Rattle.std.proofs.Math.Seq.{paste};
-ghost use Rattle.nibl.specs.Bytes.{if◌then◌else◌, byte};
+ghost use Rattle.nibl.specs.Bytes.{byte};
 ghost use Rattle.nibl.specs.Page.{record_bytes, is_end, find, line_at, length_at, line_of, used, used_by, records_of};
 ghost use Rattle.nibl.specs.Record.{position, position_of};
 ghost use Rattle.nibl.specs.Runs.{line_from, text_from};

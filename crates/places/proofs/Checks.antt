@@ -1,6 +1,7 @@
 -- The page check one record at a time: what a whole record is by its length byte, when it may stand in a good page, and
 -- the walk along good records with no bound on the steps to carry.
 -- Assumes nothing.
+use Rattle.std.specs.Prelude.{if◌then◌else◌}
 use Prim.Native.Nat.{ℕ, zero, suc, ◌+◌, ◌-◌, ◌≤◌, ◌<◌}
 use mathlib.Core.Path.{◌≡◌, refl, sym, ap, ◌∙◌}
 use mathlib.Core.Bool.{Bool, true, false, not, and-true, and-false}
@@ -10,7 +11,7 @@ use lib.ListN.{length, get_or, take, drop, length-drop}
 use lib.Seq.{get_or-drop, drop-drop}
 use lib.Dec.{leb}
 use borrow.Author.Tests.{le-leb, lt-leb, eq-eqb, ne_eqb, leb-true, leb-false, eqb-true}
-use Rattle.nibl.specs.Bytes.{if◌then◌else◌, is_digit, starts}
+use Rattle.nibl.specs.Bytes.{is_digit, starts}
 use Rattle.nibl.specs.found.Read.{reading}
 use Rattle.nibl.specs.Values.{digits}
 use Rattle.nibl.specs.Page.{Stored, is_end, line_at, length_at, text_at, has_reading, is_storable, is_record, good_n}

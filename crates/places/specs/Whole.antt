@@ -1,6 +1,6 @@
 -- A whole record by its length byte, and the room that the reader of its text needs.
-use Rattle.std.specs.Prelude.{ℕ, ◌-◌, ◌≤◌, Bool, ◌&&◌, List, length, get_or, leb, eqb}
-use Rattle.nibl.specs.Bytes.{if◌then◌else◌, byte_cr}
+use Rattle.std.specs.Prelude.{ℕ, ◌-◌, ◌≤◌, Bool, ◌&&◌, List, length, get_or, leb, eqb, if◌then◌else◌}
+use Rattle.nibl.specs.Bytes.{byte_cr}
 use Rattle.nibl.specs.Page.{length_at, is_record}
 
 -- an operation to each byte; a text is a record's

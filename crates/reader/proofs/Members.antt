@@ -1,4 +1,5 @@
 -- The first member of a text, from its statement and its end. Assumes nothing.
+use Rattle.std.specs.Prelude.{if◌then◌else◌}
 use Prim.Native.Nat.{ℕ, ◌-◌}
 use mathlib.Core.Path.{◌≡◌, refl, sym, ap, ◌∙◌}
 use mathlib.Core.Bool.{true, false}
@@ -10,7 +11,6 @@ use types.Run.{OneOf, miss}
 use lib.ListN.{length, drop, replicate}
 use lib.Seq.{sets}
 use lib.Dec.{leb}
-use Rattle.nibl.specs.Bytes.{if◌then◌else◌}
 use Rattle.nibl.specs.Tree.{Member}
 use Rattle.nibl.specs.found.Read.{nothing, found, statement, ends_member, member}
 use Rattle.nibl.proofs.Words.{and_left, and_right}

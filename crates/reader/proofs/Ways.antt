@@ -1,4 +1,5 @@
 -- One law for each way out of the readers of statements. Assumes nothing.
+use Rattle.std.specs.Prelude.{if◌then◌else◌}
 use Prim.Native.Nat.{ℕ, suc, ◌+◌, ◌-◌, ◌≤◌, ◌<◌}
 use Prim.Native.String.{String}
 use mathlib.Core.Path.{◌≡◌, refl, sym, ap, subst, ◌∙◌}
@@ -11,7 +12,7 @@ use types.Run.{OneOf, miss}
 use lib.ListN.{length, drop, set, length-append, length-map, drop_of_length-le}
 use lib.Seq.{sets, slice, length-slice, set-set, set_comm}
 use lib.Dec.{eqb, leb}
-use Rattle.nibl.specs.Bytes.{if◌then◌else◌, is_text, all}
+use Rattle.nibl.specs.Bytes.{is_text, all}
 use Rattle.nibl.specs.Words.{Token, variable, decimal, hex, string, sign, number, first_keyword}
 use Rattle.nibl.specs.Tree.{Expr, const, Item, text as text_item, stored, value}
 use Rattle.nibl.specs.Tree.{Stmt, let_var, let_stat, let_byte, let_copy, let_text, goto, gosub, until, return, do_loop, remark, end, print, if_then, for, next, input, input_text}

@@ -2,10 +2,10 @@
 // statements go from a state to a state and write the operations of what they read.
 #![tactic(auto)]
 
-ghost use Rattle.std.specs.Prelude.{◌+◌, ◌*◌, ◌-◌, ◌≤◌, ◌<◌, ◌≡◌, [], ◌∷◌, ◌++◌, length, drop};
+ghost use Rattle.std.specs.Prelude.{◌+◌, ◌*◌, ◌-◌, ◌≤◌, ◌<◌, ◌≡◌, [], ◌∷◌, ◌++◌, length, drop, if◌then◌else◌};
 ghost use Rattle.std.proofs.lemmas.List.Edits.{sets};
 ghost use Rattle.std.proofs.Math.Seq.{slice};
-ghost use Rattle.nibl.specs.Bytes.{if◌then◌else◌, is_text, all};
+ghost use Rattle.nibl.specs.Bytes.{is_text, all};
 ghost use Rattle.nibl.specs.Words.{number};
 ghost use Rattle.nibl.specs.found.Read.{read, factor, relation, key, choose, fail, by_word, let_of, let_cases, a_variable, an_item, joined, printing, for_to, inputting, statement_cases, statement, member};
 ghost use Rattle.relation.specs.Code.{values};

@@ -1,4 +1,5 @@
 -- A stack whose live slots pass a test, pushed, popped and looked at: what is popped passes it too. Assumes nothing.
+use Rattle.std.specs.Prelude.{if◌then◌else◌}
 use Prim.Native.Nat.{ℕ, zero, suc, ◌+◌, ◌-◌, ◌≤◌, ◌<◌}
 use mathlib.Core.Path.{◌≡◌, refl, ◌∙◌}
 use mathlib.Core.Bool.{Bool, true, false}
@@ -8,7 +9,7 @@ use native.Mathlib.Numerals.{add-one}
 use lib.ListN.{length, get_or, set, take, length-set}
 use lib.Dec.{ltb}
 use borrow.Author.Tests.{ltb-true, ltb-false}
-use Rattle.nibl.specs.Bytes.{if◌then◌else◌, all}
+use Rattle.nibl.specs.Bytes.{all}
 use Rattle.nibl.specs.Stack.{on_top, no_place, no_entry, push_of, pop_of, push_for, pop_for}
 use Rattle.nibl.specs.declared.Place.{Place}
 use Rattle.nibl.specs.declared.PlaceStack.{PlaceStack}

@@ -1,5 +1,6 @@
 -- A statement that runs with a record that fits places leaves one that fits them, and goes on only to where a run may stand, if the lines
 -- that its page has are such positions; and so does LIST. Assumes nothing.
+use Rattle.std.specs.Prelude.{if◌then◌else◌}
 use Prim.Native.Nat.{ℕ, suc, ◌+◌, ◌≤◌}
 use mathlib.Core.Path.{◌≡◌, refl, sym, ◌∙◌}
 use mathlib.Core.Bool.{Bool, true, false, not, true≢false}
@@ -8,7 +9,7 @@ use mathlib.Core.Option.{Option, none, some}
 use lib.ListN.{length, drop}
 use lib.Dec.{leb, eqb}
 use borrow.Author.Tests.{eq-eqb, lt-ltb}
-use Rattle.nibl.specs.Bytes.{if◌then◌else◌, bytes}
+use Rattle.nibl.specs.Bytes.{bytes}
 use Rattle.nibl.specs.Tree.{Expr, Item, text, stored, value}
 use Rattle.nibl.specs.Tree.{Member, Stmt, let_var, let_stat, let_byte, let_copy, let_text, goto, gosub, until, return, do_loop, remark, end, print, if_then, for, next, input, input_text}
 use Rattle.nibl.specs.found.Read.{found, member, replied}

@@ -1,4 +1,5 @@
 -- Readers one after another, and at a sign. Assumes nothing.
+use Rattle.std.specs.Prelude.{if◌then◌else◌}
 use Prim.Native.Nat.{ℕ}
 use Prim.Native.String.{String}
 use mathlib.Core.Path.{◌≡◌, refl, ap}
@@ -6,7 +7,6 @@ use mathlib.Core.Bool.{Bool, true, false}
 use mathlib.Core.List.{List, [], ◌∷◌}
 use borrow.Author.Tests.{eq-eqb}
 use lib.Dec.{eqb}
-use Rattle.nibl.specs.Bytes.{if◌then◌else◌}
 use Rattle.nibl.specs.Words.{number}
 use Rattle.nibl.specs.found.Read.{Found, nothing, found, Reader, and_then, ◌>>=◌, or_else, a_sign, choose, if_key, key, give, fail}
 use Rattle.relation.specs.Makes.{Otherwise, nowhere, another}

@@ -1,7 +1,7 @@
 -- What the contracts of the readers say. A reader goes from a state to a state: a cursor and the number of operations so far, or no reading.
-use Rattle.std.specs.Prelude.{ℕ, zero, suc, ◌+◌, ◌-◌, ◌≤◌, ◌<◌, ◌≡◌, Bool, true, false, List, [], ◌++◌, length, drop, set, eqb}
+use Rattle.std.specs.Prelude.{ℕ, zero, suc, ◌+◌, ◌-◌, ◌≤◌, ◌<◌, ◌≡◌, Bool, true, false, List, [], ◌++◌, length, drop, set, eqb, if◌then◌else◌}
 use Rattle.std.proofs.lemmas.List.Edits.{sets}
-use Rattle.nibl.specs.Bytes.{if◌then◌else◌, is_space, starts}
+use Rattle.nibl.specs.Bytes.{is_space, starts}
 use Rattle.nibl.specs.Words.{variable, decimal, hex, string, sign, keywords}
 use Rattle.nibl.specs.Grammar.{Joints}
 use Rattle.nibl.specs.Tree.{Op, Expr, negate, modulo}

@@ -270,7 +270,7 @@ fn form_at(text: &[u8], at: usize) -> u8
 }
 
 // A relation, and the symbol that must stand behind it.
-#[cycle(closed_factor_at_factor_rest_followed_modulo_at_relation_at_sum_at_term_at)]
+#[cycle(readers)]
 fn closed(text: &[u8], at: usize, k: u8, ops: &mut [u32], n: &mut usize) -> usize
     requires { (need 0 text.now (standing at n.old) ≤ length ops.old) × (is_lone k ≡ true) }
     ensures { Closed k text.now ops.old (standing at n.old) ops.new (made_of result n.new) }
@@ -283,7 +283,7 @@ fn closed(text: &[u8], at: usize, k: u8, ops: &mut [u32], n: &mut usize) -> usiz
 }
 
 // What stands behind MOD.
-#[cycle(closed_factor_at_factor_rest_followed_modulo_at_relation_at_sum_at_term_at)]
+#[cycle(readers)]
 fn modulo_at(text: &[u8], at: usize, ops: &mut [u32], n: &mut usize) -> usize
     requires { need 0 text.now (standing at n.old) ≤ length ops.old }
     ensures { Makes pairing values text.now ops.old (standing at n.old) ops.new (made_of result n.new) }
@@ -306,7 +306,7 @@ fn modulo_at(text: &[u8], at: usize, ops: &mut [u32], n: &mut usize) -> usize
 
 // A factor that is neither a variable nor a decimal constant: another constant, STAT or TOP; a relation in parentheses;
 // "@" or NOT before a factor; MOD of two relations.
-#[cycle(closed_factor_at_factor_rest_followed_modulo_at_relation_at_sum_at_term_at)]
+#[cycle(readers)]
 fn factor_rest(text: &[u8], at: usize, ops: &mut [u32], n: &mut usize) -> usize
     requires { (need 0 text.now (standing at n.old) ≤ length ops.old) × Rest text.now at }
     ensures { MakesAt factor text.now ops.old at n.old ops.new result n.new }
@@ -332,7 +332,7 @@ fn factor_rest(text: &[u8], at: usize, ops: &mut [u32], n: &mut usize) -> usize
 }
 
 // A factor.
-#[cycle(closed_factor_at_factor_rest_followed_modulo_at_relation_at_sum_at_term_at)]
+#[cycle(readers)]
 fn factor_at(text: &[u8], from: usize, ops: &mut [u32], n: &mut usize) -> usize
     requires { need 0 text.now (standing from n.old) ≤ length ops.old }
     ensures { MakesAt factor text.now ops.old from n.old ops.new result n.new }
@@ -346,7 +346,7 @@ fn factor_at(text: &[u8], from: usize, ops: &mut [u32], n: &mut usize) -> usize
 }
 
 // A factor, and the operation that waits for it, if any.
-#[cycle(closed_factor_at_factor_rest_followed_modulo_at_relation_at_sum_at_term_at)]
+#[cycle(readers)]
 fn followed(text: &[u8], from: usize, v: u32, ops: &mut [u32], n: &mut usize) -> usize
     requires { need (waiting v) text.now (standing from n.old) ≤ length ops.old }
     ensures { Followed v text.now ops.old (standing from n.old) ops.new (made_of result n.new) }
@@ -360,7 +360,7 @@ fn followed(text: &[u8], from: usize, v: u32, ops: &mut [u32], n: &mut usize) ->
 }
 
 // A factor, and those joined to it by * / AND.
-#[cycle(closed_factor_at_factor_rest_followed_modulo_at_relation_at_sum_at_term_at)]
+#[cycle(readers)]
 fn term_at(text: &[u8], from: usize, ops: &mut [u32], n: &mut usize) -> usize
     requires { need 0 text.now (standing from n.old) ≤ length ops.old }
     ensures { MakesAt term text.now ops.old from n.old ops.new result n.new }
@@ -380,7 +380,7 @@ fn term_at(text: &[u8], from: usize, ops: &mut [u32], n: &mut usize) -> usize
 }
 
 // A sign or none, a term, and those joined to it by + - OR.
-#[cycle(closed_factor_at_factor_rest_followed_modulo_at_relation_at_sum_at_term_at)]
+#[cycle(readers)]
 fn sum_at(text: &[u8], from: usize, ops: &mut [u32], n: &mut usize) -> usize
     requires { need 0 text.now (standing from n.old) ≤ length ops.old }
     ensures { MakesAt sum text.now ops.old from n.old ops.new result n.new }
@@ -401,7 +401,7 @@ fn sum_at(text: &[u8], from: usize, ops: &mut [u32], n: &mut usize) -> usize
 }
 
 // A sum, and another that it is compared with, if any.
-#[cycle(closed_factor_at_factor_rest_followed_modulo_at_relation_at_sum_at_term_at)]
+#[cycle(readers)]
 fn relation_at(text: &[u8], from: usize, ops: &mut [u32], n: &mut usize) -> usize
     requires { need 0 text.now (standing from n.old) ≤ length ops.old }
     ensures { MakesAt relation text.now ops.old from n.old ops.new result n.new }

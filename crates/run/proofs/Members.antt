@@ -1,4 +1,5 @@
 -- The member that is next: what is fetched is what the program has there, and running its operations is the step. Assumes nothing.
+use Rattle.std.specs.Prelude.{if◌then◌else◌}
 use Prim.Native.Nat.{ℕ, ◌+◌, ◌-◌, ◌≤◌}
 use mathlib.Core.Bool.{true}
 use mathlib.Core.List.{List, [], ◌∷◌}
@@ -9,7 +10,6 @@ use borrow.Author.Tests.{le-leb}
 use denote.Enum.Declared.{tag_of}
 use types.Run.{OneOf}
 use lib.ListN.{length, take}
-use Rattle.nibl.specs.Bytes.{if◌then◌else◌}
 use Rattle.nibl.specs.Tree.{Member}
 use Rattle.nibl.specs.found.Read.{found, member}
 use Rattle.nibl.specs.Meaning.{World, Env, Done, exec}

@@ -1,4 +1,5 @@
 -- A turn of the run, as its function tells it: from a position where a run may stand, by what the step left. Assumes nothing.
+use Rattle.std.specs.Prelude.{if◌then◌else◌}
 use Prim.Native.Nat.{ℕ, zero, suc, ◌+◌, ◌-◌, ◌≤◌, ◌<◌}
 use mathlib.Core.Bool.{Bool, true, false}
 use mathlib.Core.List.{List, [], ◌∷◌}
@@ -8,7 +9,6 @@ use native.Mathlib.Omega.{arith}
 use native.Mathlib.Numerals.{add-one}
 use lib.Dec.{eqb}
 use lib.ListN.{length}
-use Rattle.nibl.specs.Bytes.{if◌then◌else◌}
 use Rattle.nibl.specs.Page.{is_good, places_of, line_of}
 use Rattle.nibl.specs.Meaning.{World, Env, go, stop, with_session, exec}
 use Rattle.nibl.specs.Lent.{outcome, no_line}

@@ -1,6 +1,5 @@
 -- What a run leaves, and what must hold of what is lent.
-use Rattle.std.specs.Prelude.{ℕ, ◌≤◌, true, List, ◌≡◌, eqb, length}
-use Rattle.nibl.specs.Bytes.{if◌then◌else◌}
+use Rattle.std.specs.Prelude.{ℕ, ◌≤◌, true, List, ◌≡◌, eqb, length, if◌then◌else◌}
 use Rattle.nibl.specs.Page.{is_good, places_of}
 use Rattle.nibl.specs.Meaning.{World}
 use Rattle.nibl.specs.Lent.{Outcome, outcome_with, answer_of}

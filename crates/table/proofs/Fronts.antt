@@ -1,5 +1,6 @@
 -- What a table says of the first lines of a page: it still does after an edit behind them, and filled up from there it is true.
 -- Assumes nothing.
+use Rattle.std.specs.Prelude.{if◌then◌else◌}
 use Prim.Native.Nat.{ℕ, ◌+◌, ◌≤◌, ◌<◌}
 use mathlib.Core.Path.{◌≡◌, refl, sym, ap, subst, ◌∙◌}
 use mathlib.Core.List.{List, [], ◌∷◌, ◌++◌, append-nil}
@@ -10,7 +11,6 @@ use lib.ListN.{length, take, drop, set, length-append, length-set, length-drop, 
 use lib.Seq.{length-take-le, append_snoc, drop-drop, drop-set-lt, drop-set-add, take-suc-set, set_split}
 use lib.Dec.{ltb, leb}
 use borrow.Author.Tests.{leb-true}
-use Rattle.nibl.specs.Bytes.{if◌then◌else◌}
 use Rattle.nibl.specs.Page.{Stored, records_of, record_bytes, used}
 use Rattle.nibl.specs.Table.{positions_from, walk_table, refilled}
 use Rattle.page.specs.declared.Seat.{Seat}

@@ -1,6 +1,5 @@
 -- The table that a call is lent, by the call's numbers.
-use Rattle.std.specs.Prelude.{ℕ, List, length, take}
-use Rattle.nibl.specs.Bytes.{if◌then◌else◌}
+use Rattle.std.specs.Prelude.{ℕ, List, length, take, if◌then◌else◌}
 use Rattle.nibl.specs.FirstRefusals.{has_table}
 use Rattle.nibl.specs.declared.Call.{Call}
 

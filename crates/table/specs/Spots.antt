@@ -1,6 +1,5 @@
 -- Where a line stands among the others, and what a table already says of a page.
-use Rattle.std.specs.Prelude.{ℕ, suc, ◌+◌, ◌≤◌, ◌≡◌, List, [], ◌∷◌, ◌++◌, length, take, drop, ltb, eqb}
-use Rattle.nibl.specs.Bytes.{if◌then◌else◌}
+use Rattle.std.specs.Prelude.{ℕ, suc, ◌+◌, ◌≤◌, ◌≡◌, List, [], ◌∷◌, ◌++◌, length, take, drop, ltb, eqb, if◌then◌else◌}
 use Rattle.nibl.specs.Page.{Stored, records_of, line_at}
 use Rattle.nibl.specs.Table.{positions_from}
 use Rattle.page.specs.Walk.{size_at}

@@ -1,11 +1,11 @@
 -- Laws of the operators, for this crate's proofs and for callers to cite. Assumes nothing.
+use Rattle.std.specs.Prelude.{if◌then◌else◌}
 use Rattle.std.proofs.Common.{◌≡◌, ℕ, ◌+◌, ◌-◌, ◌*◌, ◌/◌, ◌^◌, ◌<◌, ◌≤◌, Bool, true, false, not, eqb, ltb, refl, lt_of_le_of_lt, le_of_lt, mul-le-mul_left, mul-lt-mul_of_pos_right, div-le_self, arith, pow_pos, pow-add, ltb-false, ltb-true, ne_eqb}
 use mathlib.Core.Path.{subst⁻¹}
 use mathlib.Core.Bool.{beq}
 use native.Mathlib.Nat.{mod-le}
 use lib.Bits.{and_le_l, or_lt}
 use lib.ListN.{get_or-eq_default}
-use Rattle.nibl.specs.Bytes.{if◌then◌else◌}
 use Rattle.nibl.specs.Tree.{Op, times, divided_by, and_bits, plus, minus, or_bits, equal, less, greater, at_most, at_least, unequal}
 use Rattle.nibl.specs.Values.{is, no, bit, less16, mod16, apply, magnitude, is_negative, differ, quotient16, sub16, unless_zero}
 use Rattle.value.specs.Operators.{value_of}

@@ -1,7 +1,7 @@
 -- What writing an item does: whole from a position of the output on, or not at all.
-use Rattle.std.specs.Prelude.{◌≡◌, ℕ, ◌+◌, Bool, List, length, nat_le}
+use Rattle.std.specs.Prelude.{◌≡◌, ℕ, ◌+◌, Bool, List, length, nat_le, if◌then◌else◌}
 use Rattle.std.proofs.lemmas.List.Edits.{sets}
-use Rattle.nibl.specs.Bytes.{if◌then◌else◌, byte}
+use Rattle.nibl.specs.Bytes.{byte}
 use Rattle.nibl.specs.Values.{Value, is, no, is_negative}
 use Rattle.value.specs.declared.Wrote.{Wrote}
 use Rattle.value.specs.declared.Wrote.TheVariants.{To, Full}

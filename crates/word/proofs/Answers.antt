@@ -1,4 +1,5 @@
 -- One law for each answer of the word reader. Assumes nothing.
+use Rattle.std.specs.Prelude.{if◌then◌else◌}
 use Prim.Native.Nat.{ℕ, ◌+◌, ◌≤◌, ◌<◌}
 use mathlib.Core.Path.{◌≡◌, ◌∙◌, refl, ap, sym}
 use mathlib.Core.Bool.{Bool, true, false, ◌&&◌}
@@ -8,7 +9,7 @@ use native.Mathlib.Omega.{arith}
 use borrow.Author.Tests.{eq-eqb, ne_eqb, eqb-true, eqb-false}
 use lib.Dec.{eqb}
 use lib.ListN.{length, drop, get_or, length-drop, drop_of_length-le}
-use Rattle.nibl.specs.Bytes.{if◌then◌else◌, class_of, class_digit, class_capital, class_quote, is_space, is_capital, is_digit, is_quotable, starts, past}
+use Rattle.nibl.specs.Bytes.{class_of, class_digit, class_capital, class_quote, is_space, is_capital, is_digit, is_quotable, starts, past}
 use Rattle.nibl.specs.Words.{sign, pairs, number_or, is_symbol}
 use Rattle.nibl.specs.found.Read.{FrontWord, at_end, got, pair_or, word_step, step_in}
 use Rattle.nibl.specs.found.GaveUp.{word_gave_up, gave_up}

@@ -1,4 +1,5 @@
 -- The first byte, and a command's first three: what a look at them tells of the word that stands there. Assumes nothing.
+use Rattle.std.specs.Prelude.{if◌then◌else◌}
 use Prim.Native.Nat.{ℕ, ◌+◌, ◌-◌, ◌≤◌, ◌<◌}
 use mathlib.Core.Path.{◌≡◌, ◌∙◌, refl, ap, sym}
 use mathlib.Core.Bool.{Bool, true, false, not, ◌&&◌, false≢true}
@@ -9,7 +10,7 @@ use borrow.Author.Tests.{leb-true, leb-false}
 use lib.Dec.{eqb, leb}
 use lib.ListN.{length, take, drop, get_or, length-drop, drop_of_length-le}
 use lib.Seq.{slice}
-use Rattle.nibl.specs.Bytes.{if◌then◌else◌, is_space, is_capital, starts, past, all}
+use Rattle.nibl.specs.Bytes.{is_space, is_capital, starts, past, all}
 use Rattle.nibl.specs.Words.{commands, index_in, first_keyword}
 use Rattle.nibl.proofs.Keywords.{of-table}
 use Rattle.word.specs.Found.{key_of, key_index, fronts, may_command, first_of}

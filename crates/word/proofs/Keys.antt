@@ -1,4 +1,5 @@
 -- A spelling as one number: how it is made, that it tells spellings apart, and where it stands in a list. Assumes nothing.
+use Rattle.std.specs.Prelude.{if◌then◌else◌}
 use Prim.Native.Nat.{ℕ, suc, ◌+◌, ◌-◌, ◌*◌, ◌^◌, ◌≤◌, ◌<◌}
 use mathlib.Core.Path.{◌≡◌, refl, ap}
 use mathlib.Core.Bool.{Bool, true, false, not, ◌&&◌, ◌||◌}
@@ -9,7 +10,7 @@ use borrow.Author.Tests.{eqb-true, eqb-false, eq-eqb, ne_eqb, leb-true, le-leb}
 use lib.Dec.{eqb, leb}
 use lib.ListN.{length, drop, get_or, drop_of_length-le}
 use lib.Seq.{slice, slice_empty, slice-cons}
-use Rattle.nibl.specs.Bytes.{if◌then◌else◌, same, is_capital, all}
+use Rattle.nibl.specs.Bytes.{same, is_capital, all}
 use Rattle.nibl.specs.found.Read.{FrontWord, got, sign_or}
 use Rattle.nibl.specs.Words.{sign, index_from, begins, none_over}
 use Rattle.nibl.proofs.Keywords.{begins-short}

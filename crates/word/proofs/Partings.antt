@@ -1,4 +1,5 @@
 -- Where spellings, as numbers, part from a text. Assumes nothing.
+use Rattle.std.specs.Prelude.{if◌then◌else◌}
 use Prim.Native.Nat.{ℕ, suc, ◌+◌, ◌-◌, ◌*◌, ◌/◌, ◌%◌, ◌≤◌, ◌<◌}
 use mathlib.Core.Path.{◌≡◌, refl, ap, ◌∙◌}
 use mathlib.Core.Bool.{Bool, true, ◌&&◌}
@@ -7,7 +8,7 @@ use native.Mathlib.Omega.{arith}
 use borrow.Author.Tests.{eq-eqb, ne_eqb, le-leb, lt-leb}
 use lib.Dec.{eqb, leb}
 use lib.ListN.{length, drop, get_or, drop_of_length-le}
-use Rattle.nibl.specs.Bytes.{if◌then◌else◌, is_capital, all}
+use Rattle.nibl.specs.Bytes.{is_capital, all}
 use Rattle.nibl.specs.found.GaveUp.{common, most_common}
 use Rattle.word.specs.Found.{key_of, key_common, most_key, spellings_of, keys_of}
 use Rattle.word.proofs.Runs.{and_left, and_right, between, at_byte}

@@ -1,4 +1,5 @@
 -- The sign whose spelling stands at the front of a text, and the spelling of the sign that stands there. Assumes nothing.
+use Rattle.std.specs.Prelude.{if◌then◌else◌}
 use Prim.Native.Nat.{ℕ, zero, suc, ◌+◌, ◌-◌, ◌≤◌, ◌<◌}
 use mathlib.Core.Path.{◌≡◌, ◌∙◌, refl, ap, sym, subst}
 use mathlib.Core.Bool.{Bool, true, false, not, ◌||◌, false≢true}
@@ -9,7 +10,7 @@ use borrow.Author.Tests.{eqb-true, eq-eqb, ne_eqb, leb-true, leb-false, le-leb}
 use lib.Dec.{eqb, leb}
 use lib.ListN.{length, drop, get_or, length-drop, take-append-drop, drop_of_length-le, get_or-eq_default}
 use lib.Seq.{drop-drop}
-use Rattle.nibl.specs.Bytes.{if◌then◌else◌, same, is_space, starts}
+use Rattle.nibl.specs.Bytes.{same, is_space, starts}
 use Rattle.nibl.specs.Words.{Token, variable, decimal, hex, string, sign, keywords, first_keyword, index_from, index_in, is_symbol, pairs, pairs_with, begins, Keyword, Word, spaced, keyword, letter, decimal_digits, hex_digits, quoted, pair, symbol}
 use Rattle.nibl.specs.found.Read.{got, step_in}
 use Rattle.nibl.proofs.Keywords.{begins-short, begins-taken}

@@ -1,7 +1,7 @@
 -- What the contracts of the word reader say, beyond the definition of words.
-use Rattle.std.specs.Prelude.{ℕ, zero, suc, ◌+◌, ◌-◌, ◌*◌, ◌/◌, ◌%◌, ◌≤◌, ◌<◌, ◌≡◌, Bool, true, false, not, ◌&&◌, ◌||◌, List, [], ◌∷◌, map, eqb, leb, length, take, drop}
+use Rattle.std.specs.Prelude.{ℕ, zero, suc, ◌+◌, ◌-◌, ◌*◌, ◌/◌, ◌%◌, ◌≤◌, ◌<◌, ◌≡◌, Bool, true, false, not, ◌&&◌, ◌||◌, List, [], ◌∷◌, map, eqb, leb, length, take, drop, if◌then◌else◌}
 use Rattle.std.proofs.Math.Seq.{slice}
-use Rattle.nibl.specs.Bytes.{if◌then◌else◌, class_space, class_capital, is_space, is_digit, is_capital, is_hex_digit, is_quotable, front, past, decimal_value, byte, bytes}
+use Rattle.nibl.specs.Bytes.{class_space, class_capital, is_space, is_digit, is_capital, is_hex_digit, is_quotable, front, past, decimal_value, byte, bytes}
 use Rattle.nibl.specs.Words.{variable, decimal, hex, string, sign, keywords, commands, is_symbol, first_keyword, number}
 use Rattle.nibl.specs.found.Read.{FrontWord, at_end, wrong, got, letters_step, digits_step, hex_step, quoted_step, symbol_step, step_in}
 use Rattle.nibl.specs.found.GaveUp.{most_common, past_largest, gave_up}

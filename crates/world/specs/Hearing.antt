@@ -1,8 +1,8 @@
 -- What asking does: the reply or its stop number, the output and both positions.
-use Rattle.std.specs.Prelude.{ℕ, ◌+◌, List, length, take, drop}
+use Rattle.std.specs.Prelude.{ℕ, ◌+◌, List, length, take, drop, if◌then◌else◌}
 use Rattle.std.proofs.Math.Option.{Option, none, some}
 use Rattle.std.proofs.lemmas.List.Edits.{sets}
-use Rattle.nibl.specs.Bytes.{if◌then◌else◌, bytes}
+use Rattle.nibl.specs.Bytes.{bytes}
 use Rattle.nibl.specs.Values.{Result, is, no}
 use Rattle.nibl.specs.Typing.{Gathered, gather}
 use Rattle.nibl.specs.Meaning.{World, with_output, with_inpos, stop, Done, done}

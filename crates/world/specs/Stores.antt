@@ -1,6 +1,5 @@
 -- What the answers of memory's functions say.
-use Rattle.std.specs.Prelude.{ℕ, ◌+◌, ◌%◌, not, List, map, leb}
-use Rattle.nibl.specs.Bytes.{if◌then◌else◌}
+use Rattle.std.specs.Prelude.{ℕ, ◌+◌, ◌%◌, not, List, map, leb, if◌then◌else◌}
 use Rattle.nibl.specs.Values.{Result, is, no}
 use Rattle.nibl.specs.Access.{may_write}
 use Rattle.nibl.specs.Meaning.{World, with_memory, Next, on, stop, Done, done}

@@ -1,8 +1,7 @@
 -- What the statements that change where a run goes on do to a stack and to the variables, in the definition's own terms
 -- (crates/nibl/specs/Meaning.antt), without the rest of the world.
-use Rattle.std.specs.Prelude.{ℕ, suc, Bool, not, List, eqb, get_or, set}
+use Rattle.std.specs.Prelude.{ℕ, suc, Bool, not, List, eqb, get_or, set, if◌then◌else◌}
 use Rattle.std.proofs.Math.Option.{Option, none, some}
-use Rattle.nibl.specs.Bytes.{if◌then◌else◌}
 use Rattle.nibl.specs.Values.{add16}
 use Rattle.nibl.specs.Stack.{push_of, pop_of, push_for, pop_for}
 use Rattle.nibl.specs.Meaning.{World, with_session, Next, on, skip, go, stop, Done, done, after, goes_on}

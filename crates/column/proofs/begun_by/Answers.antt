@@ -1,22 +1,15 @@
-use mathlib.Core.Path.{sym, ◌∙◌}
+use mathlib.Core.Path.{sym}
 use native.Mathlib.Omega.{arith}
-use Rattle.column.proofs.Fronts.{kept_then, kept-spare, Beginning, beginning-first, beginning-hit, beginning-on, beginning-last}
+use Rattle.column.proofs.Fronts.{beginning-hit, beginning-on, beginning-last}
 use Rattle.column.proofs.begun_by.Goals as goal
 
-pub returns-then-begun_at : goal.returns-then-begun_at
-returns-then-begun_at c =
-    let p = c.loop-i.invariant in
-    let e = (c.begun_at.ensures.answer, c.begun_at.ensures.text, c.begun_at.ensures.size) in
-    let r = (beginning-hit p (omega arith) e.0 (sym c.if-begun_at.true), (kept_then p.kept e.1.0, e.1.1 ∙ p.size)) in
-    record { answer = r.0; text = r.1; size = r.2 }
+pub returns-then-begun_at-clause-answer : goal.returns-then-begun_at-clause-answer
+returns-then-begun_at-clause-answer c = beginning-hit c.loop-i.invariant (omega arith) c.begun_at.ensures.answer (sym c.if-begun_at.true)
 
 pub loop-i-preserved : goal.loop-i-preserved
 loop-i-preserved c =
-    let e = (c.begun_at.ensures.answer, c.begun_at.ensures.text, c.begun_at.ensures.size) in
-    beginning-on c.loop-i.invariant (omega arith) e.0 (sym c.if-begun_at.false) e.1.0 e.1.1
+    let e = c.begun_at.ensures in
+    beginning-on c.loop-i.invariant (omega arith) e.answer (sym c.if-begun_at.false) e.text e.size
 
-pub returns : goal.returns
-returns c =
-    let p = c.loop-i.invariant in
-    let r = (beginning-last p (omega arith), (p.kept, p.size)) in
-    record { answer = r.0; text = r.1; size = r.2 }
+pub returns-clause-answer : goal.returns-clause-answer
+returns-clause-answer c = beginning-last c.loop-i.invariant (omega arith)

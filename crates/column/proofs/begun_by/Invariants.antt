@@ -1,7 +1,5 @@
 -- `column::begun_by` meets its contract: from the most of the spelling down. Assumes nothing.
-use mathlib.Core.Path.{sym, ◌∙◌}
-use native.Mathlib.Omega.{arith}
-use Rattle.column.proofs.Fronts.{kept_then, kept-spare, Beginning, beginning-first, beginning-hit, beginning-on, beginning-last}
+use Rattle.column.proofs.Fronts.{Beginning}
 use Rattle.column.proofs.begun_by.Given as goal
 
 abbrev pub invariant-loop-i : goal.invariant-loop-i

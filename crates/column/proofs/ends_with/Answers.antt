@@ -1,7 +1,5 @@
-use Prim.Native.Nat.{◌-◌, ◌≤◌}
 use native.Mathlib.Omega.{arith}
-use lib.ListN.{length}
-use Rattle.column.proofs.Fronts.{Ending, ends-short, ending-first, ending-on, ending-not, ending-last}
+use Rattle.column.proofs.Fronts.{ending-on, ending-not, ending-last}
 use Rattle.column.proofs.ends_with.Goals as goal
 
 pub returns-then-text-n : goal.returns-then-text-n

@@ -1,8 +1,7 @@
 -- `column::ends_with` meets its contract: byte by byte. Assumes nothing.
 use Prim.Native.Nat.{◌-◌, ◌≤◌}
-use native.Mathlib.Omega.{arith}
 use lib.ListN.{length}
-use Rattle.column.proofs.Fronts.{Ending, ends-short, ending-first, ending-on, ending-not, ending-last}
+use Rattle.column.proofs.Fronts.{Ending}
 use Rattle.column.proofs.ends_with.Given as goal
 
 abbrev pub invariant-loop-j : goal.invariant-loop-j

@@ -1,7 +1,5 @@
-use Prim.Native.Nat.{◌-◌}
 use native.Mathlib.Omega.{arith}
-use lib.ListN.{length}
-use Rattle.column.proofs.Fronts.{Laying, laying-first, laying-size, laying-room, laying-on, laying-end, laying-last}
+use Rattle.column.proofs.Fronts.{laying-on}
 use Rattle.column.proofs.lay.Goals as goal
 
 pub loop-j-preserved : goal.loop-j-preserved

@@ -1,8 +1,7 @@
 -- `column::lay` meets its contract: byte by byte. Assumes nothing.
 use Prim.Native.Nat.{◌-◌}
-use native.Mathlib.Omega.{arith}
 use lib.ListN.{length}
-use Rattle.column.proofs.Fronts.{Laying, laying-first, laying-size, laying-room, laying-on, laying-end, laying-last}
+use Rattle.column.proofs.Fronts.{Laying}
 use Rattle.column.proofs.lay.Given as goal
 
 abbrev pub invariant-loop-j : goal.invariant-loop-j

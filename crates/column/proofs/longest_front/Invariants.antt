@@ -1,8 +1,6 @@
 -- `column::longest_front` meets its contract: by halves. Assumes nothing.
 use Prim.Native.Nat.{◌-◌}
-use mathlib.Core.Path.{sym}
-use native.Mathlib.Omega.{arith}
-use Rattle.column.proofs.Fronts.{Searching, searching-first, searching-spare, searching-up, searching-down, searching-last}
+use Rattle.column.proofs.Fronts.{Searching}
 use Rattle.column.proofs.longest_front.Given as goal
 
 abbrev pub invariant-loop-lo : goal.invariant-loop-lo

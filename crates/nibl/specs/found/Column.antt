@@ -1,9 +1,9 @@
 -- A function that finds the column. That it finds exactly what the grammar gives is proved beside it (`column-exact`, proofs/Spot.antt).
 -- A text is taken word by word, with a stack of what may still come. Every stack can be brought to an end, so a text whose words are all
 -- taken is the front of a line. A text may also end within a word: then it goes on with the rest of one that it has begun.
-use Rattle.std.specs.Prelude.{ℕ, zero, suc, ◌-◌, Bool, true, false, ◌&&◌, ◌||◌, List, [], ◌∷◌, ◌++◌, map, length, take, drop, leb, eqb}
+use Rattle.std.specs.Prelude.{ℕ, zero, suc, ◌-◌, Bool, true, false, ◌&&◌, ◌||◌, List, [], ◌∷◌, ◌++◌, map, length, take, drop, leb, eqb, if◌then◌else◌}
 use Rattle.std.proofs.Math.Option.{Option, none, some}
-use Rattle.nibl.specs.Bytes.{if◌then◌else◌, bytes, byte_quote, same, is_space, is_text, is_quotable, past, all}
+use Rattle.nibl.specs.Bytes.{bytes, byte_quote, same, is_space, is_text, is_quotable, past, all}
 use Rattle.nibl.specs.Words.{Token, variable, decimal, hex, string, sign, keywords, commands, number, command}
 use Rattle.nibl.specs.Grammar.{Joints, factor_joints, term_joints, sum_joints}
 use Rattle.nibl.specs.Tree.{Op}

@@ -1,7 +1,6 @@
 -- What a slice carries, found from its front on. It need not be believed: a slice is read so exactly where it is the form of what is
 -- read (`form-exact`, crate `changes`).
-use Rattle.std.specs.Prelude.{ℕ, zero, suc, ◌+◌, Bool, true, false, not, ◌&&◌, List, [], ◌∷◌, length, get_or, drop, leb, eqb}
-use Rattle.nibl.specs.Bytes.{if◌then◌else◌}
+use Rattle.std.specs.Prelude.{ℕ, zero, suc, ◌+◌, Bool, true, false, not, ◌&&◌, List, [], ◌∷◌, length, get_or, drop, leb, eqb, if◌then◌else◌}
 use Rattle.nibl.specs.Values.{Result, is, no}
 use Rattle.nibl.specs.Page.{Stored, line_at, length_at, text_at, is_record}
 use Rattle.nibl.specs.Saved.{RuleSet, form_number}

@@ -1,7 +1,7 @@
 -- Where a reader of words gives up: how many bytes of the text stand from the byte on at which no word could go on. A text that has all
 -- before that byte, and that byte, has no word at its front whatever else follows (`gave-up`, proofs/GaveUp.antt).
-use Rattle.std.specs.Prelude.{ℕ, suc, ◌+◌, ◌-◌, ◌*◌, ◌&&◌, List, [], ◌∷◌, length, leb, eqb}
-use Rattle.nibl.specs.Bytes.{if◌then◌else◌, is_space, is_digit, is_capital, is_quotable, past, byte, byte_quote}
+use Rattle.std.specs.Prelude.{ℕ, suc, ◌+◌, ◌-◌, ◌*◌, ◌&&◌, List, [], ◌∷◌, length, leb, eqb, if◌then◌else◌}
+use Rattle.nibl.specs.Bytes.{is_space, is_digit, is_capital, is_quotable, past, byte, byte_quote}
 
 -- how many bytes a spelling and a text have in common from their fronts on
 unfoldable pub common : List ℕ → List ℕ → ℕ

@@ -1,8 +1,8 @@
 -- A function that finds the reading. That it finds exactly what the grammar gives is proved beside it (proofs/Exact.antt).
-use Rattle.std.specs.Prelude.{ℕ, zero, suc, ◌+◌, ◌-◌, ◌*◌, ◌%◌, Bool, true, false, not, ◌||◌, List, [], ◌∷◌, length, take, drop, leb, eqb}
+use Rattle.std.specs.Prelude.{ℕ, zero, suc, ◌+◌, ◌-◌, ◌*◌, ◌%◌, Bool, true, false, ◌||◌, List, [], ◌∷◌, length, take, drop, leb, eqb, if◌then◌else◌}
 use Prim.Native.String.{String}
 use Rattle.std.proofs.Math.Option.{Option, none, some}
-use Rattle.nibl.specs.Bytes.{if◌then◌else◌, is_space, is_text, is_digit, is_capital, is_hex_digit, is_quotable, starts, front, past, all, decimal_value, hex_value, byte, byte_quote}
+use Rattle.nibl.specs.Bytes.{is_space, is_text, is_digit, is_capital, is_hex_digit, is_quotable, starts, front, past, all, decimal_value, hex_value, byte, byte_quote}
 use Rattle.nibl.specs.Words.{Token, variable, decimal, hex, string, sign, keywords, commands, index_in, pairs, is_symbol, number, command}
 use Rattle.nibl.specs.Grammar.{Joints, factor_joints, term_joints, sum_joints, joint_of}
 use Rattle.nibl.specs.Tree.{Op, Expr, var, const, stat, top, byte_at, invert, negate, modulo, two}

@@ -32,7 +32,7 @@ loop-i-preserved c =
     let u = l.invariant.1 in (
       omega arith,
       omega arith,
-      q.auto.1.1.1.1.1.1.0 ∙ l.invariant.2,
+      q.auto.values ∙ l.invariant.2,
       rw c.in-Top.is at q.ensures.2,
       l.invariant.4 ∙ first_on (sources a.vars.now a.flags a.sight a.page.now a.memory.now) a.ops.now (stack_of l.values l.height) l.i t (omega (arith, c.if-op-ge-EFFECTS.false))
           (rw c.in-Top.is at q.ensures.0),

@@ -25,7 +25,7 @@ loop-i-preserved c =
     let v = l.invariant.0 in (
       omega arith,
       omega arith,
-      q.auto.1.1.1.1.1.1.0 ∙ l.invariant.2,
+      q.auto.values ∙ l.invariant.2,
       rw c.in-Top.is at q.ensures.2,
       l.invariant.4 ∙ work-on (sources a.vars.now a.flags a.sight a.page.now a.memory.now) a.ops.now (stack_of l.values l.height) l.i t
           (rw c.in-Top.is at q.ensures.0),

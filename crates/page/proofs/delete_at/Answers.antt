@@ -1,11 +1,9 @@
 -- `delete_at` meets its contract: the part after the record moves to its seat. Assumes nothing.
--- the used bytes of the whole page, which the walk from the seat on gives
 use Prim.Native.Nat.{ℕ, ◌-◌}
 use mathlib.Core.List.{List, []}
 use mathlib.Core.Path.{◌≡◌, ap, ◌∙◌}
 use native.Mathlib.Omega.{arith}
 use lib.ListN.{length, take, drop}
-use borrow.Author.Rules.{rules}
 use Rattle.nibl.specs.Page.{used}
 use Rattle.page.specs.Edits.{spliced, changed}
 use Rattle.page.specs.declared.Edited.TheVariants as edited
@@ -14,19 +12,20 @@ use Rattle.page.proofs.Moves.{part-spliced, front-spliced}
 use Rattle.page.proofs.delete_at.Goals as goal
 
 pub returns-then-gone-lt1 : goal.returns-then-gone-lt1
-returns-then-gone-lt1 c = let a = c.args in delete-absent a.page.now a.seat c.if-gone-lt1.true
+returns-then-gone-lt1 c = delete-absent c.args.page.now c.args.seat c.if-gone-lt1.true
 
+-- the used bytes of the whole page, which the walk from the seat on gives
 pub returns-then-room-top : goal.returns-then-room-top
 returns-then-room-top c =
-    let a = (start c.AT-Then2).args in
-    let k = (let it : c.used_from-top.result ≡ used (start c.AT-Then2).args.page.now = c.used_from-top.ensures ∙ (start c.AT-Then2).requires.rest in it) in
+    let a = c.args in
+    let k : c.used_from-top.result ≡ used a.page.now = c.used_from-top.ensures ∙ c.requires.rest in
     delete-endless a.page.now a.seat c.if-gone-lt1.false (omega arith)
 
 pub returns : goal.returns
 returns c =
-    let a = (start c.AT-After-slice-known2).args in
-    let h = (start c.AT-After-slice-known2).requires in
-    let k = (let it : c.used_from-top.result ≡ used (start c.AT-After-slice-known2).args.page.now = c.used_from-top.ensures ∙ (start c.AT-After-slice-known2).requires.rest in it) in
+    let a = c.args in
+    let h = c.requires in
+    let k : c.used_from-top.result ≡ used a.page.now = c.used_from-top.ensures ∙ c.requires.rest in
     let s = a.seat in
     let x = c.used_from-top.result in
     let q = take (length a.page.now - s.at) (drop s.at a.page.now) in

@@ -1,12 +1,9 @@
 -- `store_at` meets its contract: the three refusals leave the page; else the part from the seat on is edited, which is an edit of the page. Assumes nothing.
--- the used bytes of the whole page, which the walk from the seat on gives
--- an edit of the part from the seat on, by the number of bytes that stay behind it, is one of the page
 use Prim.Native.Nat.{◌≤◌, ℕ, ◌-◌, ◌+◌}
 use mathlib.Core.List.{List, ◌++◌}
 use mathlib.Core.Path.{◌≡◌, ap, ◌∙◌}
 use native.Mathlib.Omega.{arith}
 use lib.ListN.{length, take, drop}
-use borrow.Author.Rules.{rules}
 use Rattle.nibl.specs.Page.{Stored, record_bytes, used}
 use Rattle.page.specs.Edits.{spliced, changed}
 use Rattle.page.specs.declared.Edited.TheVariants as edited
@@ -14,29 +11,31 @@ use Rattle.page.proofs.Edits.{store-endless, store_long, store-full, store-done}
 use Rattle.page.proofs.Moves.{part-spliced}
 use Rattle.page.proofs.store_at.Goals as goal
 
+-- an edit of the part from the seat on, by the number of bytes that stay behind it, is one of the page
 part-kept : (p r last : List ℕ) (at gone top : ℕ) → at ≤ length p → at + gone ≤ top
     → last ≡ spliced (take (length p - at) (drop at p)) 0 gone (gone + (top - gone - at)) r → take at p ++ (last ++ drop (length p - at) (drop at p)) ≡ spliced p at gone top r
 part-kept p r last at gone top h k e =
     let f : gone + (top - gone - at) ≡ top - at = omega arith in
     part-spliced p r last at gone top h (e ∙ ap (λ (n : ℕ). spliced (take (length p - at) (drop at p)) 0 gone n r) f)
 
+-- the used bytes of the whole page, which the walk from the seat on gives
 pub returns-then-room-top : goal.returns-then-room-top
 returns-then-room-top c =
-    let a = (start c.AT-Then1).args in
-    let k = (let it : c.used_from-top.result ≡ used (start c.AT-Then1).args.page.now = c.used_from-top.ensures ∙ (start c.AT-Then1).requires.rest in it) in
+    let a = c.args in
+    let k : c.used_from-top.result ≡ used a.page.now = c.used_from-top.ensures ∙ c.requires.rest in
     store-endless a.page.now a.seat a.number.0 a.text.now (omega arith)
 
 pub returns-then-size-gt-MOST : goal.returns-then-size-gt-MOST
 returns-then-size-gt-MOST c =
-    let a = (start c.AT-Then2).args in
-    let k = (let it : c.used_from-top.result ≡ used (start c.AT-Then2).args.page.now = c.used_from-top.ensures ∙ (start c.AT-Then2).requires.rest in it) in
+    let a = c.args in
+    let k : c.used_from-top.result ≡ used a.page.now = c.used_from-top.ensures ∙ c.requires.rest in
     store_long a.page.now a.seat a.number.0 a.text.now (omega arith) c.if-size-gt-MOST.true
 
 pub returns-then-kept-size : goal.returns-then-kept-size
 returns-then-kept-size c =
-    let a = (start c.AT-After-slice-known2).args in
-    let h = (start c.AT-After-slice-known2).requires in
-    let k = (let it : c.used_from-top.result ≡ used (start c.AT-After-slice-known2).args.page.now = c.used_from-top.ensures ∙ (start c.AT-After-slice-known2).requires.rest in it) in
+    let a = c.args in
+    let h = c.requires in
+    let k : c.used_from-top.result ≡ used a.page.now = c.used_from-top.ensures ∙ c.requires.rest in
     let s = a.seat in
     let r : Stored = record { line = a.number.0; text = a.text.now } in
     let x = c.used_from-top.result in
@@ -47,7 +46,7 @@ returns-then-kept-size c =
 
 pub returns : goal.returns
 returns c =
-    let a = (start c.AT-Else3).args in
-    let h = (start c.AT-Else3).requires in
-    let k = (let it : c.used_from-top.result ≡ used (start c.AT-Else3).args.page.now = c.used_from-top.ensures ∙ (start c.AT-Else3).requires.rest in it) in
+    let a = c.args in
+    let h = c.requires in
+    let k : c.used_from-top.result ≡ used a.page.now = c.used_from-top.ensures ∙ c.requires.rest in
     store-full a.page.now a.seat a.number.0 a.text.now (omega arith) (omega arith) (omega arith)

@@ -4,7 +4,7 @@ use native.Mathlib.Omega.{arith}
 use Rattle.nibl.specs.Words.{keywords}
 use Rattle.word.specs.Found.{WordIs}
 use Rattle.reader.proofs.Ends.{end_none, end-last, end-colon, end-other, end-wrong}
-use borrow.Author.Rules.{rules}
+use borrow.Enum.Refused.{opened}
 use Rattle.reader.proofs.member_end.Goals as goal
 
 pub returns-in_default : goal.returns-in_default
@@ -22,4 +22,4 @@ returns-else-k-eq-COLON c =
     end-other c.in-Next.is c.if-k-eq-COLON.false (subst (WordIs keywords _ _) c.in-Sign.is c.word_at-w.ensures)
 
 pub returns-in_default-w : goal.returns-in_default-w
-returns-in_default-w c = end-wrong c.in-Next.is c.word_at-w.result c.word_at-w.ensures c.in_default-w.in_default-w-own.keys3
+returns-in_default-w c = end-wrong c.in-Next.is c.word_at-w.result c.word_at-w.ensures (opened c.in_default-w.in_default-w-own.keys3)

@@ -5,11 +5,11 @@ use Rattle.reader.specs.Forms.{KindIs}
 use Rattle.reader.proofs.Spending.{missing, room-over, room-write}
 use Rattle.reader.proofs.Heads.{heads-over, heads-variable, unvariable}
 use Rattle.reader.proofs.Ways.{variable-is}
-use borrow.Author.Rules.{rules}
+use borrow.Enum.Refused.{opened}
 use Rattle.reader.proofs.with_variable.Goals as goal
 
 pub returns-in_default : goal.returns-in_default
-returns-in_default c = missing (unvariable c.kind_at-w.result c.kind_at-w.ensures c.in_default.in_default-own.keys2)
+returns-in_default c = missing (unvariable c.kind_at-w.result c.kind_at-w.ensures (opened c.in_default.in_default-own.keys2))
 
 pub returns : goal.returns
 returns c =

@@ -20,6 +20,6 @@ returns c =
     let d = described c.requires c.if-table-lt1.false in
     let e = c.start_of-at.ensures ∙ ap (λ (j : ℕ). span_of (take j (records_of a.page.now))) c.seek-k.ensures in
     record {
-      seated = seat-found a.page.now d.rising a.number.0 _ e c.Gone-at.ensures;
+      seated = seat-found a.page.now d.rising a.number.0 _ e c.gone_at-gone.ensures;
       index = λ h. c.seek-k.ensures;
     }

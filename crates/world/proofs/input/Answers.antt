@@ -1,4 +1,5 @@
 -- Asking: what each way out says, and how it is the definition's in the world. Assumes nothing.
+use Rattle.std.specs.Prelude.{if◌then◌else◌}
 use Prim.Native.Nat.{ℕ, ◌+◌}
 use mathlib.Core.Path.{◌≡◌, refl, sym, ap, ◌∙◌}
 use mathlib.Core.Bool.{Bool, true, false}
@@ -7,7 +8,7 @@ use mathlib.Core.Option.{Option, none, some}
 use native.Mathlib.Omega.{arith}
 use lib.ListN.{length, take, drop}
 use lib.Seq.{sets}
-use Rattle.nibl.specs.Bytes.{if◌then◌else◌, bytes}
+use Rattle.nibl.specs.Bytes.{bytes}
 use Rattle.nibl.specs.Values.{is, no}
 use Rattle.nibl.specs.Typing.{Gathered, gather}
 use Rattle.nibl.specs.Meaning.{Env, World, with_output, with_inpos, Done, done, on, stop, went, put, gathered, asked}

@@ -1,4 +1,5 @@
 -- Stores: what a store that fits leaves and one that does not, and how either is the definition's in the world. Assumes nothing.
+use Rattle.std.specs.Prelude.{if◌then◌else◌}
 use Prim.Native.Nat.{ℕ, ◌+◌, ◌-◌, ◌/◌, ◌%◌, ◌≤◌, ◌<◌}
 use mathlib.Core.Path.{◌≡◌, refl, sym, ap, ◌∙◌}
 use mathlib.Core.Bool.{Bool, true, false, not}
@@ -8,7 +9,6 @@ use lib.ListN.{length, get_or, take, drop, set, get_or-map, length-map, length-a
 use lib.Seq.{sets, sets-eq, length-take-le}
 use lib.Dec.{leb}
 use borrow.Author.Tests.{le-leb, lt-leb, leb-true, leb-false}
-use Rattle.nibl.specs.Bytes.{if◌then◌else◌}
 use Rattle.nibl.specs.Values.{Result, is, no}
 use Rattle.nibl.specs.Access.{may_write}
 use Rattle.nibl.specs.Meaning.{World, bind, string_at, store_at, keep_in}

@@ -1,5 +1,5 @@
 use native.Mathlib.Omega.{arith}
-use Rattle.column.proofs.Packed.{Pushing, pushing-first, pushing-some, pushing-on, pushing-last}
+use Rattle.column.proofs.Packed.{pushing-some, pushing-on}
 use Rattle.column.proofs.rules.push.Goals as goal
 
 pub loop-n-preserved : goal.loop-n-preserved

@@ -1,6 +1,5 @@
 -- `rules::push` meets its contract: digit by digit. Assumes nothing.
-use native.Mathlib.Omega.{arith}
-use Rattle.column.proofs.Packed.{Pushing, pushing-first, pushing-some, pushing-on, pushing-last}
+use Rattle.column.proofs.Packed.{Pushing}
 use Rattle.column.proofs.rules.push.Given as goal
 
 abbrev pub invariant-loop-n : goal.invariant-loop-n

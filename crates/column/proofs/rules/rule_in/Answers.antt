@@ -1,10 +1,6 @@
-use Prim.Native.Nat.{◌-◌, ◌≤◌}
-use mathlib.Core.Path.{◌≡◌, refl, sym, ◌∙◌}
+use mathlib.Core.Path.{◌∙◌}
 use native.Mathlib.Omega.{arith}
-use borrow.Author.Rules.{rules}
-use lib.Seq.{slice}
-use Rattle.column.specs.Rules.{rule_in}
-use Rattle.column.proofs.Packed.{rule-hit, rule-miss, rule-none}
+use Rattle.column.proofs.Packed.{rule-hit}
 use Rattle.column.proofs.rules.rule_in.Goals as goal
 
 pub returns-then-n-k : goal.returns-then-n-k

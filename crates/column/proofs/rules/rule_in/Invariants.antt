@@ -1,11 +1,8 @@
 -- `rules::rule_in` meets its contract: what the rules from `i` on give is what all of them give. Assumes nothing.
 use Prim.Native.Nat.{◌-◌, ◌≤◌}
-use mathlib.Core.Path.{◌≡◌, refl, sym, ◌∙◌}
-use native.Mathlib.Omega.{arith}
-use borrow.Author.Rules.{rules}
+use mathlib.Core.Path.{◌≡◌}
 use lib.Seq.{slice}
 use Rattle.column.specs.Rules.{rule_in}
-use Rattle.column.proofs.Packed.{rule-hit, rule-miss, rule-none}
 use Rattle.column.proofs.rules.rule_in.Given as goal
 
 abbrev pub invariant-loop-i : goal.invariant-loop-i

@@ -1,8 +1,5 @@
-use Prim.Native.Nat.{◌-◌}
 use native.Mathlib.Omega.{arith}
-use borrow.Author.Rules.{rules}
-use lib.ListN.{length}
-use Rattle.column.proofs.Turns.{Seeking, seeking-first, seeking-on, seek_hit, seek_stop, seek-end}
+use Rattle.column.proofs.Turns.{seeking-on, seek_hit, seek_stop, seek-end}
 use Rattle.column.proofs.rules.seek.Goals as goal
 
 pub returns-then-after-ne0 : goal.returns-then-after-ne0

@@ -1,9 +1,7 @@
 -- `rules::seek` meets its contract: each way out is a law of Turns. Assumes nothing.
 use Prim.Native.Nat.{◌-◌}
-use native.Mathlib.Omega.{arith}
-use borrow.Author.Rules.{rules}
 use lib.ListN.{length}
-use Rattle.column.proofs.Turns.{Seeking, seeking-first, seeking-on, seek_hit, seek_stop, seek-end}
+use Rattle.column.proofs.Turns.{Seeking}
 use Rattle.column.proofs.rules.seek.Given as goal
 
 abbrev pub invariant-loop-t : goal.invariant-loop-t

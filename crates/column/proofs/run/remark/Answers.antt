@@ -1,6 +1,5 @@
 -- `run::remark` meets its contract. Assumes nothing.
 use native.Mathlib.Omega.{arith}
-use borrow.Author.Rules.{rules}
 use Rattle.column.proofs.Steps.{remark-stuck, remark-alive}
 use Rattle.column.proofs.run.remark.Goals as goal
 

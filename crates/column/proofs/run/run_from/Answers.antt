@@ -1,11 +1,7 @@
-use Prim.Native.Nat.{◌-◌}
-use mathlib.Core.Path.{refl, subst, sym, ◌∙◌}
-use native.Mathlib.Omega.{arith}
-use borrow.Author.Rules.{rules}
-use lib.ListN.{length, drop}
+use mathlib.Core.Path.{subst, sym, ◌∙◌}
 use Rattle.word.specs.Found.{spellings_of}
-use Rattle.column.specs.Runs.{NextIs, run_by}
-use Rattle.column.proofs.Steps.{Running, running-remark, running-end, running-wrong, running-stuck, running-room, running-on}
+use Rattle.column.specs.Runs.{NextIs}
+use Rattle.column.proofs.Steps.{running-remark, running-end, running-wrong, running-stuck, running-on}
 use Rattle.column.proofs.run.run_from.Goals as goal
 
 pub returns-then-is_remark : goal.returns-then-is_remark

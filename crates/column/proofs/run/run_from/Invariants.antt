@@ -1,12 +1,9 @@
 -- `run::run_from` meets its contract: each word, and each way out, is a law of Steps. Assumes nothing.
 use Prim.Native.Nat.{◌-◌}
-use mathlib.Core.Path.{refl, subst, sym, ◌∙◌}
-use native.Mathlib.Omega.{arith}
-use borrow.Author.Rules.{rules}
 use lib.ListN.{length, drop}
 use Rattle.word.specs.Found.{spellings_of}
-use Rattle.column.specs.Runs.{NextIs, run_by}
-use Rattle.column.proofs.Steps.{Running, running-remark, running-end, running-wrong, running-stuck, running-room, running-on}
+use Rattle.column.specs.Runs.{run_by}
+use Rattle.column.proofs.Steps.{Running}
 use Rattle.column.proofs.run.run_from.Given as goal
 
 abbrev pub invariant-loop-from : goal.invariant-loop-from

@@ -1,12 +1,9 @@
 -- `run::text_end` meets its contract: the end from `i` on is the end from `from` on. Assumes nothing.
-use mathlib.Core.Path.{◌≡◌, refl, ◌∙◌, sym}
+use mathlib.Core.Path.{◌≡◌}
 use Prim.Native.Nat.{◌-◌}
-use native.Mathlib.Omega.{arith}
-use borrow.Author.Rules.{rules}
-use borrow.Author.Tests.{not-true, not-false}
 use lib.ListN.{length}
 use Rattle.nibl.specs.Bytes.{is_text}
-use Rattle.word.proofs.Runs.{run_end, end-go, end-stop, stops_at, stops_end}
+use Rattle.word.proofs.Runs.{run_end}
 use Rattle.column.proofs.run.text_end.Given as goal
 
 abbrev pub invariant-loop-i : goal.invariant-loop-i
