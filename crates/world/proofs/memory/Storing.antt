@@ -8,7 +8,7 @@ use native.Mathlib.Omega.{arith}
 use lib.ListN.{length, get_or, take, drop, set, get_or-map, length-map, length-append, length-drop}
 use lib.Seq.{sets, sets-eq, length-take-le}
 use lib.Dec.{leb}
-use borrow.Author.Tests.{le-leb, lt-leb, leb-true, leb-false}
+use borrow.Author.Tests.{le-leb, leb-true}
 use Rattle.nibl.specs.Values.{Result, is, no}
 use Rattle.nibl.specs.Access.{may_write}
 use Rattle.nibl.specs.Meaning.{World, bind, string_at, store_at, keep_in}
@@ -17,7 +17,6 @@ use Rattle.value.specs.Writes.{Writes}
 use Rattle.value.specs.declared.Wrote.{Wrote}
 use Rattle.value.proofs.Writing.{sets-append, sets_more}
 use Rattle.page.specs.Edits.{moved, can_move}
-use Rattle.page.proofs.Walk.{by_cases}
 use Rattle.world.specs.Stores.{AfterStore, store_ends, store_gave, store_leaves, after_store_in, args_of}
 use Rattle.world.specs.declared.memory.StoreEnd.{StoreEnd}
 use Rattle.world.specs.declared.memory.StoreEnd.TheVariants as store_end

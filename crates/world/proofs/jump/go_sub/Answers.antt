@@ -1,6 +1,5 @@
 -- `go_sub` meets its contract: the line first, then the push. Assumes nothing.
 use Rattle.world.specs.Turns.{gosub_turn}
-use borrow.Author.Rules.{rules}
 use Rattle.world.proofs.jump.go_sub.Goals as goal
 
 pub returns-in-Nothing : goal.returns-in-Nothing
