@@ -6,18 +6,18 @@ use mathlib.Core.Bool.{Bool, true, false, not, ◌&&◌, false≢true}
 use mathlib.Core.List.{List, [], ◌∷◌, ◌++◌, append_assoc}
 use native.Mathlib.Nat.{div-add-mod'}
 use native.Mathlib.Omega.{arith}
-use lib.ListN.{length, get_or, take, drop, length-append, length-drop, replicate, length-replicate}
-use lib.Seq.{drop_at, take_at, get_or_at, drop-drop, get_or-drop, length-take-le, take_all, get_or-append-add}
+use lib.ListN.{length, get_or, drop, length-append, length-drop}
+use lib.Seq.{drop_at, drop-drop, get_or-drop, length-take-le, get_or-append-add}
 use lib.Dec.{leb, eqb}
-use borrow.Author.Tests.{le-leb, leb-true, eqb-true, ne_eqb, eq-eqb, le-ltb}
+use borrow.Author.Tests.{le-leb, leb-true, eqb-true, eq-eqb}
 use Rattle.nibl.specs.Values.{Result, is, no}
-use Rattle.nibl.specs.Page.{Stored, record_bytes, line_at, length_at, text_at, is_record, size}
-use Rattle.page.specs.Standing.{Bytes, Storable}
+use Rattle.nibl.specs.Page.{Stored, record_bytes, line_at, length_at, text_at, is_record}
+use Rattle.page.specs.Standing.{Bytes}
 use Rattle.page.proofs.Walk.{by_cases}
-use Rattle.page.proofs.Program.{Program, none, each, both, record-known, record-length, front-line, front-text, front_rest, front-record}
+use Rattle.page.proofs.Program.{Program, none, each, both, record-known, front-line, front-text, front_rest, front-record}
 use Rattle.page.proofs.Laid.{whole-text, record-bytes, text-room}
 use Rattle.nibl.specs.Saved.{RuleSet, values_bytes, records_bytes, counted, saved_form}
-use Rattle.nibl.specs.found.Form.{values_in, Parted, broken, parted, behind, records_in, is_counted, carried_by, has_number, has_values, form_in}
+use Rattle.nibl.specs.found.Form.{values_in, Parted, broken, parted, behind, records_in, is_counted, carried_by, form_in}
 
 -- a rule set that has a form: 26 values, a good page's records, and bytes
 pub record Formed (lim : ℕ) (c : RuleSet) : Type 0 where

@@ -1,42 +1,80 @@
 -- `put_form` meets its contract: head, records and memory one behind the other. Assumes nothing.
--- the page: its bytes, and how many of them are its records'
--- what is carried, and the output behind its head and behind its records
 use Prim.Native.Nat.{ℕ, ◌+◌, ◌-◌, ◌≤◌, ◌<◌}
 use mathlib.Core.Path.{◌≡◌, refl, sym, ap, ◌∙◌}
+use mathlib.Core.Bool.{true}
 use mathlib.Core.List.{List, ◌∷◌, ◌++◌}
 use native.Mathlib.Omega.{arith}
 use lib.ListN.{length, take}
 use lib.Seq.{sets, length-sets, length-take-le}
 use mir.Syntax.{w16}
 use borrow.Kind.Array.{e_int, good_length}
-use borrow.Author.Rules.{rules}
 use Rattle.nibl.specs.Typing.{limit}
-use Rattle.nibl.specs.Page.{records_of, used}
+use Rattle.nibl.specs.Page.{is_good, records_of, used}
 use Rattle.nibl.specs.Saved.{RuleSet, two_bytes, values_bytes, records_bytes, counted, form_number}
 use Rattle.page.specs.Standing.{Bytes}
 use Rattle.page.proofs.Laid.{good-fits}
 use Rattle.page.proofs.Tables.{lines-most}
+use Rattle.value.specs.declared.Wrote.{Wrote}
+use Rattle.value.specs.Writes.{Writes}
+use Rattle.carry.specs.Forms.{Savable}
 use Rattle.carry.proofs.Forms.{written, used-least, good-records, head_of, form-pieces}
 use Rattle.carry.proofs.put_form.Goals as goal
 
+-- the page: its bytes, and how many of them are its records'
+module _ (page : List ℕ) {u : ℕ} (e : u ≡ used page) where
+  least : 2 ≤ u
+  least = omega (arith, used-least page)
+
+  module _ (b : Bytes page) (g : is_good limit page ≡ true) where
+    part : take (u - 2) page ≡ records_bytes (records_of page)
+    part = ap (λ (n : ℕ). take (n - 2) page) e ∙ good-records limit page b g
+
+    part-long : length (take (u - 2) page) ≡ u - 2
+    part-long = length-take-le (u - 2) page (omega (arith, good-fits limit page b g))
+
+-- the output keeps its length, and has the records behind its head
+sets-long : (output item : List ℕ) (at : ℕ) {after : List ℕ} → after ≡ sets output at item → length after ≡ length output
+sets-long output item at h = ap length h ∙ length-sets output at item
+
+recorded : (page output head : List ℕ) (at m : ℕ) {u : ℕ} {before after : List ℕ} {r : Wrote} → u ≡ used page → Bytes page → is_good limit page ≡ true
+    → at + 56 + used page + m ≤ length output → before ≡ sets output at head → Writes before (at + 56) (take (u - 2) page) r after → after ≡ sets before (at + 56) (take (u - 2) page)
+recorded page output head at m e b g room h w =
+    written w (omega (arith, part-long page e b g, least page e, sets-long output head at h))
+
 pub overflow_sub-end : goal.overflow_sub-end
-overflow_sub-end c = least c.AT-After-used-bytes
+overflow_sub-end c = least c.args.page.now c.used_bytes-end.ensures
 
 pub overflow_cast-line_count : goal.overflow_cast-line_count
 overflow_cast-line_count c = omega (arith, c.line_count.ensures, lines-most c.args.page.now, c.requires.paged)
 
 pub slice_bounds-write_item-end : goal.slice_bounds-write_item-end
-slice_bounds-write_item-end c = sym (part-long c.AT-After-write-item-arg)
+slice_bounds-write_item-end c = sym (part-long c.args.page.now c.used_bytes-end.ensures (λ i. omega (arith, c.type_inv.page i)) c.requires.good)
 
 pub put_counted-requires : goal.put_counted-requires
 put_counted-requires c =
-    (omega (arith, c.requires.small), omega (arith, room c.AT-After-put-counted-arg, least c.AT-After-put-counted-arg, (let it : length c.write_item.new.output ≡ length c.args.output.now = ap length ((let it : c.write_item.new.output ≡ sets c.put_head.new.output (c.args.at + 56) (take (c.used_bytes-end.result - 2) c.args.page.now) = written c.write_item.ensures (omega (arith, room c.AT-After-put-counted-arg, part-long c.AT-After-put-counted-arg, least c.AT-After-put-counted-arg, (let it : length c.put_head.new.output ≡ length c.args.output.now = ap length ((let it : c.put_head.new.output ≡ sets c.args.output.now c.args.at (head_of (carried c.AT-After-put-counted-arg) ((let it : length c.args.vars ≡ 26 = good_length (e_int w16) 26 c.args.vars _ c.well_formed.1.1.0 in it))) = let a = c.args in c.put_head.ensures ∙ ap (λ (n : ℕ). sets a.output.now a.at (form_number ∷ 26 ∷ (values_bytes a.vars ++ two_bytes n))) c.line_count.ensures in it)) ∙ length-sets c.args.output.now c.args.at (head_of (carried c.AT-After-put-counted-arg) ((let it : length c.args.vars ≡ 26 = good_length (e_int w16) 26 c.args.vars _ c.well_formed.1.1.0 in it))) in it))) in it)) ∙ length-sets c.put_head.new.output (c.args.at + 56) (take (c.used_bytes-end.result - 2) (page c.AT-After-put-counted-arg)) ∙ (let it : length c.put_head.new.output ≡ length c.args.output.now = ap length ((let it : c.put_head.new.output ≡ sets c.args.output.now c.args.at (head_of (carried c.AT-After-put-counted-arg) ((let it : length c.args.vars ≡ 26 = good_length (e_int w16) 26 c.args.vars _ c.well_formed.1.1.0 in it))) = let a = c.args in c.put_head.ensures ∙ ap (λ (n : ℕ). sets a.output.now a.at (form_number ∷ 26 ∷ (values_bytes a.vars ++ two_bytes n))) c.line_count.ensures in it)) ∙ length-sets c.args.output.now c.args.at (head_of (carried c.AT-After-put-counted-arg) ((let it : length c.args.vars ≡ 26 = good_length (e_int w16) 26 c.args.vars _ c.well_formed.1.1.0 in it))) in it) in it)))
+    let a = c.args in
+    let d = c.requires in
+    let u = c.used_bytes-end in
+    let b : Bytes a.page.now = λ i. omega (arith, c.type_inv.page i) in
+    let head : List ℕ = form_number ∷ 26 ∷ (values_bytes a.vars ++ two_bytes c.line_count.result) in
+    let e = recorded a.page.now a.output.now head a.at (length a.memory.now) u.ensures b d.good d.room c.put_head.ensures c.write_item.ensures in
+    let kept = sets-long c.put_head.new.output (take (u.result - 2) a.page.now) (a.at + 56) e in
+    (omega (arith, d.small), omega (arith, d.room, u.ensures, least a.page.now u.ensures, kept, sets-long a.output.now head a.at c.put_head.ensures))
 
 pub returns : goal.returns
 returns c =
     let a = c.args in
-    let end : ℕ = c.used_bytes-end.result - 2 in
+    let d = c.requires in
+    let u = c.used_bytes-end in
+    let end : ℕ = u.result - 2 in
+    let b : Bytes a.page.now = λ i. omega (arith, c.type_inv.page i) in
+    let p = part a.page.now u.ensures b d.good in
+    let carried : RuleSet = record { vars = a.vars; records = records_of a.page.now; memory = a.memory.now } in
+    let count : length a.vars ≡ 26 = good_length (e_int w16) 26 a.vars _ c.well_formed.1.1.0 in
+    let head : List ℕ = form_number ∷ 26 ∷ (values_bytes a.vars ++ two_bytes c.line_count.result) in
+    let h : c.put_head.new.output ≡ sets a.output.now a.at (head_of carried count) =
+    c.put_head.ensures ∙ ap (λ (n : ℕ). sets a.output.now a.at (form_number ∷ 26 ∷ (values_bytes a.vars ++ two_bytes n))) c.line_count.ensures in
+    let e = recorded a.page.now a.output.now head a.at (length a.memory.now) u.ensures b d.good d.room c.put_head.ensures c.write_item.ensures in
     c.put_counted.ensures
-    ∙ ap (λ (o : List ℕ). sets o (a.at + 56 + end) (counted a.memory.now))
-    ((let it : c.write_item.new.output ≡ sets c.put_head.new.output (c.args.at + 56) (take (c.used_bytes-end.result - 2) c.args.page.now) = written c.write_item.ensures (omega (arith, room c.AT-After-slice-known4, part-long c.AT-After-slice-known4, least c.AT-After-slice-known4, (let it : length c.put_head.new.output ≡ length c.args.output.now = ap length ((let it : c.put_head.new.output ≡ sets c.args.output.now c.args.at (head_of (carried c.AT-After-slice-known4) ((let it : length c.args.vars ≡ 26 = good_length (e_int w16) 26 c.args.vars _ c.well_formed.1.1.0 in it))) = let a = c.args in c.put_head.ensures ∙ ap (λ (n : ℕ). sets a.output.now a.at (form_number ∷ 26 ∷ (values_bytes a.vars ++ two_bytes n))) c.line_count.ensures in it)) ∙ length-sets c.args.output.now c.args.at (head_of (carried c.AT-After-slice-known4) ((let it : length c.args.vars ≡ 26 = good_length (e_int w16) 26 c.args.vars _ c.well_formed.1.1.0 in it))) in it))) in it) ∙ (λ i. sets ((let it : c.put_head.new.output ≡ sets c.args.output.now c.args.at (head_of (carried c.AT-After-slice-known4) ((let it : length c.args.vars ≡ 26 = good_length (e_int w16) 26 c.args.vars _ c.well_formed.1.1.0 in it))) = let a = c.args in c.put_head.ensures ∙ ap (λ (n : ℕ). sets a.output.now a.at (form_number ∷ 26 ∷ (values_bytes a.vars ++ two_bytes n))) c.line_count.ensures in it) i) (a.at + 56) (part c.AT-After-slice-known4 i)))
-    ∙ form-pieces (carried c.AT-After-slice-known4) ((let it : length c.args.vars ≡ 26 = good_length (e_int w16) 26 c.args.vars _ c.well_formed.1.1.0 in it)) a.output.now a.at end (sym (part-long c.AT-After-slice-known4) ∙ ap length (part c.AT-After-slice-known4))
+    ∙ ap (λ (o : List ℕ). sets o (a.at + 56 + end) (counted a.memory.now)) (e ∙ (λ i. sets (h i) (a.at + 56) (p i)))
+    ∙ form-pieces carried count a.output.now a.at end (sym (part-long a.page.now u.ensures b d.good) ∙ ap length p)

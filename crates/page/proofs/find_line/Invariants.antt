@@ -1,15 +1,10 @@
 -- `find_line` meets its contract: each record walked over was not the line's, so the position is that of the records that are left. Assumes nothing.
 -- what a turn knows of the record that it is at
-use Prim.Native.Nat.{ℕ, ◌+◌, ◌-◌}
-use mathlib.Core.Option.{some}
-use mathlib.Core.Path.{◌≡◌, refl, sym, ap, ◌∙◌}
-use native.Mathlib.Omega.{arith}
-use lib.Seq.{get_or-drop}
+use Prim.Native.Nat.{◌+◌, ◌-◌}
+use mathlib.Core.Path.{◌≡◌}
 use lib.ListN.{length, drop}
-use borrow.Author.Tests.{eq-eqb, ne_eqb}
-use Rattle.nibl.specs.Page.{records_of, position_in, find, line_at, length_at, size}
-use Rattle.page.specs.Walk.{reached, record_at, cut}
-use Rattle.page.proofs.Walk.{Stood, stood, stops, cut_in}
+use Rattle.nibl.specs.Page.{records_of, position_in, find}
+use Rattle.page.specs.Walk.{cut}
 use Rattle.page.proofs.find_line.Given as goal
 
 abbrev pub invariant-loop-n : goal.invariant-loop-n

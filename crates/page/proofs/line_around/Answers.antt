@@ -1,11 +1,9 @@
 use Prim.Native.Nat.{ℕ, ◌+◌, ◌-◌, ◌≤◌}
 use mathlib.Core.Path.{◌≡◌, sym, ap, ◌∙◌}
 use native.Mathlib.Omega.{arith}
-use lib.ListN.{length, drop}
+use lib.ListN.{drop}
 use borrow.Author.Tests.{lt-ltb, le-ltb}
-use borrow.Author.Rules.{rules}
 use Rattle.nibl.specs.Page.{records_of, line_in, line_of}
-use Rattle.page.specs.Walk.{size_at}
 use Rattle.page.proofs.Walk.{Met, met, past}
 use Rattle.page.proofs.line_around.Goals as goal
 

@@ -1,14 +1,10 @@
 -- `line_around` meets its contract: the position lies past each record walked over. Assumes nothing.
 -- what a turn knows of the record that it is at
-use Prim.Native.Nat.{ℕ, ◌+◌, ◌-◌, ◌≤◌}
-use mathlib.Core.Path.{◌≡◌, sym, ap, ◌∙◌}
-use native.Mathlib.Omega.{arith}
+use Prim.Native.Nat.{◌+◌, ◌-◌, ◌≤◌}
+use mathlib.Core.Path.{◌≡◌}
 use lib.ListN.{length, drop}
-use borrow.Author.Tests.{lt-ltb, le-ltb}
-use borrow.Author.Rules.{rules}
 use Rattle.nibl.specs.Page.{records_of, line_in, line_of}
 use Rattle.page.specs.Walk.{size_at}
-use Rattle.page.proofs.Walk.{Met, met, past}
 use Rattle.page.proofs.line_around.Given as goal
 
 abbrev pub invariant-loop-size : goal.invariant-loop-size

@@ -1,12 +1,11 @@
 -- `line_from` meets its contract: what is passed up to the CR is the text. Assumes nothing.
 use Prim.Native.Nat.{ℕ, ◌-◌}
-use mathlib.Core.Path.{◌≡◌, sym, ap, ◌∙◌}
+use mathlib.Core.Path.{◌≡◌, ap, ◌∙◌}
 use native.Mathlib.Omega.{arith}
 use lib.ListN.{length, take, drop}
-use borrow.Author.Rules.{rules}
 use Rattle.nibl.specs.Runs.{line_from}
 use Rattle.nibl.specs.Bytes.{not_cr}
-use Rattle.page.proofs.Texts.{line-past, line-inside, front-part}
+use Rattle.page.proofs.Texts.{line-inside, front-part}
 use Rattle.page.proofs.line_from.Goals as goal
 
 pub slice_bounds-result-end-2 : goal.slice_bounds-result-end-2

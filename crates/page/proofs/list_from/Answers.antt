@@ -1,12 +1,11 @@
-use Prim.Native.Nat.{◌+◌, ◌-◌, ◌≤◌}
+use Prim.Native.Nat.{◌+◌}
 use mathlib.Core.List.{List}
-use mathlib.Core.Path.{◌≡◌, refl, sym, ap, ◌∙◌}
+use mathlib.Core.Path.{sym, ap, ◌∙◌}
 use native.Mathlib.Omega.{arith}
-use lib.ListN.{length, drop}
-use borrow.Author.Rules.{rules}
+use lib.ListN.{drop}
 use Rattle.nibl.specs.Page.{Stored, records_of}
 use Rattle.page.specs.Listing.{listing}
-use Rattle.page.specs.Walk.{size_at, record_at}
+use Rattle.page.specs.Walk.{record_at}
 use Rattle.page.proofs.Listings.{list_on, list_full}
 use Rattle.page.proofs.Walk.{Met, met, past}
 use Rattle.page.proofs.list_from.Goals as goal

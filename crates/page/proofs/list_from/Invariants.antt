@@ -1,16 +1,11 @@
 -- `list_from` meets its contract: each record walked over is listed or passed over. Assumes nothing.
 -- what a turn knows of the record that it is at
 use Prim.Native.Nat.{◌+◌, ◌-◌, ◌≤◌}
-use mathlib.Core.List.{List}
-use mathlib.Core.Path.{◌≡◌, refl, sym, ap, ◌∙◌}
-use native.Mathlib.Omega.{arith}
+use mathlib.Core.Path.{◌≡◌}
 use lib.ListN.{length, drop}
-use borrow.Author.Rules.{rules}
-use Rattle.nibl.specs.Page.{Stored, records_of}
+use Rattle.nibl.specs.Page.{records_of}
 use Rattle.page.specs.Listing.{listing}
-use Rattle.page.specs.Walk.{size_at, record_at}
-use Rattle.page.proofs.Listings.{list_on, list_full}
-use Rattle.page.proofs.Walk.{Met, met, past}
+use Rattle.page.specs.Walk.{size_at}
 use Rattle.page.proofs.list_from.Given as goal
 
 abbrev pub invariant-loop-size : goal.invariant-loop-size

@@ -5,7 +5,6 @@ use Prim.Native.Nat.{◌≤◌, ◌+◌, ◌-◌, ℕ}
 use mathlib.Core.Path.{◌≡◌, ap, sym, ◌∙◌}
 use native.Mathlib.Omega.{arith}
 use lib.ListN.{length-set, length, drop}
-use borrow.Author.Rules.{rules}
 use borrow.Author.Tests.{leb-true, leb-false, not-true, not-false}
 use Rattle.nibl.specs.Calls.{listed}
 use Rattle.nibl.specs.Values.{digits}

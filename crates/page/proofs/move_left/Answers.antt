@@ -1,11 +1,8 @@
-use Prim.Native.Nat.{ℕ, ◌≤◌, ◌+◌, ◌-◌}
-use mathlib.Core.Path.{◌≡◌, refl, ap, ◌∙◌}
+use Prim.Native.Nat.{ℕ, ◌+◌}
+use mathlib.Core.Path.{ap, ◌∙◌}
 use mathlib.Core.List.{List}
 use native.Mathlib.Omega.{arith}
-use lib.ListN.{length, length-set, drop, get_or, set}
-use lib.Seq.{paste-zero}
-use borrow.Author.Rules.{rules}
-use Rattle.page.specs.Edits.{moved}
+use lib.ListN.{length-set, get_or, set}
 use Rattle.page.proofs.Moves.{left_step}
 use Rattle.page.proofs.move_left.Goals as goal
 

@@ -1,13 +1,8 @@
 -- `move_left` meets its contract: after i turns, i bytes have moved. Assumes nothing.
-use Prim.Native.Nat.{ℕ, ◌≤◌, ◌+◌, ◌-◌}
-use mathlib.Core.Path.{◌≡◌, refl, ap, ◌∙◌}
-use mathlib.Core.List.{List}
-use native.Mathlib.Omega.{arith}
-use lib.ListN.{length, length-set, drop, get_or, set}
-use lib.Seq.{paste-zero}
-use borrow.Author.Rules.{rules}
+use Prim.Native.Nat.{◌≤◌, ◌-◌}
+use mathlib.Core.Path.{◌≡◌}
+use lib.ListN.{length}
 use Rattle.page.specs.Edits.{moved}
-use Rattle.page.proofs.Moves.{left_step}
 use Rattle.page.proofs.move_left.Given as goal
 
 abbrev pub invariant-loop-i : goal.invariant-loop-i

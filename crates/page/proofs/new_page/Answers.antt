@@ -6,7 +6,6 @@ use native.Mathlib.Omega.{arith}
 use lib.Seq.{sets-eq}
 use lib.ListN.{length, set, drop}
 use borrow.Author.Tests.{le-leb, lt-leb}
-use borrow.Author.Rules.{rules}
 use Rattle.page.specs.Edits.{new_of, changed}
 use Rattle.page.specs.declared.Edited.TheVariants as edited
 use Rattle.page.proofs.new_page.Goals as goal

@@ -5,9 +5,8 @@ use mathlib.Core.Bool.{false}
 use mathlib.Core.Path.{◌≡◌, sym, ap, ◌∙◌}
 use native.Mathlib.Omega.{arith}
 use lib.ListN.{drop, length-drop}
-use borrow.Author.Rules.{rules}
 use Rattle.page.specs.Walk.{stops_at}
-use Rattle.page.proofs.Walk.{not-true, not-false, long, size_none, size-cut, size-whole}
+use Rattle.page.proofs.Walk.{not-true, not-false, size_none, size-cut, size-whole}
 use Rattle.page.proofs.size_at.Goals as goal
 
 pub returns-then-not-has_record : goal.returns-then-not-has_record

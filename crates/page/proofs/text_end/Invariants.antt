@@ -1,10 +1,8 @@
 -- `text_end` meets its contract: each byte passed is one of the text. Assumes nothing.
 use Prim.Native.Nat.{◌+◌, ◌-◌, ◌≤◌}
-use mathlib.Core.Path.{◌≡◌, refl, ap}
-use native.Mathlib.Omega.{arith}
+use mathlib.Core.Path.{◌≡◌}
 use lib.ListN.{length}
 use Rattle.nibl.specs.Runs.{line_from}
-use Rattle.page.proofs.Texts.{line-past, line-ends, line-goes}
 use Rattle.page.proofs.text_end.Given as goal
 
 abbrev pub invariant-loop-e : goal.invariant-loop-e

@@ -1,7 +1,5 @@
 -- `text_from` meets its contract: by the three cases of the definition. Assumes nothing.
 use mathlib.Core.Path.{sym, ◌∙◌}
-use native.Mathlib.Omega.{arith}
-use borrow.Author.Rules.{rules}
 use Rattle.nibl.specs.Runs.{text_from}
 use Rattle.page.proofs.text_from.Goals as goal
 

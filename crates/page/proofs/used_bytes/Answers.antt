@@ -1,7 +1,6 @@
 -- `used_bytes` meets its contract: from the first record on. Assumes nothing.
 use mathlib.Core.Path.{◌∙◌}
 use native.Mathlib.Omega.{arith}
-use borrow.Author.Rules.{rules}
 use Rattle.nibl.specs.Page.{used}
 use Rattle.page.proofs.used_bytes.Goals as goal
 

@@ -1,12 +1,10 @@
-use Prim.Native.Nat.{ℕ, ◌+◌, ◌-◌}
+use Prim.Native.Nat.{ℕ, ◌+◌}
 use mathlib.Core.List.{List}
-use mathlib.Core.Path.{◌≡◌, refl, sym, ap, ◌∙◌}
+use mathlib.Core.Path.{sym, ap, ◌∙◌}
 use native.Mathlib.Omega.{arith}
-use lib.Seq.{get_or-drop}
-use lib.ListN.{length, drop}
-use Rattle.nibl.specs.Page.{Stored, used_by, records_of}
+use Rattle.nibl.specs.Page.{Stored, used_by}
 use Rattle.page.specs.Walk.{cut}
-use Rattle.page.proofs.Walk.{Stood, stood, stops, cut_in, cut_most}
+use Rattle.page.proofs.Walk.{Stood, stood, stops}
 use Rattle.page.proofs.used_from.Goals as goal
 
 pub loop-at-preserved : goal.loop-at-preserved

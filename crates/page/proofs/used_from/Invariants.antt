@@ -1,14 +1,10 @@
 -- `used_from` meets its contract: each record walked over leaves the sum of what was passed and what is in use from there on. Assumes nothing.
 -- what a turn knows of the record that it is at
-use Prim.Native.Nat.{ℕ, ◌+◌, ◌-◌}
-use mathlib.Core.List.{List}
-use mathlib.Core.Path.{◌≡◌, refl, sym, ap, ◌∙◌}
-use native.Mathlib.Omega.{arith}
-use lib.Seq.{get_or-drop}
+use Prim.Native.Nat.{◌+◌, ◌-◌}
+use mathlib.Core.Path.{◌≡◌}
 use lib.ListN.{length, drop}
-use Rattle.nibl.specs.Page.{Stored, used_by, records_of}
+use Rattle.nibl.specs.Page.{used_by, records_of}
 use Rattle.page.specs.Walk.{cut}
-use Rattle.page.proofs.Walk.{Stood, stood, stops, cut_in, cut_most}
 use Rattle.page.proofs.used_from.Given as goal
 
 abbrev pub invariant-loop-at : goal.invariant-loop-at
