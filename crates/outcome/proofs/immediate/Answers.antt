@@ -29,10 +29,11 @@ use Rattle.outcome.specs.Ends.{ended_in, world_at, stopped}
 use Rattle.outcome.specs.Lends.{Lists}
 use Rattle.outcome.specs.declared.Ended.{Ended}
 use Rattle.outcome.proofs.Statements.{fair, executes, obeyed, onto}
+use Rattle.outcome.proofs.immediate.Goals.{After-session-next}
 use Rattle.outcome.proofs.immediate.Goals as goal
 
 -- after the statement: what it was lent, and what it did
-module _ (r : goal.After-session-next) where
+module _ (r : After-session-next) where
   abbrev env : Env
   env = env_with (length r.args.reply.now) r.args.page.now r.args.input.now (sight_of r.args.call) (place mark)
 

@@ -4,6 +4,7 @@ use mathlib.Core.List.{List}
 use mathlib.Core.Option.{some}
 use mathlib.Core.Path.{◌≡◌, sym, ap, ◌∙◌}
 use native.Mathlib.Omega.{arith}
+use borrow.Enum.Refused.{opened}
 use lib.ListN.{length}
 use Rattle.nibl.specs.Runs.{line_from, text_from}
 use Rattle.nibl.specs.Record.{position_of}
@@ -11,6 +12,7 @@ use Rattle.page.specs.Walk.{begin_of}
 use Rattle.line.proofs.Lists.{First}
 use Rattle.run.specs.Fetching.{FetchRoom, TextRoom}
 use Rattle.run.proofs.Members.{no_member, one-member, member-ends, member-room, member-fetched, fetch-none, fetch-some}
+use Rattle.run.proofs.fetch.Goals.{In-Member}
 use Rattle.run.proofs.fetch.Goals as goal
 
 -- every position of the text is one of 16 bits
@@ -22,7 +24,7 @@ inside page ops text q a r t same =
     omega arith
 
 -- where the text begins, and its first member
-module _ (k : goal.In-Member) where
+module _ (k : In-Member) where
   there : text_from k.args.page.now (position_of k.args.from) ≡ some k.in-At.a
   there = sym k.text_from-b.ensures ∙ ap begin_of k.in-At.is
 
@@ -49,7 +51,7 @@ returns-in_default-m c =
     let q = position_of a.from in
     let p = c.in-At.a in
     let t = sym c.text_from-b.ensures ∙ ap begin_of c.in-At.is in (
-      no_member a.page.now a.ops.now c.running-text.result.now p c.running-text.ensures (c.requires.texts p t) c.requires.places c.read_member-m.result c.read_member-m.ensures.value c.in_default-m.in_default-m-own.keys2
+      no_member a.page.now a.ops.now c.running-text.result.now p c.running-text.ensures (c.requires.texts p t) c.requires.places c.read_member-m.result c.read_member-m.ensures.value (opened c.in_default-m.in_default-m-own.keys2)
           ∙ sym (fetch-some a.page.now q p t),
       omega arith,
     )

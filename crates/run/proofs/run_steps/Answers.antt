@@ -32,7 +32,7 @@ use Rattle.run.proofs.Starts.{ready-fair}
 use Rattle.run.proofs.Members.{NextMember, fetch-found, fetch-past, member-steps}
 use Rattle.run.proofs.Tallies.{tally-none}
 use Rattle.run.proofs.Turns.{ends-out, ends-dry, stop-told, text-within, readable, step_fits, step-stands, step-inside, step-goes, step-stops}
-use Rattle.run.proofs.run_steps.Goals.{in-Ends, in-Calls, in-Loops, in-Counts, in-Needs}
+use Rattle.run.proofs.run_steps.Goals.{Joined-r, in-Ends, in-Calls, in-Loops, in-Counts, in-Needs}
 use Rattle.run.proofs.run_steps.Goals as goal
 
 -- What a step came to, by any of its ways: its operations ended that way and left that, and what is lent is as long as before
@@ -52,7 +52,7 @@ at-meeting : {runs : Done} {vars₀ memory₀ output₀ reply₀ replies₀ valu
 at-meeting k a b c d e f g h = rw (a, b, c, d, e, f, g, h) k
 
 -- where the ways meet: the member that was fetched, its step, and where the run is then
-module _ (j : goal.Joined-r) where
+module _ (j : Joined-r) where
   abbrev page : List ℕ
   page = j.args.page.now
 

@@ -3,7 +3,6 @@ use mathlib.Core.Path.{◌≡◌, refl, sym, ap, ◌∙◌}
 use mathlib.Core.List.{List, []}
 use mathlib.Core.Option.{some}
 use native.Mathlib.Omega.{arith}
-use borrow.Author.Tests.{not-true, not-false}
 use lib.ListN.{length, drop, get_or}
 use Rattle.codes.specs.Codes.{code_in, argument_in}
 use Rattle.world.specs.Turns.{way_of}
@@ -57,7 +56,7 @@ returns-in_default c =
     let same = act-not n.page.now n.dos n.fors (argument_in o) c.in-To.x l.vars (code_in o) (rw c.in_default.is at c.act-a.ensures) in
     let p = c.left_at.ensures in
     record {
-      runs = λ a. p.runs s a c.act-a.new.vars c.requires.0.1.0
+      runs = λ a. p.runs s a c.act-a.new.vars c.requires.0.1
           ∙ ap (λ (v : List ℕ). run_ops (env_from s a) (drop j n.ops.now) (world_from s a v) vs) same
           ∙ sym (reached s n.ops.now n.vars.now l.vars (drop j n.ops.now) vs l.i l.invariant.2 e a);
       within = p.within;
@@ -75,7 +74,7 @@ returns-then-not-is_on c =
     record {
       runs = λ a. sym
           (reached s n.ops.now n.vars.now l.vars (drop j n.ops.now) vs l.i l.invariant.2 e a
-          ∙ plain-off s a c.requires.0.1.0 n.ops.now l.vars vs j c.if-ops-j.false top c.in-Acts.way (rw c.in-Acts.is at c.act-a.ensures) (sym c.is_on.ensures ∙ not-true _ c.if-not-is_on.true-raw));
+          ∙ plain-off s a c.requires.0.1 n.ops.now l.vars vs j c.if-ops-j.false top c.in-Acts.way (rw c.in-Acts.is at c.act-a.ensures) (sym c.is_on.ensures ∙ c.if-not-is_on.true));
       within = omega arith;
     }
 
@@ -92,6 +91,6 @@ loop-n-preserved c =
       c.values_first-r.auto.values ∙ l.invariant.1,
       record {
         at = λ a. reached s n.ops.now n.vars.now l.vars (drop j n.ops.now) vs l.i l.invariant.2 e a
-            ∙ plain-on s a c.requires.0.1.0 n.ops.now l.vars vs j c.if-ops-j.false top c.in-Acts.way (rw c.in-Acts.is at c.act-a.ensures) (sym c.is_on.ensures ∙ not-false _ c.if-not-is_on.false-raw);
+            ∙ plain-on s a c.requires.0.1 n.ops.now l.vars vs j c.if-ops-j.false top c.in-Acts.way (rw c.in-Acts.is at c.act-a.ensures) (sym c.is_on.ensures ∙ c.if-not-is_on.false);
       },
     )
