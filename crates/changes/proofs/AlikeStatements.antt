@@ -15,11 +15,11 @@ use Rattle.nibl.specs.Tree.{Item, text, stored, value}
 use Rattle.nibl.specs.Tree.{Stmt, let_var, let_stat, let_byte, let_text, let_copy, goto, gosub, return, print, if_then, do_loop, until, for, next, input, input_text, remark, end}
 use Rattle.nibl.specs.found.Read.{replied}
 use Rattle.nibl.specs.Values.{Result, is, no, Value, add16, printed}
-use Rattle.nibl.specs.Stack.{pop_of, pop_for}
+use Rattle.nibl.specs.Stack.{pop_for}
 use Rattle.nibl.specs.Typing.{Gathered, gather}
 use Rattle.nibl.specs.Record.{place, position, mark, with_var, with_flags, with_gosubs, with_dos, with_fors}
 use Rattle.nibl.specs.Page.{find}
-use Rattle.nibl.specs.Meaning.{World, Env, with_session, with_memory, with_inpos, on, skip, go, stop, Done, done, bind, given, went, eval, put, put_item, put_items, put_end, keep_in, line_there, after, gosub_to, return_by, do_here, until_by, for_here, goes_on, next_by, gathered, asked, assign, assign_reply, exec, byte_of, string_at, store_at, stat_of}
+use Rattle.nibl.specs.Meaning.{World, Env, with_session, with_memory, with_inpos, on, skip, go, stop, Done, done, bind, given, went, eval, put, put_item, put_items, put_end, keep_in, line_there, after, gosub_to, return_by, do_here, until_by, for_here, goes_on, next_by, gathered, asked, assign, assign_reply, exec, string_at, store_at, stat_of}
 use Rattle.nibl.specs.declared.Session.{Session}
 use Rattle.nibl.specs.declared.Place.{Place}
 use Rattle.nibl.specs.declared.PlaceStack.{PlaceStack}

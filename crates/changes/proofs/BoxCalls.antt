@@ -11,7 +11,7 @@ use lib.ListN.{length, get_or, drop, set}
 use lib.Seq.{sets, length-sets, get_or-set_other}
 use lib.Dec.{ltb, leb, eqb}
 use borrow.Author.Tests.{ltb-true, ltb-false, leb-true, leb-false}
-use Rattle.nibl.specs.Tree.{Stmt, Typed, blank, new, clear, run, delete, list, store, immediate}
+use Rattle.nibl.specs.Tree.{Typed, blank, new, clear, run, delete, list, store, immediate}
 use Rattle.nibl.specs.found.Read.{typed}
 use Rattle.nibl.specs.found.Column.{column_of}
 use Rattle.nibl.specs.Values.{is, no}
@@ -21,7 +21,7 @@ use Rattle.nibl.specs.Page.{Stored, records_of, program_bytes, has_line, without
 use Rattle.nibl.specs.Table.{refilled}
 use Rattle.nibl.specs.Access.{may_write}
 use Rattle.nibl.specs.Meaning.{World, Env, with_session, Done, byte_of, string_at, store_at, put, went, exec}
-use Rattle.nibl.specs.Lent.{Lent, Outcome, Left, outcome_with, answer_of, no_line, stops, lent_world, begun, sight_of, lent_env}
+use Rattle.nibl.specs.Lent.{Lent, Outcome, outcome_with, answer_of, no_line, stops, lent_world, begun, sight_of, lent_env}
 use Rattle.nibl.specs.Runs.{Ran, stop_at, pausing, run_from, run_outcome}
 use Rattle.nibl.specs.FirstRefusals.{has_table, lengths_in_range, table_is_true, first_refusal}
 use Rattle.nibl.specs.Calls.{needs_program, edited, listed, list_from, after_immediate, obey, obey_read, obey_line, take_line_in, continue_from, continue_run_in, take_line, continue_run, table_after, leaves}

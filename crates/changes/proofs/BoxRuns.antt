@@ -16,7 +16,6 @@ use Rattle.nibl.specs.Runs as runs
 use Rattle.nibl.specs.declared.PlaceStack.{PlaceStack}
 use Rattle.nibl.specs.declared.ForEntry.{ForEntry}
 use Rattle.nibl.specs.declared.ForStack.{ForStack}
-use Rattle.nibl.specs.declared.access.Access.{Access}
 use Rattle.nibl.specs.declared.Top.{Top}
 use Rattle.nibl.specs.declared.Top.TheVariants as top
 use Rattle.nibl.specs.declared.TopFor.{TopFor}

@@ -1,16 +1,16 @@
 -- Item 5, there and back: what a load leaves is sound and is what was carried; what was saved is loaded, and what was loaded saves to the same
 -- bytes. Assumes nothing.
-use Prim.Native.Nat.{ℕ, ◌+◌, ◌%◌, ◌≤◌, ◌<◌}
+use Prim.Native.Nat.{ℕ, ◌+◌, ◌%◌, ◌≤◌}
 use mathlib.Core.Path.{◌≡◌, refl, sym, ap, subst, ◌∙◌}
 use mathlib.Core.Bool.{true}
-use mathlib.Core.List.{List, ◌++◌}
+use mathlib.Core.List.{List}
 use native.Mathlib.Omega.{arith}
 use lib.ListN.{length, drop, length-append, length-drop}
 use lib.Seq.{drop_at}
 use borrow.Author.Tests.{lt-ltb, ne_eqb}
 use Rattle.nibl.specs.Typing.{limit}
 use Rattle.nibl.specs.Record.{loaded_session}
-use Rattle.nibl.specs.Page.{Stored, is_good, fits, records_of, program_bytes, used_by, used, onto}
+use Rattle.nibl.specs.Page.{Stored, fits, records_of, program_bytes, used_by, used, onto}
 use Rattle.nibl.specs.Saved.{RuleSet, saved_form}
 use Rattle.nibl.specs.Lent.{Lent, Left}
 use Rattle.nibl.specs.Carry.{rule_set_of, saved, saves, loaded, loads}
@@ -22,7 +22,7 @@ use Rattle.page.proofs.Laid.{good-program}
 use Rattle.page.proofs.Changes.{onto-good, onto-records}
 use Rattle.page.proofs.Tables.{table_fits, refilled-true, refilled-long}
 use Rattle.demands.specs.Lent.{HasTable, InRange}
-use Rattle.demands.specs.Good.{GoodPage, Fits, TrueTable, Unrefused}
+use Rattle.demands.specs.Good.{GoodPage, Unrefused}
 use Rattle.demands.specs.Listing.{written}
 use Rattle.demands.proofs.Good.{fits-exact}
 use Rattle.demands.proofs.ByGrammar.{a-good-page}

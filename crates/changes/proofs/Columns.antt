@@ -1,10 +1,9 @@
 -- Item 2, "point at the spot", of the calls: the column in an answer. Assumes nothing.
-use Rattle.std.specs.Prelude.{if◌then◌else◌}
 use Prim.Native.Nat.{ℕ, zero, suc}
 use mathlib.Core.Path.{◌≡◌, refl, sym, ap, subst, ◌∙◌}
 use mathlib.Core.Bool.{Bool, true, false}
 use mathlib.Core.List.{List, []}
-use mathlib.Core.Logic.{◌⊎◌, inl, inr}
+use mathlib.Core.Logic.{inl, inr}
 use mathlib.Core.Option.{some}
 use lib.ListN.{length}
 use lib.Dec.{leb}
@@ -24,7 +23,7 @@ use Rattle.nibl.proofs.Words.{if-split}
 use Rattle.nibl.proofs.Spot.{column-exact}
 use Rattle.record.specs.Sound.{Sized}
 use Rattle.demands.specs.Lent.{gathered_line}
-use Rattle.demands.specs.Leaves.{line_taken_at, spot_of}
+use Rattle.demands.specs.Leaves.{spot_of}
 use Rattle.demands.proofs.Ways.{Takes, refused, no_cr, overlong, unread, reads, every-line, Continues, refused', continues, every-continue}
 use Rattle.demands.proofs.Fixed.{unread-takes-the-line}
 use Rattle.demands.proofs.Five.{five-takes-only-the-line}

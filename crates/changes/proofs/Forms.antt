@@ -1,16 +1,15 @@
 -- Item 5, the saved form: a slice is read as a rule set exactly where it is the form of that, and no two rule sets have one form.
 -- Assumes nothing.
-use Prim.Native.Nat.{ℕ, suc, ◌+◌, ◌≤◌}
-use mathlib.Core.Path.{◌≡◌, sym, ◌∙◌}
+use Prim.Native.Nat.{ℕ, ◌≤◌}
+use mathlib.Core.Path.{◌≡◌}
 use mathlib.Core.List.{List}
 use mathlib.Core.Logic.{◌↔◌}
 use native.Mathlib.Omega.{arith}
-use lib.ListN.{length}
-use Rattle.nibl.specs.Values.{Result, is, no}
+use Rattle.nibl.specs.Values.{is}
 use Rattle.nibl.specs.Page.{Stored}
 use Rattle.nibl.specs.Saved.{RuleSet, saved_form}
 use Rattle.nibl.specs.found.Form.{form_in}
-use Rattle.page.specs.Standing.{Bytes, Storable}
+use Rattle.page.specs.Standing.{Bytes}
 use Rattle.page.proofs.Program.{Program}
 use Rattle.page.proofs.Program as program
 use Rattle.page.proofs.Forms.{Formed, form-complete, form-sound}

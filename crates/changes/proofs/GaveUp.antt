@@ -13,7 +13,7 @@ use lib.Dec.{leb, eqb}
 use lib.ListN.{length, take, drop, take-append-drop, length-append}
 use lib.Seq.{take-append_seam}
 use Rattle.nibl.specs.Bytes.{is_space, is_digit, is_capital, is_quotable, same, All, none as done, each, front, past, all, decimal_value}
-use Rattle.nibl.specs.Words.{Token, keywords, commands, index_from, index_in, there, Word, spaced, keyword, letter, decimal_digits, hex_digits, quoted}
+use Rattle.nibl.specs.Words.{keywords, commands, index_from, index_in, there, spaced, keyword, letter, decimal_digits, hex_digits, quoted}
 use Rattle.nibl.specs.found.GaveUp.{common, most_common, past_largest, word_gave_up, gave_up}
 use Rattle.nibl.proofs.Tests.{if-split, and_left, and_right, between, true-all, front-all, front-past, front-run}
 use Rattle.nibl.proofs.Keywords.{same_self, over-all}

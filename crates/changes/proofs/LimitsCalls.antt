@@ -12,7 +12,7 @@ use lib.ListN.{length, get_or, drop}
 use lib.Seq.{sets, ext_get_or}
 use lib.Dec.{ltb, leb, eqb}
 use borrow.Author.Tests.{ltb-true, ltb-false, leb-true, leb-false}
-use Rattle.nibl.specs.Tree.{Stmt, Typed, blank, new, clear, run, delete, list, store, immediate}
+use Rattle.nibl.specs.Tree.{Typed, blank, new, clear, run, delete, list, store, immediate}
 use Rattle.nibl.specs.found.Read.{typed}
 use Rattle.nibl.specs.found.Column.{column_of}
 use Rattle.nibl.specs.Values.{Result, is, no}
@@ -21,7 +21,7 @@ use Rattle.nibl.specs.Record.{cleared}
 use Rattle.nibl.specs.Page.{Stored, records_of, find}
 use Rattle.nibl.specs.Table.{refilled}
 use Rattle.nibl.specs.Meaning.{World, Env, with_session, with_output, on, stop, Done, done, put, went, exec, byte_of, string_at, store_at}
-use Rattle.nibl.specs.Lent.{Lent, Outcome, Left, stops, refused_line, lent_world, begun, lent_env}
+use Rattle.nibl.specs.Lent.{Lent, Outcome, stops, refused_line, lent_world, begun, lent_env}
 use Rattle.nibl.specs.Runs.{Ran, pausing, run_from, run_outcome}
 use Rattle.nibl.specs.FirstRefusals.{has_table, first_refusal}
 use Rattle.nibl.specs.Calls.{needs_program, listed, list_from, after_immediate, obey, obey_read, obey_line, take_line_in, continue_from, continue_run_in, table_after}
@@ -30,7 +30,7 @@ use Rattle.page.proofs.Walk.{by_cases}
 use Rattle.demands.specs.Good.{GoodPage}
 use Rattle.demands.specs.Leaves.{WholeLines, none_taken, line}
 use Rattle.demands.proofs.Good.{good-exact}
-use Rattle.changes.specs.Alike.{Likeness, ResultsAlike, given, refused, LongLine, SessionsAlike, WorldsAlike, go_on, skips, goes, stops as stopped, Both, both, EnvsAlike, Alike, alike, heard, parted, RunsAlike, together, apart}
+use Rattle.changes.specs.Alike.{Likeness, ResultsAlike, given, refused, LongLine, WorldsAlike, go_on, skips, goes, stops as stopped, Both, both, EnvsAlike, Alike, alike, heard, parted, RunsAlike, together, apart}
 use Rattle.changes.specs.Boxes.{Printed}
 use Rattle.changes.specs.Limits.{TookLong, leaves_in}
 use Rattle.changes.proofs.AlikeStatements.{exec-alike}

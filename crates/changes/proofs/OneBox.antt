@@ -6,12 +6,11 @@ use mathlib.Core.Bool.{Bool, true, false, not, ◌&&◌}
 use mathlib.Core.List.{List, [], ◌∷◌}
 use native.Mathlib.Omega.{arith}
 use lib.ListN.{length, drop, length-drop, drop_of_length-le}
-use lib.Seq.{sets}
 use lib.Dec.{ltb, leb, eqb}
 use borrow.Author.Tests.{ltb-true, lt-ltb, le-leb, leb-true, leb-false}
 use Rattle.nibl.specs.Bytes.{not_cr, front, all}
-use Rattle.nibl.specs.Values.{Result, is, no}
-use Rattle.nibl.specs.Access.{may_read, may_write, every_address}
+use Rattle.nibl.specs.Values.{is, no}
+use Rattle.nibl.specs.Access.{may_read, every_address}
 use Rattle.nibl.specs.Meaning.{bind, byte_of, string_from, string_at, store_at}
 use Rattle.page.proofs.Walk.{by_cases}
 use Rattle.changes.specs.OneBox.{byte_alone, string_alone, store_alone}

@@ -3,7 +3,7 @@
 use Rattle.std.specs.Prelude.{ℕ, ◌+◌, ◌≤◌, ◌<◌, List, length, drop}
 use Rattle.nibl.specs.Values.{digits}
 use Rattle.nibl.specs.Lent.{Lent, Outcome, Left}
-use Rattle.nibl.specs.Calls.{take_line_in, continue_run_in, table_after}
+use Rattle.nibl.specs.Calls.{table_after}
 use Rattle.demands.specs.Good.{RecordAt, Boundary}
 use Rattle.demands.specs.Leaves.{WholeLines}
 use Rattle.changes.specs.Alike.{LongLine}

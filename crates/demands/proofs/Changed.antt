@@ -9,7 +9,7 @@ use native.Mathlib.Omega.{arith}
 use lib.ListN.{length, length-append}
 use lib.Seq.{sets, sets-eq, length-sets, get_or-set_same, get_or-set_other}
 use Rattle.nibl.specs.Tree.{Expr, Item, Stmt, let_var, let_byte, let_text, let_copy, print, input}
-use Rattle.nibl.specs.Values.{Result, is, no}
+use Rattle.nibl.specs.Values.{Result}
 use Rattle.nibl.specs.Record.{with_var}
 use Rattle.nibl.specs.Meaning.{World, Env, on, done, with_session, with_memory, with_output, exec}
 use Rattle.demands.specs.Items.{wrote_item, HasRoom}

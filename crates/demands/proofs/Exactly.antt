@@ -13,11 +13,10 @@ use lib.Dec.{leb}
 use borrow.Author.Tests.{leb-true, leb-false}
 use Rattle.nibl.specs.Tree.{Stmt, let_var, let_stat, let_byte, let_copy, let_text, goto, gosub, until, return, do_loop, remark, end, print, if_then, for, next, input, input_text}
 use Rattle.nibl.specs.Tree.{Typed, blank, new, clear, run, delete, list, store, immediate}
-use Rattle.nibl.specs.found.Read.{typed}
 use Rattle.nibl.specs.Readings.{LineReading}
 use Rattle.nibl.specs.Typing.{Gathered}
 use Rattle.nibl.specs.Page.{Stored, is_good, fits, records_of, used_by, has_line, with, without, program_bytes}
-use Rattle.nibl.specs.Meaning.{World, Env, stop, exec}
+use Rattle.nibl.specs.Meaning.{World, Env, exec}
 use Rattle.nibl.specs.Lent.{Lent, Outcome, Left, no_line, stops}
 use Rattle.nibl.specs.Typing.{limit}
 use Rattle.nibl.specs.Lent.{begun, lent_env}

@@ -16,7 +16,7 @@ use Rattle.nibl.specs.found.Column.{column_of}
 use Rattle.nibl.specs.Readings.{LineReading}
 use Rattle.nibl.specs.Typing.{Gathered}
 use Rattle.nibl.specs.Page.{Stored, is_among, is_good, records_of, size, line_in, line_of, has_line, without, with, program_bytes, onto}
-use Rattle.nibl.specs.Meaning.{World, Env, stop, Done, with_session, exec}
+use Rattle.nibl.specs.Meaning.{World, Env, Done, with_session, exec}
 use Rattle.nibl.specs.Lent.{Lent, Outcome, no_line, stops, refused_line}
 use Rattle.nibl.specs.Runs.{stop_at, env_at, run_from, run_outcome}
 use Rattle.nibl.specs.Typing.{limit}

@@ -16,7 +16,6 @@ use Rattle.nibl.specs.Words.{decimal, ByteRun, Word, keywords}
 use Rattle.nibl.specs.Words as words
 use Rattle.nibl.specs.Grammar.{a_store, a_list}
 use Rattle.nibl.specs.Tree.{Member, list, store}
-use Rattle.nibl.specs.found.Read.{typed}
 use Rattle.nibl.specs.Readings.{LineReading}
 use Rattle.nibl.specs.Typing.{kept, Gathered, gather}
 use Rattle.nibl.specs.Values.{digits}

@@ -14,7 +14,7 @@ use Rattle.nibl.specs.Tree.{Member, Typed, new, delete, store}
 use Rattle.nibl.specs.found.Read.{typed}
 use Rattle.nibl.specs.Readings.{LineReading}
 use Rattle.nibl.specs.Typing.{Gathered}
-use Rattle.nibl.specs.Page.{Stored, program_bytes, fits, records_of, size, used, used_by, has_line, with, without, onto}
+use Rattle.nibl.specs.Page.{Stored, program_bytes, records_of, size, used, used_by, has_line, with, without, onto}
 use Rattle.nibl.specs.Lent.{Lent, stops}
 use Rattle.nibl.specs.Typing.{limit}
 use Rattle.nibl.specs.Lent.{begun, lent_env}

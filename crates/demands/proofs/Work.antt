@@ -1,8 +1,8 @@
 -- A statement does what document 01's rules say, and nothing else: the definition and the rules are one. Assumes nothing.
 use Rattle.std.specs.Prelude.{if◌then◌else◌}
-use Prim.Native.Nat.{ℕ, suc, ◌+◌, ◌-◌, ◌%◌, ◌≤◌, ◌<◌}
+use Prim.Native.Nat.{ℕ, suc, ◌+◌, ◌-◌, ◌%◌, ◌≤◌}
 use mathlib.Core.Path.{◌≡◌, refl, sym, ap, subst, ◌∙◌}
-use mathlib.Core.Bool.{Bool, true, false, not, true≢false, false≢true}
+use mathlib.Core.Bool.{Bool, true, false, true≢false, false≢true}
 use mathlib.Core.List.{List, [], ◌∷◌}
 use mathlib.Core.Logic.{◌↔◌}
 use mathlib.Core.Option.{Option, none, some}
@@ -22,7 +22,7 @@ use Rattle.nibl.specs.Typing.{Gathered, gather}
 use Rattle.nibl.specs.Page.{Stored, records_of, size, position_in, find}
 use Rattle.nibl.specs.Record.{position, mark}
 use Rattle.nibl.specs.Access.{may_write}
-use Rattle.nibl.specs.Meaning.{World, Env, on, skip, stop, Done, done, with_memory, bind, given, went, store_at, eval, put, put_item, put_items, put_end, keep_in, line_there, after, gosub_to, return_by, do_here, until_by, for_here, goes_on, next_by, gathered, asked, assign, assign_reply, exec}
+use Rattle.nibl.specs.Meaning.{World, Env, on, skip, stop, Done, done, with_memory, bind, given, went, store_at, eval, put, put_item, put_items, put_end, keep_in, line_there, gosub_to, return_by, do_here, until_by, for_here, goes_on, next_by, gathered, asked, assign, assign_reply, exec}
 use Rattle.nibl.specs.declared.access.Access.{Access}
 use Rattle.nibl.specs.declared.Place.{Place}
 use Rattle.nibl.specs.declared.PlaceStack.{PlaceStack}
