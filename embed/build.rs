@@ -11,8 +11,11 @@ const LAYOUT: &str = "include/nibl.layout";
 /// C's header, which has the interface's number.
 const HEADER: &str = "include/nibl.h";
 
-/// What the library is made from: a change of one of these asks for it anew.
-const SOURCES: [&str; 4] = ["crates", "crates.txt", "tools/library", "tools/current.sh"];
+/// What the library is made from, beside the crates: a change of one of these asks for it anew.
+const SOURCES: [&str; 3] = ["crates.txt", "tools/library", "tools/current.sh"];
+
+/// What of a crate it is made from. What rt keeps in its folder `out` is no part of it.
+const PARTS: [&str; 3] = ["src", "specs", "proofs"];
 
 /// What cargo says of this build.
 fn said(name: &str) -> String {
@@ -67,6 +70,14 @@ fn version(root: &Path) -> String {
     number.expect("the header has the number").to_string()
 }
 
+/// The folders with the crates' sources.
+fn sources(root: &Path) -> Vec<PathBuf> {
+    let crates = std::fs::read_dir(root.join("crates")).expect("the crates are there");
+    let crates = crates.map(|found| found.expect("a crate").path());
+    let parts = crates.flat_map(|found| PARTS.map(|part| found.join(part)));
+    parts.filter(|part| part.is_dir()).collect()
+}
+
 fn main() {
     let root = Path::new(env!("CARGO_MANIFEST_DIR")).join("..");
     let archive = library(&root);
@@ -77,7 +88,8 @@ fn main() {
     println!("cargo:rustc-link-lib=static=nibl");
     println!("cargo:rustc-env=NIBL_VERSION={}", version(&root));
     println!("cargo:rerun-if-changed={}", archive.display());
-    for source in SOURCES.into_iter().chain([LAYOUT, HEADER]) {
-        println!("cargo:rerun-if-changed={}", root.join(source).display());
+    let files = SOURCES.into_iter().chain([LAYOUT, HEADER]);
+    for source in files.map(|file| root.join(file)).chain(sources(&root)) {
+        println!("cargo:rerun-if-changed={}", source.display());
     }
 }

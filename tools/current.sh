@@ -5,24 +5,32 @@
 room=$PWD/target/native machine=$(uname -m)
 kit='' tools=''
 if command -v rt >/dev/null; then
-    kit=$(dirname "$(dirname "$(rt doc)")")
-    tools=$kit/on/$machine/toolchain
+    kit=$(dirname "$(rt doc)")
+    tools=$kit/toolchain
 fi
 
 say() {
     echo "${0##*/}: $*" >&2
 }
 
-# The crate and those that it needs, a name to a line, the crate itself first.
+# The crate and those that it needs, a name to a line, each behind all that it uses: the order in which rt proves them.
 needed() {
     awk -v crate="$name" '
-        function visit(crate, names, count) {
+        function visit(crate, names, count, i) {
             if (!(crate in deps) || seen[crate]++) return
+            count = split(deps[crate], names, " ")
+            for (i = 1; i <= count; i++) visit(names[i])
             print crate
-            for (count = split(deps[crate], names, " "); count; count--) visit(names[count])
         }
         sub(/:/, " ") { of = $1; $1 = ""; deps[of] = $0 }
         END { visit(crate) }' <(sed 's/#.*//' crates.txt)
+}
+
+# The libraries of the repository that the crate itself names.
+used() {
+    sed 's/#.*//' crates.txt | awk -v crate="$name" '
+        sub(/:/, " ") { listed[$1]; if ($1 == crate) names = $0 }
+        END { for (i = split(names, list, " "); i > 1; i--) if (list[i] in listed) print list[i] }'
 }
 
 # The kit's identity. Where the kit is not here it is that of the kit which made the file: what is built can be run without it.
@@ -36,7 +44,7 @@ state() {
     {
         echo "$machine"
         find "tools/${0##*/}" tools/current.sh crates.txt "${crates[@]/#/crates/}" -type f -not -path '*/must-fail/*' \
-            -exec sha256sum {} + | sort
+            -not -path 'crates/*/out/*' -exec sha256sum {} + | sort
     } | sha256sum
 }
 
@@ -48,94 +56,78 @@ minutes() { # SECONDS
     if [ "$1" -gt 0 ]; then echo "about $((($1 + 59) / 60)) min"; else echo "less than a minute"; fi
 }
 
-# When each crate will be proved, in seconds from the start, as rt does it: in the order of crates.txt, each as soon as those that it
-# needs are proved, so many at a time as rt takes. It goes by tools/weights; crates that were proved before take no time.
-schedule() { # CRATES-PROVED-BEFORE
-    awk -v names="${crates[*]}" -v before=" $1 " -v jobs="$jobs" '
-        FNR == 1 { file++ }
-        file == 1 { if ($1 != "#") weight[$1] = $2; next }
-        sub(/#.*/, "") || 1 { if (sub(/:/, " ")) { of = $1; $1 = ""; deps[of] = $0; order[++count] = of } }
-        function ready(crate, list, i, k) {
-            for (i = split(deps[crate], list, " "); i; i--) if (list[i] in wanted && !(list[i] in at)) return 0
-            return 1
-        }
-        END {
-            for (i = split(names, list, " "); i; i--) wanted[list[i]]
-            for (left = length(wanted); left; left--) {
-                for (i = 1; i <= count && running < jobs; i++) {
-                    crate = order[i]
-                    if (!(crate in wanted) || crate in begun || !ready(crate)) continue
-                    takes = index(before, " " crate " ") ? 0 : crate in weight ? weight[crate] : 20
-                    begun[crate] = now + takes
-                    running++
-                }
-                first = ""
-                for (crate in begun) if (!(crate in at) && (first == "" || begun[crate] < begun[first])) first = crate
-                if (first == "") exit 1
-                now = at[first] = begun[first]
-                running--
-                print first, now
-            }
-        }' tools/weights crates.txt
+# What the crates behind one take by tools/weights, or all of them; and the weight of one.
+weight_behind() { # [CRATE]
+    printf '%s\n' "${crates[@]}" | awk -v name="${1-}" '
+        FNR == NR { if ($1 != "#") weight[$1] = $2; next }
+        name == "" { sum += $1 in weight ? weight[$1] : 20 }
+        $1 == name { name = "" }
+        END { print sum + 0 }' tools/weights -
 }
 
 weight_of() { # CRATE
     awk -v name="$1" '$1 == name { found = $2 } END { print found ? found : 20 }' tools/weights
 }
 
-# Tells of each crate that rt has just proved, and how long the others will take: as long as the schedule says, times how much longer
-# than their weights the crates so far have taken. The first count for little, so that one slow crate does not make hours of minutes.
+# Tells of each crate that rt has just proved, one after another, and how long the others will take: their weights, times how much
+# longer than theirs the crates so far have taken. The first count for little, so that one slow crate does not make hours of minutes.
+# Of a crate that is built already rt says nothing.
 progress() {
-    local line crate seconds due at=0 reached=0 before='' spent=10 weighed=10
+    local line crate='' began=0 left seconds spent=10 weighed=10
     while IFS= read -r line; do
-        [[ $line =~ ^rt:\ ([a-z0-9_]+)\ proved\ \((([0-9]+)\ s|unchanged) ]] || continue
-        crate=${BASH_REMATCH[1]} seconds=${BASH_REMATCH[3]} at=$((at + 1))
-        if [ -z "$seconds" ]; then
-            before+=" $crate"
-            continue
+        if [[ $line =~ ^rt:\ chose\ --jobs\ [0-9]+\ for\ ([a-z0-9_]+)$ ]]; then
+            crate=${BASH_REMATCH[1]} began=$SECONDS
+        elif [ -n "$crate" ] && [[ $line = 'logic=proved '* ]]; then
+            seconds=$((SECONDS - began))
+            spent=$((spent + seconds)) weighed=$((weighed + $(weight_of "$crate")))
+            left=$(printf '%s\n' "${crates[@]}" | sed "1,/^$crate\$/d" | wc -l)
+            say "$((${#crates[@]} - left)) of ${#crates[@]}: $crate proved ($seconds s), to go: $left, $(minutes $(($(weight_behind "$crate") * spent / weighed)))"
+            crate=''
         fi
-        spent=$((spent + seconds)) weighed=$((weighed + $(weight_of "$crate")))
-        due=$(schedule "$before" | awk -v name="$crate" -v reached="$reached" '
-            $1 == name && $2 > reached { reached = $2 } { last = $2 } END { print reached, last }')
-        reached=${due% *}
-        say "$at of ${#crates[@]}: $crate proved ($seconds s), to go: $((${#crates[@]} - at)), $(minutes $(((${due#* } - reached) * spent / weighed)))"
     done
 }
 
-# Proves some crates and all that they need.
-prove() { # CRATE..
-    local all
-    all=$(schedule '' | tail -n 1)
-    say "proving and building $name, ${#crates[@]} crates: $(minutes "${all#* }") if none is proved yet"
-    logged rt check "$@"
+# Has rt prove and build the crate and all that it needs, with progress; all that it says is in the log.
+prove() { # COMMAND..
+    say "proving and building $name, ${#crates[@]} crates: $(minutes "$(weight_behind)") if none is proved yet"
+    (cd "crates/$name" && "$@" </dev/null) 2>&1 | tee "$made.log" | progress || fail
 }
 
-# Runs a command of rt with its progress; all that it says is in the log.
-logged() { # COMMAND..
-    "$@" </dev/null 2>&1 | tee "$made.log" | progress || {
-        tail -n 30 "$made.log" >&2
-        say "$name is not proved or not built; ${made#"$PWD/"}.log has all that was said"
-        exit 1
-    }
+fail() { # [WHY]
+    tail -n 30 "$made.log" >&2
+    say "${1:-$name is not proved or not built}; ${made#"$PWD/"}.log has all that was said"
+    exit 1
 }
 
-# A kit of links to the kit's files, but for a compiler that keeps the module that it is given, as $made.bc, and the words
-# that it was told with it, one to a line, as $made.words.
-link_kit() {
-    local folder file
-    mkdir -p "$room/kit/${tools#"$kit/"}/bin"
-    cat >"$room/kit/${tools#"$kit/"}/bin/clang" <<END
+# Has the kit compile a proved static library once more, by a compiler that keeps the module that it is given, as $made.bc, and
+# the words that it was told with it, one to a line, as $made.words. The archive must be, byte by byte, the one that rt made
+# before, so that the module is the one which that is made of; it is kept as $made.kit.a.
+keep_module() { # RATTLE'S-WORDS..
+    local apart file crate words=()
+    # A folder outside the repository: rt ci takes no link in it.
+    apart=$(mktemp -d)
+    mkdir "$apart/bin"
+    cat >"$apart/bin/clang" <<END
 #!/bin/sh
 for word; do case \$word in *.bc) cp "\$word" "$made.bc"; printf '%s\n' "\$@" >"$made.words" ;; esac; done
 exec "$tools/bin/clang" "\$@"
 END
-    chmod +x "$room/kit/${tools#"$kit/"}/bin/clang"
-    for folder in . on "on/$machine" "on/$machine/toolchain" "on/$machine/toolchain/bin"; do
-        for file in "$kit/$folder"/*; do
-            [ -e "$room/kit/$folder/${file##*/}" ] || ln -s "$file" "$room/kit/$folder/"
-        done
+    chmod +x "$apart/bin/clang"
+    for file in "$tools"/* "$tools"/bin/*; do
+        [ -e "$apart/${file#"$tools/"}" ] || ln -s "$file" "$apart/${file#"$tools/"}"
     done
     rm -f "$made.bc"
+    for crate in $(used); do words+=(--extern "$crate=$PWD/crates/$crate/out/rlib/$crate.rlib"); done
+    for crate in "${crates[@]}"; do
+        [ "$crate" = "$name" ] || words+=(-L "dependency=$PWD/crates/$crate/out/rlib")
+    done
+    (cd "crates/$name" && "$kit/bin/rattle" build --crate-name "$name" src/lib.rt --crate-type staticlib \
+        --extern "std=$kit/rlibs/std.rlib" -L "dependency=$kit/rlibs" "${words[@]}" --links "$name=" \
+        --antt-project "$kit/rattle/logic/antt-project.json" --logic-built "$kit/logic_built" --incremental out/incremental \
+        --toolchain "$apart" --backend llvm "$@" -o "$apart/made.a") </dev/null >>"$made.log" 2>&1 || fail
+    cp "crates/$name/out/lib$name.a" "$made.kit.a"
+    cmp "$apart/made.a" "$made.kit.a" >&2 || fail "the archive is not the one that rt made"
+    rm -r "$apart"
 }
 
 # The kept module as text.
@@ -170,6 +162,4 @@ make_current() { # STATE FUNCTION
 }
 
 mapfile -t crates < <(needed)
-jobs=${RT_JOBS:-$(nproc)}
-jobs=$((jobs > 4 ? 4 : jobs)) # as rt has it
 mkdir -p "$room"
