@@ -1,7 +1,6 @@
 use mathlib.Core.Path.{refl, ◌∙◌, sym}
 use native.Mathlib.Omega.{arith}
 use borrow.Author.Rules.{rules}
-use borrow.Author.Tests.{not-true, not-false}
 use Rattle.nibl.specs.Bytes.{is_digit}
 use Rattle.word.proofs.Runs.{stops_at, stops_end}
 use Rattle.word.proofs.Numbers.{word_small, word-large, counted-go, counted_stop, counted-large}
@@ -20,12 +19,12 @@ pub returns-then-v-gt-LARGEST : goal.returns-then-v-gt-LARGEST
 returns-then-v-gt-LARGEST c =
     let l = c.loop-i in
     rw (word-large _ l.i c.if-v-gt-LARGEST.true)
-    (counted-large l.invariant.2 c.digit.result (omega arith) (sym c.is_digit.ensures ∙ not-false _ c.if-not-is_digit.false-raw) c.digit.ensures.0 c.if-v-gt-LARGEST.true)
+    (counted-large l.invariant.2 c.digit.result (omega arith) (sym c.is_digit.ensures ∙ c.if-not-is_digit.false) c.digit.ensures.0 c.if-v-gt-LARGEST.true)
 
 pub loop-i-preserved : goal.loop-i-preserved
 loop-i-preserved c =
     let l = c.loop-i in
-    (omega arith, omega arith, counted-go l.invariant.2 c.digit.result (omega arith) (sym c.is_digit.ensures ∙ not-false _ c.if-not-is_digit.false-raw) c.digit.ensures.0 (omega arith))
+    (omega arith, omega arith, counted-go l.invariant.2 c.digit.result (omega arith) (sym c.is_digit.ensures ∙ c.if-not-is_digit.false) c.digit.ensures.0 (omega arith))
 
 pub returns-after-loop-i : goal.returns-after-loop-i
 returns-after-loop-i c =
@@ -37,4 +36,4 @@ pub returns-then-not-is_digit : goal.returns-then-not-is_digit
 returns-then-not-is_digit c =
     let l = c.loop-i in
     rw (word_small l.v l.i l.invariant.1)
-    (counted_stop l.invariant.2 c.requires.0 c.requires.1 l.invariant.0 l.invariant.1 (stops_at is_digit c.args.text.now l.i (omega arith) (sym c.is_digit.ensures ∙ not-true _ c.if-not-is_digit.true-raw)))
+    (counted_stop l.invariant.2 c.requires.0 c.requires.1 l.invariant.0 l.invariant.1 (stops_at is_digit c.args.text.now l.i (omega arith) (sym c.is_digit.ensures ∙ c.if-not-is_digit.true)))

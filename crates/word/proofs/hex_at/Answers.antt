@@ -4,7 +4,7 @@ use Prim.Native.Nat.{ℕ, ◌≤◌, ◌<◌}
 use mathlib.Core.Path.{◌≡◌, refl, ◌∙◌, sym}
 use native.Mathlib.Omega.{arith}
 use borrow.Author.Rules.{rules}
-use borrow.Author.Tests.{not-true, not-false, eqb-true, eqb-false}
+use borrow.Author.Tests.{eqb-true, eqb-false}
 use lib.Dec.{eqb}
 use lib.ListN.{length, drop}
 use Rattle.nibl.specs.Bytes.{is_hex_digit, starts}
@@ -27,7 +27,7 @@ loop-i-init c = (search rules, search rules, search rules, record { value = refl
 pub loop-i-preserved : goal.loop-i-preserved
 loop-i-preserved c =
     let l = c.loop-i in
-    let digit = sym c.is_hex_digit.ensures ∙ not-false _ c.if-not-is_hex_digit.false-raw in
+    let digit = sym c.is_hex_digit.ensures ∙ c.if-not-is_hex_digit.false in
     (omega arith, omega arith, omega arith, hexed-go l.invariant.3 c.shifted-v.result (omega arith) digit c.shifted-v.ensures)
 
 pub returns-after-loop-i : goal.returns-after-loop-i
@@ -40,4 +40,4 @@ pub returns-then-not-is_hex_digit : goal.returns-then-not-is_hex_digit
 returns-then-not-is_hex_digit c =
     let text = c.args.text.now in
     let l = c.loop-i in
-    ended l.invariant.0 l.invariant.1 l.invariant.2 l.invariant.3 (stops_at is_hex_digit text l.i (omega arith) (sym c.is_hex_digit.ensures ∙ not-true _ c.if-not-is_hex_digit.true-raw))
+    ended l.invariant.0 l.invariant.1 l.invariant.2 l.invariant.3 (stops_at is_hex_digit text l.i (omega arith) (sym c.is_hex_digit.ensures ∙ c.if-not-is_hex_digit.true))

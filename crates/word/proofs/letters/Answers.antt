@@ -1,6 +1,5 @@
 use native.Mathlib.Omega.{arith}
 use mathlib.Core.Path.{◌∙◌, sym}
-use borrow.Author.Tests.{not-true, not-false}
 use Rattle.nibl.specs.Bytes.{is_capital}
 use Rattle.word.proofs.Runs.{end-within}
 use Rattle.word.proofs.Capitals.{tried-first, tried-on, letters-one, letters-sign, letters-wrong}
@@ -9,7 +8,7 @@ use Rattle.word.proofs.letters.Goals as goal
 pub returns-then-not-letter_at : goal.returns-then-not-letter_at
 returns-then-not-letter_at c =
     let a = c.args in
-    letters-one a.commands a.text.now a.from c.requires.0 c.requires.1 (sym c.letter_at.ensures ∙ not-true _ c.if-not-letter_at.true-raw)
+    letters-one a.commands a.text.now a.from c.requires.0 c.requires.1 (sym c.letter_at.ensures ∙ c.if-not-letter_at.true)
 
 pub loop-to-init : goal.loop-to-init
 loop-to-init c =
@@ -34,4 +33,4 @@ loop-to-preserved c =
 pub returns : goal.returns
 returns c =
     let a = c.args in
-    letters-wrong a.commands a.text.now a.from c.requires.0 c.requires.1 (sym c.letter_at.ensures ∙ not-false _ c.if-not-letter_at.false-raw) c.loop-to.invariant c.loop-to-test.false c.parting.ensures
+    letters-wrong a.commands a.text.now a.from c.requires.0 c.requires.1 (sym c.letter_at.ensures ∙ c.if-not-letter_at.false) c.loop-to.invariant c.loop-to-test.false c.parting.ensures

@@ -1,6 +1,5 @@
 -- `word::quoted` meets its contract: each answer is a law of Answers. Assumes nothing.
 use mathlib.Core.Path.{sym, ◌∙◌}
-use borrow.Author.Tests.{not-true, not-false}
 use native.Mathlib.Omega.{arith}
 use Rattle.word.proofs.Answers.{quoted-end, quoted-other, quoted-closed}
 use Rattle.word.proofs.quoted.Goals as goal
@@ -14,10 +13,10 @@ pub returns-then-not-is_quote : goal.returns-then-not-is_quote
 returns-then-not-is_quote c =
     let a = c.args in
     let e = c.run_end-to in
-    quoted-other a.text.now a.from e.result e.ensures (omega arith) (sym c.is_quote.ensures ∙ not-true _ c.if-not-is_quote.true-raw)
+    quoted-other a.text.now a.from e.result e.ensures (omega arith) (sym c.is_quote.ensures ∙ c.if-not-is_quote.true)
 
 pub returns : goal.returns
 returns c =
     let a = c.args in
     let e = c.run_end-to in
-    quoted-closed a.text.now a.from e.result e.ensures (omega arith) (sym c.is_quote.ensures ∙ not-false _ c.if-not-is_quote.false-raw)
+    quoted-closed a.text.now a.from e.result e.ensures (omega arith) (sym c.is_quote.ensures ∙ c.if-not-is_quote.false)

@@ -50,15 +50,13 @@ returns-then-b-eq-HASH c =
     let a = c.args in
     let l = c.loop-i in
     let k = c.class_by_range in
-    let o = c.in_default.in_default-own.rest in
     let e = ended a.text.now a.from l.i _ l.invariant c.if-text-i.false c.is_space.ensures c.if-not-is_space.true in
-    found-hex (spellings_of a.commands) a.text.now a.from l.i e (omega arith) k.result k.ensures.0 o.0.0.1 o.0.1 c.hex.result c.if-b-eq-HASH.true c.hex.ensures
+    found-hex (spellings_of a.commands) a.text.now a.from l.i e (omega arith) k.result k.ensures.0 (λ z. omega arith) (λ z. omega arith) c.hex.result c.if-b-eq-HASH.true c.hex.ensures
 
 pub returns-else-b-eq-HASH : goal.returns-else-b-eq-HASH
 returns-else-b-eq-HASH c =
     let a = c.args in
     let l = c.loop-i in
     let k = c.class_by_range in
-    let o = c.in_default.in_default-own.rest in
     let e = ended a.text.now a.from l.i _ l.invariant c.if-text-i.false c.is_space.ensures c.if-not-is_space.true in
-    found-symbol (spellings_of a.commands) a.text.now a.from l.i e (omega arith) k.result k.ensures.0 o.0.0.1 o.0.1 c.symbol.result o.1 c.if-b-eq-HASH.false c.symbol.ensures
+    found-symbol (spellings_of a.commands) a.text.now a.from l.i e (omega arith) k.result k.ensures.0 (λ z. omega arith) (λ z. omega arith) c.symbol.result (λ z. omega arith) c.if-b-eq-HASH.false c.symbol.ensures

@@ -1,7 +1,7 @@
 -- `next_back` meets its contract: by what is on top, then by its variable, then by the count. Assumes nothing.
 -- past the two refusals
 use mathlib.Core.Path.{◌≡◌}
-use borrow.Author.Tests.{eq-eqb, ne_eqb, not-true, not-false}
+use borrow.Author.Tests.{eq-eqb, ne_eqb}
 use Rattle.world.specs.Turns.{adds_step, back_by, back_on, next_back}
 use Rattle.world.proofs.jump.next_back.Goals as goal
 
@@ -16,9 +16,9 @@ returns-then-entry-v c = rw (← c.top-top.ensures, c.in-Entry.is, ne_eqb _ _ c.
 pub returns-then-not-goes_on : goal.returns-then-not-goes_on
 unfolding adds_step back_by back_on next_back
 returns-then-not-goes_on c =
-    rw ((let it : (let a = c.args in let f = c.in-Entry.entry in next_back a.stack a.vars.now a.v ≡ back_by a.vars.now f (adds_step a.vars.now a.v f)) = rw (← c.top-top.ensures, c.in-Entry.is, eq-eqb _ _ c.if-entry-v.false) in it), ← c.var_of.ensures, ← c.add-sum.ensures, ← c.goes_on.ensures, not-true c.goes_on.result c.if-not-goes_on.true-raw)
+    rw ((let it : (let a = c.args in let f = c.in-Entry.entry in next_back a.stack a.vars.now a.v ≡ back_by a.vars.now f (adds_step a.vars.now a.v f)) = rw (← c.top-top.ensures, c.in-Entry.is, eq-eqb _ _ c.if-entry-v.false) in it), ← c.var_of.ensures, ← c.add-sum.ensures, ← c.goes_on.ensures, c.if-not-goes_on.true)
 
 pub returns : goal.returns
 unfolding adds_step back_by back_on next_back
 returns c =
-    rw ((let it : (let a = c.args in let f = c.in-Entry.entry in next_back a.stack a.vars.now a.v ≡ back_by a.vars.now f (adds_step a.vars.now a.v f)) = rw (← c.top-top.ensures, c.in-Entry.is, eq-eqb _ _ c.if-entry-v.false) in it), ← c.var_of.ensures, ← c.add-sum.ensures, ← c.goes_on.ensures, not-false c.goes_on.result c.if-not-goes_on.false-raw, c.set_var.ensures)
+    rw ((let it : (let a = c.args in let f = c.in-Entry.entry in next_back a.stack a.vars.now a.v ≡ back_by a.vars.now f (adds_step a.vars.now a.v f)) = rw (← c.top-top.ensures, c.in-Entry.is, eq-eqb _ _ c.if-entry-v.false) in it), ← c.var_of.ensures, ← c.add-sum.ensures, ← c.goes_on.ensures, c.if-not-goes_on.false, c.set_var.ensures)
