@@ -1,5 +1,5 @@
 -- The cycle of readers: one law for each way out. Assumes nothing.
-use mathlib.Core.Path.{◌≡◌, refl, sym, ◌∙◌}
+use mathlib.Core.Path.{◌≡◌, refl, ◌∙◌}
 use Rattle.std.proofs.Common.{arith, ◌+◌}
 use borrow.Author.Tests.{ne_eqb}
 use Rattle.nibl.specs.found.Read.{give, read, factor, factors, terms}
@@ -9,7 +9,7 @@ use Rattle.nibl.proofs.Sound.{read-term, read-factors, read-terms, read-related}
 use Rattle.word.proofs.Spelled.{unspaced}
 use Rattle.relation.specs.declared.Made.TheVariants.{NoReading}
 use Rattle.relation.specs.Makes.{stopped, nothing_waits, waiting}
-use Rattle.relation.proofs.Signs.{stood-over, key-past, past-inside, joint-by, joint-absent, none_left, ◌but◌}
+use Rattle.relation.proofs.Signs.{stood-over, key-past, joint-by, joint-absent, none_left, ◌but◌}
 use Rattle.relation.proofs.States.{key-low, key-few, key-filled, key-standing, key-gone, settles-ahead, settles-size, settles-here, settles-standing, settles-made, settles-gone, last-here, written-here, to-standing, to_made, to_none}
 use Rattle.relation.proofs.Ways.{waiting-first, waiting-on, waiting-end, waiting-last, waiting_none, waiting-stop, relating-first, relating-second, relating-stop, joint-waits, factor-bracket, factor-prefix, factor-pair, pair_is, pair-unopened, pair-half}
 use Rattle.relation.proofs.Factors.{begun, from-spaces, one_word, operand_read, operand-unread, unread-read, form-read, rest-none, lead-waiting, stat-code, top-code, byte-code, not_code}

@@ -1,10 +1,6 @@
 use mathlib.Core.Path.{refl, sym, ◌∙◌}
-use mathlib.Core.List.{[], ◌∷◌}
-use native.Mathlib.Omega.{arith}
-use borrow.Author.Rules.{rules}
 use Rattle.nibl.specs.Grammar.{sum_joints}
 use Rattle.nibl.specs.Tree.{equal, at_most, unequal, less, at_least, greater}
-use Rattle.word.proofs.Spelled.{stands-inside}
 use Rattle.relation.proofs.Signs.{joint-none, joint-symbol, joint-pair, joint-less, joint-greater}
 use Rattle.relation.proofs.compare_at.Goals as goal
 

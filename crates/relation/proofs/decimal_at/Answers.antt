@@ -1,4 +1,3 @@
-use borrow.Author.Rules.{rules}
 use Rattle.relation.specs.Makes.{no_operand}
 use Rattle.relation.proofs.Factors.{decimal-there, decimal-large, decimal-operand}
 use Rattle.relation.proofs.decimal_at.Goals as goal

@@ -1,6 +1,5 @@
 use mathlib.Core.Path.{refl, sym, ◌∙◌}
 use mathlib.Core.List.{[], ◌∷◌}
-use borrow.Author.Rules.{rules}
 use Rattle.relation.proofs.Signs.{stat-word, top-word, not-word, mod-word}
 use Rattle.relation.proofs.Factors.{form-symbol, form-keyword, form-none}
 use Rattle.relation.proofs.form_at.Goals as goal

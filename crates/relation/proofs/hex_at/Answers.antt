@@ -1,8 +1,6 @@
 use mathlib.Core.Path.{ap, ◌∙◌}
-use native.Mathlib.Omega.{arith}
-use borrow.Author.Rules.{rules}
 use Rattle.codes.specs.Codes.{op, code_constant}
-use Rattle.relation.proofs.Factors.{hash-inside, hex-there, hex-none, hex-makes}
+use Rattle.relation.proofs.Factors.{hex-there, hex-none, hex-makes}
 use Rattle.relation.proofs.hex_at.Goals as goal
 
 pub returns-then-d-from : goal.returns-then-d-from

@@ -1,8 +1,4 @@
 use mathlib.Core.Path.{sym, ◌∙◌}
-use mathlib.Core.List.{[], ◌∷◌}
-use native.Mathlib.Omega.{arith}
-use borrow.Author.Rules.{rules}
-use Rattle.word.proofs.Spelled.{stands-inside}
 use Rattle.relation.proofs.Signs.{lead-minus, lead-plus, lead-none}
 use Rattle.relation.proofs.lead_at.Goals as goal
 

@@ -1,14 +1,8 @@
-use Prim.Native.Nat.{◌-◌, ◌≤◌}
-use mathlib.Core.Path.{sym, ap, subst, ◌∙◌}
-use mathlib.Core.Bool.{false≢true}
-use native.Mathlib.Omega.{arith}
-use borrow.Author.Rules.{rules}
-use lib.ListN.{get_or}
+use Prim.Native.Nat.{◌-◌}
+use mathlib.Core.Path.{sym, ap, ◌∙◌}
 use Rattle.nibl.specs.Bytes.{is_digit}
 use Rattle.codes.specs.Codes.{op, code_variable}
-use Rattle.word.proofs.Runs.{between}
-use Rattle.word.proofs.Spelled.{byte_inside}
-use Rattle.relation.proofs.Factors.{variable-inside, variable-capital, variable-there, variable-operand, no-operand}
+use Rattle.relation.proofs.Factors.{variable-there, variable-operand, no-operand}
 use Rattle.relation.proofs.operand_at.Goals as goal
 
 pub returns-then-is_variable : goal.returns-then-is_variable

@@ -1,7 +1,6 @@
 use mathlib.Core.Path.{subst}
 use Rattle.relation.specs.Makes.{SignIs}
 use Rattle.relation.proofs.Signs.{key-none, key-found, key-other}
-use borrow.Author.Rules.{rules}
 use Rattle.relation.proofs.past_sign.Goals as goal
 
 pub returns-in_default : goal.returns-in_default

@@ -1,10 +1,7 @@
 use mathlib.Core.Path.{refl, sym, ◌∙◌}
-use mathlib.Core.List.{[], ◌∷◌}
-use native.Mathlib.Omega.{arith}
-use borrow.Author.Rules.{rules}
+use mathlib.Core.List.{[]}
 use Rattle.nibl.specs.Grammar.{term_joints}
 use Rattle.nibl.specs.Tree.{plus, minus, or_bits}
-use Rattle.word.proofs.Spelled.{stands-inside}
 use Rattle.relation.proofs.Signs.{joint-none, joint-symbol, joint-keyword, or_word}
 use Rattle.relation.proofs.plus_at.Goals as goal
 

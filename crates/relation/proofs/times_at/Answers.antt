@@ -1,10 +1,7 @@
 use mathlib.Core.Path.{refl, sym, ◌∙◌}
 use mathlib.Core.List.{[], ◌∷◌}
-use native.Mathlib.Omega.{arith}
-use borrow.Author.Rules.{rules}
 use Rattle.nibl.specs.Grammar.{factor_joints}
 use Rattle.nibl.specs.Tree.{times, divided_by, and_bits}
-use Rattle.word.proofs.Spelled.{stands-inside}
 use Rattle.relation.proofs.Signs.{joint-none, joint-symbol, joint-keyword, and_word}
 use Rattle.relation.proofs.times_at.Goals as goal
 
