@@ -117,23 +117,23 @@ module _ (j : Joined-r) where
         values-kept = j.run_plain-r.auto.values ∙ i.8;
       }
 
-  came : (let m = j.match-r in Came m.vars m.memory m.output m.reply m.replies m.values m.p m.way)
+  came : (let m = j.match-r in Came m.vars m.memory m.output m.reply m.replies m.values m.p m.way')
   came =
       elim j.match-r.branch [
         | in-Ends w ↦
-            at-meeting (plainly (plain-ends j.run_plain-r.ensures w.in-Ends.is around) refl) w.vars-is w.memory-is w.output-is w.reply-is w.replies-is w.values-is w.p-is w.way-is
+            at-meeting (plainly (plain-ends j.run_plain-r.ensures w.in-Ends.is around) refl) w.vars-is w.memory-is w.output-is w.reply-is w.replies-is w.values-is w.p-is w.way'-is
         | in-Calls w ↦
             at-meeting
             (plainly (ap (gosubs_in (world_with j.run_plain-r.new.vars j.loop-count.p j.loop-count.memory j.loop-count.output)) w.call_turn-t.ensures ∙ plain-calls j.run_plain-r.ensures w.in-Calls.is around) refl)
-            w.vars-is w.memory-is w.output-is w.reply-is w.replies-is w.values-is w.p-is w.way-is
+            w.vars-is w.memory-is w.output-is w.reply-is w.replies-is w.values-is w.p-is w.way'-is
         | in-Loops w ↦
             at-meeting
             (plainly (ap (dos_in (world_with j.run_plain-r.new.vars j.loop-count.p j.loop-count.memory j.loop-count.output)) w.loop_turn-t.ensures ∙ plain-loops j.run_plain-r.ensures w.in-Loops.is around) refl)
-            w.vars-is w.memory-is w.output-is w.reply-is w.replies-is w.values-is w.p-is w.way-is
+            w.vars-is w.memory-is w.output-is w.reply-is w.replies-is w.values-is w.p-is w.way'-is
         | in-Counts w ↦
             at-meeting
             (plainly (ap (fors_in (world_with j.run_plain-r.new.vars j.loop-count.p j.loop-count.memory j.loop-count.output)) w.count_turn-t.ensures ∙ plain-counts j.run_plain-r.ensures w.in-Counts.is around) w.count_turn-t.auto.vars)
-            w.vars-is w.memory-is w.output-is w.reply-is w.replies-is w.values-is w.p-is w.way-is
+            w.vars-is w.memory-is w.output-is w.reply-is w.replies-is w.values-is w.p-is w.way'-is
         | in-Needs w ↦
             let i = j.loop-count.invariant in
             let f = w.run_ops_from-d.auto in
@@ -147,20 +147,20 @@ module _ (j : Joined-r) where
               replies-kept = f.replies ∙ i.7;
               values-kept = f.values ∙ j.run_plain-r.auto.values ∙ i.8;
             })
-            w.vars-is w.memory-is w.output-is w.reply-is w.replies-is w.values-is w.p-is w.way-is
+            w.vars-is w.memory-is w.output-is w.reply-is w.replies-is w.values-is w.p-is w.way'-is
       ]
 
   fetches : NextMember j.args.page.now (position_of j.loop-count.q) (take j.in-Member.count j.fetch-f.new.ops) (position j.in-Member.at) (position j.in-Member.cr)
   fetches = fetch-found j.args.page.now (position_of j.loop-count.q) (rw j.in-Member.is at j.fetch-f.ensures.0)
 
   abbrev t : StepEnd
-  t = done_end (did_in (did j.match-r.way j.match-r.p) j.match-r.vars j.match-r.memory j.match-r.output) (position j.in-Member.at) (position j.in-Member.cr)
+  t = done_end (did_in (did j.match-r.way' j.match-r.p) j.match-r.vars j.match-r.memory j.match-r.output) (position j.in-Member.at) (position j.in-Member.cr)
 
   -- the step, by what its operations did; the slots of the line are as many as before
   is-step : t ≡ step_of env fetches.it world
   is-step =
       let b = j.requires.0 in
-      member-steps (env_with (length j.loop-count.reply) j.args.page.now j.args.input.now j.args.sight (place mark)) world (did_in (did j.match-r.way j.match-r.p) j.match-r.vars j.match-r.memory j.match-r.output) fetches (readable lim env b.short b.good from fetches.it j.loop-count.invariant.1 fetches.fetches) came.comes
+      member-steps (env_with (length j.loop-count.reply) j.args.page.now j.args.input.now j.args.sight (place mark)) world (did_in (did j.match-r.way' j.match-r.p) j.match-r.vars j.match-r.memory j.match-r.output) fetches (readable lim env b.short b.good from fetches.it j.loop-count.invariant.1 fetches.fetches) came.comes
       ∙ ap (λ (n : ℕ). step_of (env_with n j.args.page.now j.args.input.now j.args.sight (place mark)) fetches.it world) j.loop-count.invariant.6
 
   some_left : j.loop-count.left ≡ 0 → ⊥
