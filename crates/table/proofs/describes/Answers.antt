@@ -1,11 +1,10 @@
-use Prim.Native.Nat.{◌+◌, ◌-◌, ◌≤◌}
-use mathlib.Core.Path.{◌≡◌, sym}
+use Prim.Native.Nat.{◌+◌, ◌≤◌}
+use mathlib.Core.Path.{sym}
 use native.Mathlib.Omega.{arith}
-use lib.ListN.{length, drop}
-use Rattle.page.specs.Walk.{size_at}
+use lib.ListN.{length}
 use Rattle.page.proofs.Walk.{met, past}
 use Rattle.table.proofs.Index.{describes-none}
-use Rattle.table.proofs.Compared.{Compared, compare-start, compare-short, compare-other, compare-step, compare-end}
+use Rattle.table.proofs.Compared.{compare-start, compare-short, compare-other, compare-step, compare-end}
 use Rattle.table.proofs.describes.Goals as goal
 
 pub returns-then-room-lt1 : goal.returns-then-room-lt1

@@ -1,13 +1,10 @@
 -- `describes` meets its contract: each turn compares the entry of the record that it is at. Assumes nothing.
 -- what a turn knows of the record that it is at
-use Prim.Native.Nat.{◌+◌, ◌-◌, ◌≤◌}
-use mathlib.Core.Path.{◌≡◌, sym}
-use native.Mathlib.Omega.{arith}
+use Prim.Native.Nat.{◌+◌, ◌-◌}
+use mathlib.Core.Path.{◌≡◌}
 use lib.ListN.{length, drop}
 use Rattle.page.specs.Walk.{size_at}
-use Rattle.page.proofs.Walk.{met, past}
-use Rattle.table.proofs.Index.{describes-none}
-use Rattle.table.proofs.Compared.{Compared, compare-start, compare-short, compare-other, compare-step, compare-end}
+use Rattle.table.proofs.Compared.{Compared}
 use Rattle.table.proofs.describes.Given as goal
 
 abbrev pub invariant-loop-size : goal.invariant-loop-size

@@ -3,7 +3,6 @@ use Prim.Native.Nat.{ℕ}
 use mathlib.Core.Path.{ap, ◌∙◌}
 use native.Mathlib.Omega.{arith}
 use lib.ListN.{take}
-use borrow.Author.Rules.{rules}
 use Rattle.nibl.specs.Page.{records_of}
 use Rattle.page.specs.Tables.{span_of}
 use Rattle.table.proofs.Index.{described}

@@ -1,12 +1,11 @@
-use Prim.Native.Nat.{◌+◌, ◌-◌, ◌≤◌, ◌<◌}
-use mathlib.Core.Path.{◌≡◌, sym, ◌∙◌}
+use Prim.Native.Nat.{◌+◌, ◌≤◌, ◌<◌}
+use mathlib.Core.Path.{sym, ◌∙◌}
 use native.Mathlib.Omega.{arith}
-use lib.ListN.{length, drop, length-set}
-use Rattle.page.specs.Walk.{size_at}
+use lib.ListN.{length}
 use Rattle.page.proofs.Walk.{past}
 use Rattle.page.proofs.Tables.{lines-most}
-use Rattle.table.proofs.Index.{kept-empty, kept-some}
-use Rattle.table.proofs.Fronts.{Filling, fill_start, fill-room, fill_step, fill_end}
+use Rattle.table.proofs.Index.{kept-some}
+use Rattle.table.proofs.Fronts.{fill-room, fill_step, fill_end}
 use Rattle.table.proofs.refill.Goals as goal
 
 pub overflow_cast-table : goal.overflow_cast-table

@@ -1,14 +1,10 @@
 -- `refill` meets its contract: each turn adds the entry of the record that it is at. Assumes nothing.
 -- what a turn knows of the record that it is at
-use Prim.Native.Nat.{◌+◌, ◌-◌, ◌≤◌, ◌<◌}
-use mathlib.Core.Path.{◌≡◌, sym, ◌∙◌}
-use native.Mathlib.Omega.{arith}
-use lib.ListN.{length, drop, length-set}
+use Prim.Native.Nat.{◌+◌, ◌-◌}
+use mathlib.Core.Path.{◌≡◌}
+use lib.ListN.{length, drop}
 use Rattle.page.specs.Walk.{size_at}
-use Rattle.page.proofs.Walk.{past}
-use Rattle.page.proofs.Tables.{lines-most}
-use Rattle.table.proofs.Index.{kept-empty, kept-some}
-use Rattle.table.proofs.Fronts.{Filling, fill_start, fill-room, fill_step, fill_end}
+use Rattle.table.proofs.Fronts.{Filling}
 use Rattle.table.proofs.refill.Given as goal
 
 abbrev pub invariant-loop-size : goal.invariant-loop-size

@@ -5,7 +5,6 @@ use lib.ListN.{length, get_or, drop}
 use Rattle.nibl.specs.Page.{records_of, line_at}
 use Rattle.page.proofs.Tables.{lines-most, Entry, table-count, table-entry}
 use Rattle.table.specs.Index.{Described}
-use Rattle.table.specs.Spots.{below}
 use Rattle.table.proofs.Below.{below-most, below_up, below-down}
 use Rattle.table.proofs.seek.Goals as goal
 

@@ -1,12 +1,9 @@
 -- `seek` meets its contract: the lines below the number are at least lo and at most hi, and each turn halves what is between. Assumes nothing.
 -- a turn looks at a line, which is among those not told apart, and for which the table has an entry
-use Prim.Native.Nat.{ℕ, ◌+◌, ◌-◌, ◌/◌, ◌≤◌, ◌<◌}
-use native.Mathlib.Omega.{arith}
-use lib.ListN.{length, get_or, drop}
-use Rattle.nibl.specs.Page.{records_of, line_at}
-use Rattle.page.proofs.Tables.{lines-most, Entry, table-count, table-entry}
+use Prim.Native.Nat.{◌-◌, ◌≤◌}
+use lib.ListN.{length}
+use Rattle.nibl.specs.Page.{records_of}
 use Rattle.table.specs.Spots.{below}
-use Rattle.table.proofs.Below.{below-most, below_up, below-down}
 use Rattle.table.proofs.seek.Given as goal
 
 abbrev pub invariant-loop-lo : goal.invariant-loop-lo

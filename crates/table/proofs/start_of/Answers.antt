@@ -5,7 +5,6 @@ use Prim.Native.Nat.{ℕ, suc, ◌+◌, ◌-◌, ◌<◌}
 use mathlib.Core.Path.{◌≡◌, ap}
 use native.Mathlib.Omega.{arith}
 use lib.ListN.{length, get_or, take, drop, length-drop}
-use borrow.Author.Rules.{rules}
 use Rattle.nibl.specs.Page.{records_of}
 use Rattle.page.specs.Tables.{span_of}
 use Rattle.page.proofs.Walk.{size_is, size-most}
