@@ -1,0 +1,37 @@
+use Prim.Native.Nat.{ℕ}
+use mathlib.Core.Path.{sym, ap, ◌∙◌}
+use mathlib.Core.List.{List, [], ◌∷◌}
+use types.Run.{miss}
+use lib.ListN.{length, drop}
+use Rattle.word.proofs.Standing.{decimal-read}
+use Rattle.line.specs.Answers.{kind_of, line_ops}
+use Rattle.line.proofs.Lines.{blank-end, unblank, no_end, undone, decimal-found, no-decimal, numbered-silent, plain-blank, plain-number, plain-none}
+use borrow.Author.Rules.{rules}
+use borrow.Enum.Refused.{opened}
+use Rattle.line.proofs.plain_line.Goals as goal
+
+pub returns-in-End : goal.returns-in-End
+returns-in-End c =
+    let a = c.args in
+    let d = plain-blank a.text.now (blank-end c.in-End.is c.word_at-w.ensures) in
+    record { value = sym (ap (kind_of (length a.text.now)) d); ops_after = c.clear.ensures ∙ sym (ap (line_ops a.ops.now) d) }
+
+pub returns-in-Decimal : goal.returns-in-Decimal
+returns-in-Decimal c =
+    let text = c.args.text.now in
+    let ops = c.args.ops.now in
+    let w = c.word_at-w in
+    let g = c.w-1.given in
+    let l = c.numbered_line in
+    let d = plain-number text (unblank w.result (undone g.1) w.ensures) (decimal-found g.1 w.ensures) in
+    record { value = l.ensures.0 ∙ sym (ap (kind_of (length text)) d); ops_after = l.ensures.1 ∙ sym (numbered-silent ops g.0.0 (drop g.0.1.0.at text)) ∙ sym (ap (line_ops ops) d) }
+
+pub returns-in_default : goal.returns-in_default
+returns-in_default c =
+    let text = c.args.text.now in
+    let w = c.word_at-w in
+    let k = (opened c.in_default.in_default-own.keys3) in
+    let i = c.immediate in
+    let ks : List ℕ = 0 ∷ 2 ∷ 3 ∷ 4 ∷ 6 ∷ [] in
+    let d = plain-none text (unblank w.result (no_end ks (miss ks 5 tt) k) w.ensures) (no-decimal ks w.result (miss ks 1 tt) k w.ensures) in
+    record { value = i.ensures.0 ∙ sym (ap (kind_of (length text)) d); ops_after = i.ensures.1 ∙ sym (ap (line_ops c.args.ops.now) d) }

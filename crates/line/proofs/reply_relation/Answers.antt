@@ -1,0 +1,32 @@
+use Prim.Native.Nat.{ℕ}
+use mathlib.Core.Path.{refl, sym, ap, subst, ◌∙◌}
+use native.Mathlib.Omega.{arith}
+use lib.ListN.{length, replicate}
+use Rattle.nibl.specs.found.Read.{read, relation}
+use Rattle.relation.specs.Code.{values}
+use Rattle.relation.specs.Makes.{Makes}
+use Rattle.line.specs.Answers.{relation_of, relation_ops}
+use Rattle.line.proofs.Lists.{room_for, shut, opened}
+use Rattle.line.proofs.Replies.{key-told, relation-none, relation-comma, relation-bare}
+use borrow.Author.Tests.{not-true, not-false}
+use borrow.Author.Rules.{rules}
+use Rattle.line.proofs.reply_relation.Goals as goal
+
+pub returns-in_default : goal.returns-in_default
+returns-in_default c =
+    let text = c.args.text.now in
+    let e = sym c.has_room.ensures ∙ not-false _ c.if-not-has_room.false-raw in
+    let d = relation-none text c.args.c (subst (Makes (read relation) values _ _ _ _) c.in_default.is c.read_relation-r.ensures) in
+    record { value = opened _ e (sym (ap (relation_of (length text)) d)); ops_after = opened _ e (c.clear.ensures ∙ ap (λ (n : ℕ). replicate n 0) c.read_relation-r.auto.ops ∙ sym (ap (relation_ops c.args.ops.now) d)) }
+
+pub returns-in-Next-s : goal.returns-in-Next-s
+returns-in-Next-s c =
+    let e = sym c.has_room.ensures ∙ not-false _ c.if-not-has_room.false-raw in
+    let a = relation-comma (subst (Makes (read relation) values _ _ _ _) c.in-Next.is c.read_relation-r.ensures) (key-told refl c.in-Next-s.is c.past_sign-s.ensures) in
+    record { value = opened _ e a.0; ops_after = opened _ e a.1 }
+
+pub returns-in-NoReading : goal.returns-in-NoReading
+returns-in-NoReading c =
+    let e = sym c.has_room.ensures ∙ not-false _ c.if-not-has_room.false-raw in
+    let a = relation-bare (subst (Makes (read relation) values _ _ _ _) c.in-Next.is c.read_relation-r.ensures) (key-told refl c.in-NoReading.is c.past_sign-s.ensures) in
+    record { value = opened _ e a.0; ops_after = opened _ e a.1 }

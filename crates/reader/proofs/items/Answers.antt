@@ -1,0 +1,19 @@
+use mathlib.Core.Path.{◌∙◌, subst}
+use native.Mathlib.Omega.{arith}
+use borrow.Author.Rules.{rules}
+use Rattle.nibl.specs.found.Read.{an_item, joined}
+use Rattle.relation.specs.Makes.{ahead}
+use Rattle.relation.proofs.Signs.{stood-over}
+use Rattle.reader.specs.Code.{items_code}
+use Rattle.reader.specs.Forms.{KeyedIs}
+use Rattle.reader.proofs.Spending.{Proceeds, proceeds-none}
+use Rattle.reader.proofs.Ways.{items-on, items-end}
+use Rattle.reader.proofs.items.Goals as goal
+
+pub returns-in_default : goal.returns-in_default
+returns-in_default c =
+    items-end c.loop-m.invariant c.item-a.ensures (subst (KeyedIs _ _ _) c.in_default.is c.next_is-n.ensures)
+
+pub loop-m-preserved : goal.loop-m-preserved
+loop-m-preserved c =
+    items-on c.loop-m.invariant c.item-a.ensures (subst (KeyedIs _ _ _) c.in-Past.is c.next_is-n.ensures) c.item-a.auto.ops
