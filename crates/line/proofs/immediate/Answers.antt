@@ -5,14 +5,14 @@ use native.Mathlib.Omega.{arith}
 use Rattle.line.specs.Answers.{kind_of, line_ops}
 use Rattle.line.proofs.Lists.{room_for, no-first, first}
 use Rattle.line.proofs.Lines.{immediate-none, immediate-one, immediate-more, count_fits, immediate-needs, left-none, left_one}
-use borrow.Author.Rules.{rules}
+use borrow.Enum.Refused.{opened}
 use Rattle.line.proofs.immediate.Goals as goal
 
 pub returns-in_default : goal.returns-in_default
 returns-in_default c =
     let text = c.args.text.now in
     let ops = c.args.ops.now in
-    let e = (no-first text ops _ c.requires c.read_member-m.ensures.value c.in_default.in_default-own.keys2) in
+    let e = (no-first text ops _ c.requires c.read_member-m.ensures.value (opened c.in_default.in_default-own.keys2)) in
     let d = immediate-none text e in
     record { value = sym (ap (kind_of (length text)) d); ops_after = left-none text ops c.requires c.read_member-m.ensures.ops_after e ∙ sym (ap (line_ops ops) d) }
 

@@ -3,18 +3,19 @@ use mathlib.Core.Path.{◌≡◌, sym, ◌∙◌}
 use mathlib.Core.Bool.{false}
 use native.Mathlib.Omega.{arith}
 use lib.ListN.{length, drop, length-drop}
-use mathlib.Core.Logic.{⊎_elim}
+use borrow.Enum.Refused.{opened}
 use Rattle.line.proofs.Lists.{no-first-at, first-at, left-fits, list-none, list-ends, list_on, met-here, met-not}
 use borrow.Author.Rules.{rules}
 use Rattle.nibl.specs.found.Read.{reading}
 use Rattle.line.specs.Answers.{members_of}
 use Rattle.line.proofs.members.Goals as goal
+use Rattle.line.proofs.members.Goals.{then-end-p, else-end-p}
 
 pub returns-in_default : goal.returns-in_default
 returns-in_default c =
     let text = c.args.text.now in
     let at = c.loop-left.at in
-    sym (c.loop-left.invariant.2 ∙ list-none c.loop-left.met (length text) c.args.p (drop at text) (no-first-at text c.loop-left.ops c.args.ops.now at _ c.requires c.loop-left.invariant.1 c.read_member-m.ensures.value c.in_default.in_default-own.keys2))
+    sym (c.loop-left.invariant.2 ∙ list-none c.loop-left.met (length text) c.args.p (drop at text) (no-first-at text c.loop-left.ops c.args.ops.now at _ c.requires c.loop-left.invariant.1 c.read_member-m.ensures.value (opened c.in_default.in_default-own.keys2)))
 
 pub overflow_sub-end : goal.overflow_sub-end
 overflow_sub-end c =
@@ -29,7 +30,7 @@ returns-then-left-eq0 c =
     let met = c.loop-left.met in
     let p = c.args.p in
     let n = length text in
-    sym (c.loop-left.invariant.2 ∙ list-ends text at p met c.if-end-p.met (first-at text c.loop-left.ops c.args.ops.now at _ c.requires c.loop-left.invariant.1 c.read_member-m.ensures.value c.in-Member.is) (⊎_elim (λ w. met-here met n p _ w.0.taken ∙ sym w.1) (λ w. met-not met n p _ w.0.left ∙ sym w.1) c.if-end-p.branch) c.if-left-eq0.true)
+    sym (c.loop-left.invariant.2 ∙ list-ends text at p met c.if-end-p.met (first-at text c.loop-left.ops c.args.ops.now at _ c.requires c.loop-left.invariant.1 c.read_member-m.ensures.value c.in-Member.is) (elim c.if-end-p.branch [ then-end-p w ↦ met-here met n p _ w.if-end-p.true ∙ sym w.met-is | else-end-p w ↦ met-not met n p _ w.if-end-p.false ∙ sym w.met-is ]) c.if-left-eq0.true)
 
 pub loop-left-smaller : goal.loop-left-smaller
 loop-left-smaller c =
@@ -45,4 +46,4 @@ loop-left-preserved c =
     let p = c.args.p in
     let n = length text in
     let f = (first-at text c.loop-left.ops c.args.ops.now at _ c.requires c.loop-left.invariant.1 c.read_member-m.ensures.value c.in-Member.is) in
-    (omega (arith, left-fits f, length-drop at text), omega (arith, c.read_member-m.auto.ops), c.loop-left.invariant.2 ∙ list_on text at p met c.if-end-p.met f (⊎_elim (λ w. met-here met n p _ w.0.taken ∙ sym w.1) (λ w. met-not met n p _ w.0.left ∙ sym w.1) c.if-end-p.branch) c.loop-left.invariant.0 c.if-left-eq0.false)
+    (omega (arith, left-fits f, length-drop at text), omega (arith, c.read_member-m.auto.ops), c.loop-left.invariant.2 ∙ list_on text at p met c.if-end-p.met f (elim c.if-end-p.branch [ then-end-p w ↦ met-here met n p _ w.if-end-p.true ∙ sym w.met-is | else-end-p w ↦ met-not met n p _ w.if-end-p.false ∙ sym w.met-is ]) c.loop-left.invariant.0 c.if-left-eq0.false)

@@ -21,10 +21,9 @@ returns-in-Decimal c =
     let text = c.args.text.now in
     let ops = c.args.ops.now in
     let w = c.word_at-w in
-    let g = c.w-1.given in
     let l = c.numbered_line in
-    let d = plain-number text (unblank w.result (undone g.1) w.ensures) (decimal-found g.1 w.ensures) in
-    record { value = l.ensures.0 ∙ sym (ap (kind_of (length text)) d); ops_after = l.ensures.1 ∙ sym (numbered-silent ops g.0.0 (drop g.0.1.0.at text)) ∙ sym (ap (line_ops ops) d) }
+    let d = plain-number text (unblank w.result (undone c.in-Decimal.is) w.ensures) (decimal-found c.in-Decimal.is w.ensures) in
+    record { value = l.ensures.value ∙ sym (ap (kind_of (length text)) d); ops_after = l.ensures.ops_after ∙ sym (numbered-silent ops c.in-Decimal.n (drop c.in-Decimal.c.at text)) ∙ sym (ap (line_ops ops) d) }
 
 pub returns-in_default : goal.returns-in_default
 returns-in_default c =
@@ -34,4 +33,4 @@ returns-in_default c =
     let i = c.immediate in
     let ks : List ℕ = 0 ∷ 2 ∷ 3 ∷ 4 ∷ 6 ∷ [] in
     let d = plain-none text (unblank w.result (no_end ks (miss ks 5 tt) k) w.ensures) (no-decimal ks w.result (miss ks 1 tt) k w.ensures) in
-    record { value = i.ensures.0 ∙ sym (ap (kind_of (length text)) d); ops_after = i.ensures.1 ∙ sym (ap (line_ops c.args.ops.now) d) }
+    record { value = i.ensures.value ∙ sym (ap (kind_of (length text)) d); ops_after = i.ensures.ops_after ∙ sym (ap (line_ops c.args.ops.now) d) }
