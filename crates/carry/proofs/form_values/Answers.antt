@@ -1,9 +1,7 @@
-use Prim.Native.Nat.{ℕ, ◌+◌, ◌-◌, ◌*◌, ◌≤◌, ◌<◌}
-use mathlib.Core.Path.{◌≡◌, refl, sym, ap, subst}
-use native.Mathlib.Omega.{arith}
-use lib.ListN.{length, drop, set}
-use borrow.Author.Rules.{rules}
-use Rattle.carry.proofs.Values.{Taking, taking-none, taking-turn, taking-end}
+use Prim.Native.Nat.{ℕ, ◌+◌}
+use mathlib.Core.Path.{sym, subst}
+use lib.ListN.{set}
+use Rattle.carry.proofs.Values.{Taking, taking-turn}
 use Rattle.carry.proofs.form_values.Goals as goal
 
 pub loop-i-preserved : goal.loop-i-preserved

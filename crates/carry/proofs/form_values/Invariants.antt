@@ -1,10 +1,6 @@
 -- `form_values` meets its contract: a value a turn. Assumes nothing.
-use Prim.Native.Nat.{ℕ, ◌+◌, ◌-◌, ◌*◌, ◌≤◌, ◌<◌}
-use mathlib.Core.Path.{◌≡◌, refl, sym, ap, subst}
-use native.Mathlib.Omega.{arith}
-use lib.ListN.{length, drop, set}
-use borrow.Author.Rules.{rules}
-use Rattle.carry.proofs.Values.{Taking, taking-none, taking-turn, taking-end}
+use Prim.Native.Nat.{◌-◌}
+use Rattle.carry.proofs.Values.{Taking}
 use Rattle.carry.proofs.form_values.Given as goal
 
 abbrev pub invariant-loop-i : goal.invariant-loop-i

@@ -1,10 +1,8 @@
-use Prim.Native.Nat.{ℕ, ◌+◌, ◌-◌, ◌≤◌}
-use mathlib.Core.Path.{◌≡◌, refl, sym, ap, ◌∙◌}
+use Prim.Native.Nat.{◌+◌, ◌≤◌}
+use mathlib.Core.Path.{◌≡◌, ap}
 use native.Mathlib.Omega.{arith}
 use lib.ListN.{length, drop}
-use borrow.Author.Rules.{rules}
 use Rattle.nibl.specs.Page.{records_of}
-use Rattle.page.specs.Walk.{size_at}
 use Rattle.page.proofs.Walk.{met, past}
 use Rattle.page.proofs.Tables.{lines-most}
 use Rattle.carry.proofs.line_count.Goals as goal

@@ -1,13 +1,9 @@
 -- `line_count` meets its contract: a record a turn. Assumes nothing.
-use Prim.Native.Nat.{ℕ, ◌+◌, ◌-◌, ◌≤◌}
-use mathlib.Core.Path.{◌≡◌, refl, sym, ap, ◌∙◌}
-use native.Mathlib.Omega.{arith}
+use Prim.Native.Nat.{◌+◌, ◌-◌, ◌≤◌}
+use mathlib.Core.Path.{◌≡◌}
 use lib.ListN.{length, drop}
-use borrow.Author.Rules.{rules}
 use Rattle.nibl.specs.Page.{records_of}
 use Rattle.page.specs.Walk.{size_at}
-use Rattle.page.proofs.Walk.{met, past}
-use Rattle.page.proofs.Tables.{lines-most}
 use Rattle.carry.proofs.line_count.Given as goal
 
 abbrev pub invariant-loop-size : goal.invariant-loop-size

@@ -1,11 +1,10 @@
 -- `load_opened` meets its contract: 24, 2, or all that the form carries. Assumes nothing.
-use Prim.Native.Nat.{ℕ, ◌+◌, ◌-◌, ◌≤◌, ◌<◌}
+use Prim.Native.Nat.{ℕ, ◌+◌, ◌-◌}
 use mathlib.Core.Path.{◌≡◌, refl, sym, ap, ◌∙◌}
-use mathlib.Core.Bool.{true}
-use mathlib.Core.List.{List, [], ◌∷◌}
+use mathlib.Core.List.{List, []}
 use native.Mathlib.Omega.{arith}
-use lib.ListN.{length, take, drop, length-drop, length-append}
-use lib.Seq.{length-take-le, take_all}
+use lib.ListN.{length, take, drop, length-drop}
+use lib.Seq.{take_all}
 use Rattle.nibl.specs.Typing.{limit}
 use Rattle.nibl.specs.Record.{loaded_session}
 use Rattle.nibl.specs.Page.{onto}
@@ -13,11 +12,10 @@ use Rattle.nibl.specs.Lent.{Lent, lent_all, left_all, answer_of, no_line}
 use Rattle.nibl.specs.Calls.{table_past}
 use Rattle.value.specs.declared.Wrote.{Wrote}
 use Rattle.value.specs.Writes.{Writes}
-use Rattle.table.proofs.Fronts.{new-front}
-use Rattle.table.proofs.Lent.{lent-within, table_kept}
+use Rattle.table.proofs.Lent.{table_kept}
 use Rattle.carry.proofs.Forms.{written}
 use Rattle.carry.proofs.Values.{sets-all}
-use Rattle.carry.proofs.Loading.{entries-enough, other-memory, no_room, loads-whole, page-left}
+use Rattle.carry.proofs.Loading.{no_room, loads-whole, page-left}
 use Rattle.carry.proofs.load_opened.Goals as goal
 
 -- the memory is the form's, whole

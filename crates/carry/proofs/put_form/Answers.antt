@@ -1,6 +1,6 @@
 -- `put_form` meets its contract: head, records and memory one behind the other. Assumes nothing.
-use Prim.Native.Nat.{ℕ, ◌+◌, ◌-◌, ◌≤◌, ◌<◌}
-use mathlib.Core.Path.{◌≡◌, refl, sym, ap, ◌∙◌}
+use Prim.Native.Nat.{ℕ, ◌+◌, ◌-◌, ◌≤◌}
+use mathlib.Core.Path.{◌≡◌, sym, ap, ◌∙◌}
 use mathlib.Core.Bool.{true}
 use mathlib.Core.List.{List, ◌∷◌, ◌++◌}
 use native.Mathlib.Omega.{arith}
@@ -16,7 +16,6 @@ use Rattle.page.proofs.Laid.{good-fits}
 use Rattle.page.proofs.Tables.{lines-most}
 use Rattle.value.specs.declared.Wrote.{Wrote}
 use Rattle.value.specs.Writes.{Writes}
-use Rattle.carry.specs.Forms.{Savable}
 use Rattle.carry.proofs.Forms.{written, used-least, good-records, head_of, form-pieces}
 use Rattle.carry.proofs.put_form.Goals as goal
 

@@ -1,14 +1,11 @@
 -- `put_head` meets its contract: its pieces one behind the other. Assumes nothing.
 -- the output with the variables in it has its length
-use Prim.Native.Nat.{ℕ, ◌+◌, ◌≤◌}
-use mathlib.Core.Path.{◌≡◌, refl, ap, ◌∙◌}
-use native.Mathlib.Omega.{arith}
-use lib.ListN.{length, set, length-set}
-use lib.Seq.{sets, length-sets}
+use Prim.Native.Nat.{◌+◌}
+use mathlib.Core.Path.{ap, ◌∙◌}
+use lib.Seq.{sets}
 use mir.Syntax.{w16}
 use borrow.Kind.Array.{e_int, good_length}
-use borrow.Author.Rules.{rules}
-use Rattle.nibl.specs.Saved.{values_bytes, two_bytes}
+use Rattle.nibl.specs.Saved.{two_bytes}
 use Rattle.carry.proofs.Forms.{head-pieces}
 use Rattle.carry.proofs.put_head.Goals as goal
 

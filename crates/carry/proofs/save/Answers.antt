@@ -8,8 +8,7 @@ use lib.ListN.{length}
 use Rattle.nibl.specs.Typing.{limit}
 use Rattle.nibl.specs.Page.{is_good, used}
 use Rattle.nibl.specs.Lent.{Lent, lent_all, left_all, answer_of, no_line}
-use Rattle.page.specs.Standing.{Bytes}
-use Rattle.page.proofs.Laid.{good-fits}
+use Rattle.page.proofs.Laid.{laid-room, good-laid}
 use Rattle.record.proofs.Fitted.{known-sized}
 use Rattle.carry.proofs.Saving.{save-lengths, save-1, save-18, save-19, save-17, save-0}
 use Rattle.carry.proofs.save.Goals as goal
@@ -34,16 +33,16 @@ returns-then-not-fits c =
     (save-19 x (sym c.save_in_range.ensures ∙ c.if-not-save_in_range.false) (sym c.is_good.ensures ∙ c.if-not-is_good.false) (sym c.fits.ensures ∙ c.if-not-fits.true))
 
 -- how many bytes of a good page are in use
-in_use : (page : List ℕ) {n : ℕ} → n ≡ used page → Bytes page → is_good limit page ≡ true → n ≤ length page
-in_use page e b g = omega (arith, good-fits limit page b g)
+in_use : (page : List ℕ) {n : ℕ} → n ≡ used page → is_good limit page ≡ true → n ≤ length page
+unfolding used
+in_use page e g = omega (arith, laid-room (good-laid limit page (omega arith) g))
 
 pub overflow_add-end-2 : goal.overflow_add-end-2
 overflow_add-end-2 c =
     let a = c.args in
     let x : Lent = lent_all a.rec a.page.now a.memory.now a.input.now a.output.now a.call a.table.now in
     let l = save-lengths x (sym c.save_in_range.ensures ∙ c.if-not-save_in_range.false) in
-    let b : Bytes a.page.now = λ i. omega (arith, c.type_inv.page i) in
-    let u = in_use a.page.now c.used_bytes.ensures b (sym c.is_good.ensures ∙ c.if-not-is_good.false) in
+    let u = in_use a.page.now c.used_bytes.ensures (sym c.is_good.ensures ∙ c.if-not-is_good.false) in
     omega (arith, l.page, l.output, l.outpos)
 
 pub overflow_add-end-3 : goal.overflow_add-end-3
@@ -51,8 +50,7 @@ overflow_add-end-3 c =
     let a = c.args in
     let x : Lent = lent_all a.rec a.page.now a.memory.now a.input.now a.output.now a.call a.table.now in
     let l = save-lengths x (sym c.save_in_range.ensures ∙ c.if-not-save_in_range.false) in
-    let b : Bytes a.page.now = λ i. omega (arith, c.type_inv.page i) in
-    let u = in_use a.page.now c.used_bytes.ensures b (sym c.is_good.ensures ∙ c.if-not-is_good.false) in
+    let u = in_use a.page.now c.used_bytes.ensures (sym c.is_good.ensures ∙ c.if-not-is_good.false) in
     omega (arith, l.page, l.memory, l.output, l.outpos)
 
 pub returns-then-output-end : goal.returns-then-output-end
