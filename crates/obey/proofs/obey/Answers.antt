@@ -16,7 +16,7 @@ use Rattle.outcome.specs.Lends.{Accepted}
 use Rattle.table.proofs.Index.{kept_same}
 use Rattle.obey.specs.ReadAs.{ReadAs}
 use Rattle.obey.proofs.Obeyed.{Given, accepted-cleared, none_read, column-small, no-room-read, blank-read, clear-read, run-read, list_read, new-read, delete-read, stored-inside, store-read, needing-read, statement-read}
-use Rattle.obey.proofs.obey.Goals.{In-Store, In-Immediate, In-New, In-Delete, In-List, In-Run}
+use Rattle.obey.proofs.obey.Goals.{In-Store, In-Immediate, In-New, In-Delete, In-Run}
 use Rattle.obey.proofs.obey.Goals as goal
 
 -- every arm begins with what is passed
@@ -70,7 +70,7 @@ pub returns-in-Clear : goal.returns-in-Clear
 returns-in-Clear c = record { output_after = rw (c.stopped-in-Clear.ensures, c.cleared.ensures) (clear-read (given c.args.kind c.args.session c.args.page.now c.args.memory.now c.args.input.now c.args.output.now c.args.typed.now c.args.reply.now c.args.ops.now c.args.call (λ i. omega (arith, c.type_inv.page i)) c.requires.0.1 c.requires.0.2) c.in-Clear.is); table_after = sym (kept_same c.requires.1) }
 
 pub returns-in-List : goal.returns-in-List
-returns-in-List c = record { output_after = rw (c.list.ensures.value, c.list.ensures.output_after) (list_read (given c.args.kind c.args.session c.args.page.now c.args.memory.now c.args.input.now c.args.output.now c.args.typed.now c.args.reply.now c.args.ops.now c.args.call (λ i. omega (arith, (goal.at.returns-in-List c).In-List.type_inv.page i)) c.requires.0.1 c.requires.0.2) _ c.in-List.is); table_after = sym (kept_same c.requires.1) }
+returns-in-List c = record { output_after = rw (c.list.ensures.value, c.list.ensures.output_after) (list_read (given c.args.kind c.args.session c.args.page.now c.args.memory.now c.args.input.now c.args.output.now c.args.typed.now c.args.reply.now c.args.ops.now c.args.call (λ i. omega (arith, c.slice_known-1.given i)) c.requires.0.1 c.requires.0.2) _ c.in-List.is); table_after = sym (kept_same c.requires.1) }
 
 pub returns-in-Run : goal.returns-in-Run
 returns-in-Run c = record { output_after = run-read (given c.args.kind c.args.session c.args.page.now c.args.memory.now c.args.input.now c.args.output.now c.args.typed.now c.args.reply.now c.args.ops.now c.args.call (λ i. omega (arith, (goal.at.returns-in-Run c).In-Run.type_inv.page i)) c.requires.0.1 c.requires.0.2) c.cleared-in-Run.result _ c.in-Run.is c.cleared-in-Run.ensures c.run_from.ensures; table_after = sym (kept_same c.requires.1) }
