@@ -59,7 +59,7 @@ returns c =
     let a = c.args in
     record {
       output_after = c.paused_run.ensures
-          ∙ continues-by-any a.rec a.page.now a.memory.now a.input.now a.output.now a.call _ a.table.now limit a.rec.paused
+          ∙ continues-by-any a.rec a.page.now a.memory.now a.input.now a.output.now a.call (take c.lent_entries-entries.result a.table.now) a.table.now limit a.rec.paused
           ∙ ap (λ (b : Bool). past_refusals b (lent_all a.rec a.page.now a.memory.now a.input.now a.output.now a.call a.table.now)) (sym c.if-typed.false);
       table_after = sym (table-still a.call a.page.now a.table.now c.requires.1);
     }

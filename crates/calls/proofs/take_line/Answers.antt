@@ -18,7 +18,7 @@ pub accepted_call-requires : goal.accepted_call-requires
 accepted_call-requires c =
     let a = c.args in
     let x = lent_all a.rec a.page.now a.memory.now a.input.now a.output.now a.call a.table.now in
-    accepted x (sym c.first_refusal-first.ensures ∙ c.if-first-ne-DONE.false) (known-sized a.rec c.type_inv.rec)
+    accepted x (sym c.first_refusal-first.ensures ∙ c.if-first-ne-DONE.false) (known-sized a.rec c.well_formed.0)
 
 pub returns : goal.returns
 returns c =
