@@ -49,21 +49,21 @@ pub returns-then-line-gt-LAST_LINE : goal.returns-then-line-gt-LAST_LINE
 returns-then-line-gt-LAST_LINE c = let a = c.args in sym (record-above (drop a.at a.page.now) a.lim a.low (omega (arith, c.line_at-line.ensures)))
 
 pub overflow_add-at-3 : goal.overflow_add-at-3
-overflow_add-at-3 c = let k = there _ _ _ c.whole_size-size.ensures c.if-size-lt-LEAST.false (c.type_inv.page (c.args.at + 2)) in omega (arith, k.inside, k.most, k.least)
+overflow_add-at-3 c = let k = there c.args.page.now c.args.at c.whole_size-size.result c.whole_size-size.ensures c.if-size-lt-LEAST.false (c.type_inv.page (c.args.at + 2)) in omega (arith, k.inside, k.most, k.least)
 
 pub slice_bounds-is_storable-end : goal.slice_bounds-is_storable-end
-slice_bounds-is_storable-end c = let k = there _ _ _ c.whole_size-size.ensures c.if-size-lt-LEAST.false (c.type_inv.page (c.args.at + 2)) in omega (arith, k.inside, k.most, k.least)
+slice_bounds-is_storable-end c = let k = there c.args.page.now c.args.at c.whole_size-size.result c.whole_size-size.ensures c.if-size-lt-LEAST.false (c.type_inv.page (c.args.at + 2)) in omega (arith, k.inside, k.most, k.least)
 
 pub slice_bounds-is_storable-end-2 : goal.slice_bounds-is_storable-end-2
-slice_bounds-is_storable-end-2 c = let k = there _ _ _ c.whole_size-size.ensures c.if-size-lt-LEAST.false (c.type_inv.page (c.args.at + 2)) in omega (arith, k.inside, k.most, k.least)
+slice_bounds-is_storable-end-2 c = let k = there c.args.page.now c.args.at c.whole_size-size.result c.whole_size-size.ensures c.if-size-lt-LEAST.false (c.type_inv.page (c.args.at + 2)) in omega (arith, k.inside, k.most, k.least)
 
 pub slice_bounds-is_storable-end-3 : goal.slice_bounds-is_storable-end-3
 slice_bounds-is_storable-end-3 c =
-    let k = there _ _ _ c.whole_size-size.ensures c.if-size-lt-LEAST.false (c.type_inv.page (c.args.at + 2)) in simp length-take (omega (arith, k.inside, k.most, k.least))
+    let k = there c.args.page.now c.args.at c.whole_size-size.result c.whole_size-size.ensures c.if-size-lt-LEAST.false (c.type_inv.page (c.args.at + 2)) in simp length-take (omega (arith, k.inside, k.most, k.least))
 
 pub is_storable-requires : goal.is_storable-requires
 is_storable-requires c =
-    let k = there _ _ _ c.whole_size-size.ensures c.if-size-lt-LEAST.false (c.type_inv.page (c.args.at + 2)) in
+    let k = there c.args.page.now c.args.at c.whole_size-size.result c.whole_size-size.ensures c.if-size-lt-LEAST.false (c.type_inv.page (c.args.at + 2)) in
     let a = c.args in
     let n : ℕ = c.whole_size-size.result - 4 in
     let l : length (take (a.at + 3 + n - (a.at + 3)) (drop (a.at + 3) a.page.now)) ≡ n =
@@ -72,10 +72,10 @@ is_storable-requires c =
 
 pub returns-then-is_storable : goal.returns-then-is_storable
 returns-then-is_storable c =
-    let k = there _ _ _ c.whole_size-size.ensures c.if-size-lt-LEAST.false (c.type_inv.page (c.args.at + 2)) in
+    let k = there c.args.page.now c.args.at c.whole_size-size.result c.whole_size-size.ensures c.if-size-lt-LEAST.false (c.type_inv.page (c.args.at + 2)) in
     sym (said _ _ _ _ _ _ _ k c.line_at-line.ensures c.if-line-low.false c.if-line-gt-LAST_LINE.false c.is_storable.ensures ∙ rw c.if-is_storable.true)
 
 pub returns : goal.returns
 returns c =
-    let k = there _ _ _ c.whole_size-size.ensures c.if-size-lt-LEAST.false (c.type_inv.page (c.args.at + 2)) in
+    let k = there c.args.page.now c.args.at c.whole_size-size.result c.whole_size-size.ensures c.if-size-lt-LEAST.false (c.type_inv.page (c.args.at + 2)) in
     sym (said _ _ _ _ _ _ _ k c.line_at-line.ensures c.if-line-low.false c.if-line-gt-LAST_LINE.false c.is_storable.ensures ∙ rw c.if-is_storable.false)
