@@ -2,5 +2,5 @@
 use Rattle.std.proofs.Common.{◌-◌}
 use Rattle.call_table.proofs.calls.Given as goal
 
-abbrev pub decreases-loop-inpos : goal.decreases-loop-inpos
-decreases-loop-inpos g l = l.count - l.i
+abbrev pub decreases-loop-i : goal.decreases-loop-i
+decreases-loop-i g l = l.count - l.i

@@ -2,8 +2,8 @@
 use Rattle.std.proofs.Common.{◌-◌, ◌≤◌}
 use Rattle.call_table.proofs.show_written.Given as goal
 
-abbrev pub invariant-loop-at : goal.invariant-loop-at
-invariant-loop-at g l = l.shown ≤ 40
+abbrev pub invariant-loop-shown : goal.invariant-loop-shown
+invariant-loop-shown g l = l.shown ≤ 40
 
-abbrev pub decreases-loop-at : goal.decreases-loop-at
-decreases-loop-at g l = 40 - l.shown
+abbrev pub decreases-loop-shown : goal.decreases-loop-shown
+decreases-loop-shown g l = 40 - l.shown

@@ -2,8 +2,8 @@
 use Rattle.std.proofs.Common.{length, ◌-◌, ◌<◌}
 use Rattle.call_table.proofs.sum.Given as goal
 
-abbrev pub invariant-loop-sum : goal.invariant-loop-sum
-invariant-loop-sum l = l.sum < 16777213
+abbrev pub invariant-loop-i : goal.invariant-loop-i
+invariant-loop-i l = l.sum < 16777213
 
-abbrev pub decreases-loop-sum : goal.decreases-loop-sum
-decreases-loop-sum l = length l.bytes - l.i
+abbrev pub decreases-loop-i : goal.decreases-loop-i
+decreases-loop-i l = length l.bytes - l.i
