@@ -1,5 +1,5 @@
 -- The page behind a first byte that is stamped from round to round, and the table that is made of it.
-use Rattle.std.proofs.Common.{◌≡◌, ℕ, ◌-◌, ◌≤◌, true, List, [], ◌∷◌, length, take, drop, set, refl, ap, ◌∙◌, arith, length-drop, length-take-le}
+use Rattle.std.proofs.Common.{◌≡◌, ℕ, ◌-◌, ◌≤◌, true, List, length, take, drop, ap, ◌∙◌, arith, length-drop, length-take-le}
 use Rattle.nibl.specs.Page.{is_good}
 use Rattle.nibl.specs.Typing.{limit}
 use Rattle.page.proofs.Tables.{table_fits, refilled-true, refilled-long}
@@ -16,10 +16,6 @@ made page table after g s l e =
     let f = e ∙ kept-some page table (omega arith) in
     let n : length after ≡ length table = ap length f ∙ refilled-long page table (omega (arith, table_fits page s)) in
     lent (good-described limit g s (omega arith) (rw f (refilled-true page table)))
-
-pub stamped : (bytes : List ℕ) (v : ℕ) → behind (set bytes 0 v) ≡ behind bytes
-stamped [] v = refl
-stamped (b ∷ bs) v = refl
 
 pub short : (bytes : List ℕ) → length bytes ≤ 4097 → length (behind bytes) ≤ 4096
 short bytes h = omega (arith, length-take-le (length bytes - 1) (drop 1 bytes) (omega (arith, length-drop 1 bytes)))
