@@ -13,42 +13,67 @@ ghost use Rattle.std.specs.Prelude.{◌≤◌, ◌<◌, length, ◌≡◌};
 
 use nibl::{Answer, Call, ForEntry, ForStack, Place, PlaceStack, Session};
 use outcome::Ended;
+use std::io;
+use std::io::Read;
 
 // The most numbers that a table of these cases has.
 const ENTRIES: usize = 1100;
 
-fn say(s: &[u8]) {
-    io::write_all(1, s);
+// The room for a case's name, and that for each of a call's lent bytes.
+const NAME: usize = 4096;
+
+const LENT: usize = 65536;
+
+fn say(rt: &impl Print, s: &[u8]) -> io::Result<()> {
+    rt.write_all(s)
+}
+
+// Reads until buf is full, the input ends or a read fails, and returns how many bytes it put at the start of buf.
+fn read_full(rt: &impl Input, buf: &mut [u8]) -> usize
+    ensures { result ≤ length buf.new }
+{
+    let mut reader = rt.reader();
+    let mut done = 0;
+    while done < buf.len() {
+        let Ok(n) = reader.read(&mut buf[done..]) else {
+            break;
+        };
+        if n == 0 {
+            break;
+        }
+        done += n;
+    }
+    done
 }
 
 // The next byte of standard input, and 0 past its end.
-fn byte() -> u8 {
+fn byte(rt: &impl Input) -> u8 {
     let mut b = [0u8; 1];
-    io::read_full(0, &mut b);
+    read_full(rt, &mut b);
     b[0]
 }
 
 // A number of two bytes, high first.
-fn number() -> u16 {
-    let high = byte() as u16;
-    let low = byte() as u16;
+fn number(rt: &impl Input) -> u16 {
+    let high = byte(rt) as u16;
+    let low = byte(rt) as u16;
     high * 256 + low
 }
 
 // A number of four bytes: a length of lent bytes, a position or a budget.
-fn long() -> usize {
-    let high = number() as usize;
-    let low = number() as usize;
+fn long(rt: &impl Input) -> usize {
+    let high = number(rt) as usize;
+    let low = number(rt) as usize;
     high * 65536 + low
 }
 
-fn place() -> Place {
-    Place::at(number() as usize)
+fn place(rt: &impl Input) -> Place {
+    Place::at(number(rt) as usize)
 }
 
 // A stack: its depth, and its eight places.
-fn place_stack() -> PlaceStack {
-    let depth = number() as usize;
+fn place_stack(rt: &impl Input) -> PlaceStack {
+    let depth = number(rt) as usize;
     let none = Place::mark();
     let mut stack = PlaceStack {
         depth: 0,
@@ -56,7 +81,7 @@ fn place_stack() -> PlaceStack {
     };
     let mut i: u8 = 0;
     while i < 8 {
-        let pushed = stack.push(place());
+        let pushed = stack.push(place(rt));
         stack = pushed.stack;
         i += 1;
     }
@@ -64,11 +89,11 @@ fn place_stack() -> PlaceStack {
     stack
 }
 
-fn for_entry() -> ForEntry {
-    let var = byte();
-    let limit = number();
-    let step = number();
-    let at = place();
+fn for_entry(rt: &impl Input) -> ForEntry {
+    let var = byte(rt);
+    let limit = number(rt);
+    let step = number(rt);
+    let at = place(rt);
     ForEntry {
         var: var,
         limit: limit,
@@ -78,8 +103,8 @@ fn for_entry() -> ForEntry {
 }
 
 // The same of FORs: four entries.
-fn for_stack() -> ForStack {
-    let depth = number() as usize;
+fn for_stack(rt: &impl Input) -> ForStack {
+    let depth = number(rt) as usize;
     let none = ForEntry {
         var: 0,
         limit: 0,
@@ -92,7 +117,7 @@ fn for_stack() -> ForStack {
     };
     let mut i: u8 = 0;
     while i < 4 {
-        let pushed = stack.push(for_entry());
+        let pushed = stack.push(for_entry(rt));
         stack = pushed.stack;
         i += 1;
     }
@@ -100,18 +125,18 @@ fn for_stack() -> ForStack {
     stack
 }
 
-fn session() -> Session {
+fn session(rt: &impl Input) -> Session {
     let mut vars = [0u16; nibl::VARIABLES];
     let mut i = 0;
     while i < 26 {
-        vars[i] = number();
+        vars[i] = number(rt);
         i += 1;
     }
-    let flags = byte();
-    let paused = number();
-    let gosubs = place_stack();
-    let dos = place_stack();
-    let fors = for_stack();
+    let flags = byte(rt);
+    let paused = number(rt);
+    let gosubs = place_stack(rt);
+    let dos = place_stack(rt);
+    let fors = for_stack(rt);
     Session {
         vars: vars,
         flags: flags,
@@ -122,82 +147,83 @@ fn session() -> Session {
     }
 }
 
-fn show(n: u64) {
-    say(b" ");
-    io::print_decimal(1, n);
+fn show(rt: &impl Print, n: u64) -> io::Result<()> {
+    print!(rt; " {n}")
 }
 
-fn show_line(line: u16) {
+fn show_line(rt: &impl Print, line: u16) -> io::Result<()> {
     if line == nibl::NO_LINE {
-        say(b" -");
-        return;
+        return say(rt, b" -");
     }
-    show(line as u64);
+    show(rt, line as u64)
 }
 
-fn show_places(stack: PlaceStack) {
-    say(b" /");
-    show(stack.depth as u64);
+fn show_places(rt: &impl Print, stack: PlaceStack) -> io::Result<()> {
+    say(rt, b" /")?;
+    show(rt, stack.depth as u64)?;
     let mut i: usize = 0;
     while i < 8 {
         let p = stack.places[i];
-        show(p.position() as u64);
+        show(rt, p.position() as u64)?;
         i += 1;
     }
+    Ok(())
 }
 
-fn show_entry(e: ForEntry) {
-    show(e.var as u64);
-    show(e.limit as u64);
-    show(e.step as u64);
+fn show_entry(rt: &impl Print, e: ForEntry) -> io::Result<()> {
+    show(rt, e.var as u64)?;
+    show(rt, e.limit as u64)?;
+    show(rt, e.step as u64)?;
     let p = e.place;
-    show(p.position() as u64);
+    show(rt, p.position() as u64)
 }
 
-fn show_fors(stack: ForStack) {
-    say(b" /");
-    show(stack.depth as u64);
+fn show_fors(rt: &impl Print, stack: ForStack) -> io::Result<()> {
+    say(rt, b" /")?;
+    show(rt, stack.depth as u64)?;
     let mut i: usize = 0;
     while i < 4 {
         let e = stack.entries[i];
-        show_entry(e);
+        show_entry(rt, e)?;
         i += 1;
     }
+    Ok(())
 }
 
-fn show_var(v: u16) {
-    show(v as u64);
+fn show_var(rt: &impl Print, v: u16) -> io::Result<()> {
+    show(rt, v as u64)
 }
 
-fn show_vars(vars: &[u16]) {
-    say(b" /");
+fn show_vars(rt: &impl Print, vars: &[u16]) -> io::Result<()> {
+    say(rt, b" /")?;
     let mut i = 0;
     while i < vars.len() {
-        show_var(vars[i]);
+        show_var(rt, vars[i])?;
         i += 1;
     }
+    Ok(())
 }
 
-fn show_answer(answer: Answer) {
-    io::print_decimal(1, answer.stop as u64);
-    show_line(answer.line);
-    show(answer.steps as u64);
-    show(answer.column as u64);
-    show(answer.inpos as u64);
-    show(answer.outpos as u64);
+fn show_answer(rt: &impl Print, answer: Answer) -> io::Result<()> {
+    rt.print(answer.stop)?;
+    show_line(rt, answer.line)?;
+    show(rt, answer.steps as u64)?;
+    show(rt, answer.column as u64)?;
+    show(rt, answer.inpos as u64)?;
+    show(rt, answer.outpos as u64)
 }
 
-fn show_session(rec: Session) {
-    show(rec.flags as u64);
-    show(rec.paused as u64);
+fn show_session(rt: &impl Print, rec: Session) -> io::Result<()> {
+    show(rt, rec.flags as u64)?;
+    show(rt, rec.paused as u64)?;
     let gosubs = rec.gosubs;
     let dos = rec.dos;
     let fors = rec.fors;
     let vars = rec.vars;
-    show_places(gosubs);
-    show_places(dos);
-    show_fors(fors);
-    show_vars(&vars);
+    show_places(rt, gosubs)?;
+    show_places(rt, dos)?;
+    show_fors(rt, fors)?;
+    show_vars(rt, &vars)
 }
 
 fn wide(b: u8) -> u32
@@ -243,13 +269,13 @@ fn sum_numbers(numbers: &[u16]) -> u32 {
     sum
 }
 
-fn show_byte(b: u8) {
-    show(b as u64);
+fn show_byte(rt: &impl Print, b: u8) -> io::Result<()> {
+    show(rt, b as u64)
 }
 
 // The bytes of the output from a position to another, at most the first 40.
-fn show_written(output: &[u8], from: usize, to: usize) {
-    say(b" /");
+fn show_written(rt: &impl Print, output: &[u8], from: usize, to: usize) -> io::Result<()> {
+    say(rt, b" /")?;
     let mut at = from;
     let mut shown: u8 = 0;
     while shown < 40 {
@@ -259,39 +285,49 @@ fn show_written(output: &[u8], from: usize, to: usize) {
         if output.len() <= at {
             break;
         }
-        show_byte(output[at]);
+        show_byte(rt, output[at])?;
         at += 1;
         shown += 1;
     }
+    Ok(())
 }
 
 // The table's sum and its first numbers, at most 12.
-fn show_table(table: &[u16]) {
-    say(b" /");
-    show(sum_numbers(table) as u64);
+fn show_table(rt: &impl Print, table: &[u16]) -> io::Result<()> {
+    say(rt, b" /")?;
+    show(rt, sum_numbers(table) as u64)?;
     let mut i: usize = 0;
     while i < 12 {
         if table.len() <= i {
             break;
         }
-        show_var(table[i]);
+        show_var(rt, table[i])?;
         i += 1;
     }
+    Ok(())
 }
 
 // The row of a call that wrote from this position on.
-fn row(ended: Ended, from: usize, page: &[u8], memory: &[u8], output: &[u8], table: &[u16]) {
+fn row(
+    rt: &impl Print,
+    ended: Ended,
+    from: usize,
+    page: &[u8],
+    memory: &[u8],
+    output: &[u8],
+    table: &[u16],
+) -> io::Result<()> {
     let answer = ended.answer;
     let rec = ended.session;
-    show_answer(answer);
-    show_session(rec);
-    say(b" /");
-    show(sum(page) as u64);
-    show(sum(memory) as u64);
-    show(sum(output) as u64);
-    show_written(output, from, answer.outpos);
-    show_table(table);
-    say(b"\n");
+    show_answer(rt, answer)?;
+    show_session(rt, rec)?;
+    say(rt, b" /")?;
+    show(rt, sum(page) as u64)?;
+    show(rt, sum(memory) as u64)?;
+    show(rt, sum(output) as u64)?;
+    show_written(rt, output, from, answer.outpos)?;
+    show_table(rt, table)?;
+    say(rt, b"\n")
 }
 
 // A typed line for kind 0, a continued run for 1, a save for 2, else a load, whose form is the input.
@@ -319,6 +355,7 @@ fn make_call(
 
 // The next call, with its row.
 fn next_call(
+    rt: &(impl Input + Print),
     rec: Session,
     page: &mut [u8],
     memory: &mut [u8],
@@ -327,11 +364,11 @@ fn next_call(
     inpos: usize,
     outpos: usize,
     table: &mut [u16],
-) -> Ended {
-    let kind = byte();
-    let sense = byte();
-    let budget = long();
-    let tabled = byte();
+) -> io::Result<Ended> {
+    let kind = byte(rt);
+    let sense = byte(rt);
+    let budget = long(rt);
+    let tabled = byte(rt);
     let given = Call {
         inpos: inpos,
         outpos: outpos,
@@ -340,25 +377,33 @@ fn next_call(
         tabled: tabled,
     };
     let ended = make_call(kind, rec, page, memory, input, output, given, table);
-    row(ended, outpos, page, memory, output, table);
-    ended
+    row(rt, ended, outpos, page, memory, output, table)?;
+    Ok(ended)
 }
 
 // A case's calls, each on what the one before left.
-fn calls(page: &mut [u8], memory: &mut [u8], input: &[u8], output: &mut [u8], table: &mut [u16]) {
-    let mut inpos = long();
-    let mut outpos = long();
-    let mut rec = session();
-    let count = byte();
+fn calls(
+    rt: &(impl Input + Print),
+    page: &mut [u8],
+    memory: &mut [u8],
+    input: &[u8],
+    output: &mut [u8],
+    table: &mut [u16],
+) -> io::Result<()> {
+    let mut inpos = long(rt);
+    let mut outpos = long(rt);
+    let mut rec = session(rt);
+    let count = byte(rt);
     let mut i: u8 = 0;
     while i < count {
-        let ended = next_call(rec, page, memory, input, output, inpos, outpos, table);
+        let ended = next_call(rt, rec, page, memory, input, output, inpos, outpos, table)?;
         let answer = ended.answer;
         rec = ended.session;
         inpos = answer.inpos;
         outpos = answer.outpos;
         i += 1;
     }
+    Ok(())
 }
 
 fn fill(room: &mut [u8], filler: u8) {
@@ -371,13 +416,13 @@ fn fill(room: &mut [u8], filler: u8) {
 
 // The next lent bytes: their length, a byte that fills them, and those that stand before it, after their number. A length that
 // the room does not have counts as none.
-fn take(room: &mut [u8]) -> usize
+fn take(rt: &impl Input, room: &mut [u8]) -> usize
     ensures upper_bound { result ≤ length room.new }
     ensures room_len_unchanged { length room.new ≡ length room.old }
 {
-    let n = long();
-    let filler = byte();
-    let given = number() as usize;
+    let n = long(rt);
+    let filler = byte(rt);
+    let given = number(rt) as usize;
     if room.len() < n {
         return 0;
     }
@@ -385,7 +430,7 @@ fn take(room: &mut [u8]) -> usize
         return 0;
     }
     fill(&mut room[..n], filler);
-    io::read_full(0, &mut room[..given]);
+    read_full(rt, &mut room[..given]);
     n
 }
 
@@ -397,22 +442,22 @@ fn fill_numbers(room: &mut [u16], filler: u16) {
     }
 }
 
-fn read_numbers(room: &mut [u16]) {
+fn read_numbers(rt: &impl Input, room: &mut [u16]) {
     let mut i = 0;
     while i < room.len() {
-        room[i] = number();
+        room[i] = number(rt);
         i += 1;
     }
 }
 
 // The table, in the same way: its length, a number that fills it, and those that stand before it, after how many they are.
-fn take_table(room: &mut [u16]) -> usize
+fn take_table(rt: &impl Input, room: &mut [u16]) -> usize
     ensures upper_bound { result ≤ length room.new }
     ensures room_len_unchanged { length room.new ≡ length room.old }
 {
-    let n = long();
-    let filler = number();
-    let given = number() as usize;
+    let n = long(rt);
+    let filler = number(rt);
+    let given = number(rt) as usize;
     if room.len() < n {
         return 0;
     }
@@ -420,49 +465,51 @@ fn take_table(room: &mut [u16]) -> usize
         return 0;
     }
     fill_numbers(&mut room[..n], filler);
-    read_numbers(&mut room[..given]);
+    read_numbers(rt, &mut room[..given]);
     n
 }
 
-fn echo(name: &mut [u8]) {
-    io::read_full(0, name);
-    say(name);
-    say(b"\n");
+fn echo(rt: &(impl Input + Print), name: &mut [u8]) -> io::Result<()> {
+    read_full(rt, name);
+    say(rt, name)?;
+    say(rt, b"\n")
 }
 
 // A case's name, on a line of its own.
-fn show_name() {
-    let mut name = io::buffer();
-    let n = byte() as usize;
-    echo(&mut name[..n]);
+fn show_name(rt: &(impl Input + Print)) -> io::Result<()> {
+    let mut name = [0u8; NAME];
+    let n = byte(rt) as usize;
+    echo(rt, &mut name[..n])
 }
 
-fn next_case() {
-    let mut page = io::large_buffer();
-    let mut memory = io::large_buffer();
-    let mut input = io::large_buffer();
-    let mut output = io::large_buffer();
+fn next_case(rt: &(impl Input + Print)) -> io::Result<()> {
+    let mut page = [0u8; LENT];
+    let mut memory = [0u8; LENT];
+    let mut input = [0u8; LENT];
+    let mut output = [0u8; LENT];
     let mut table = [0u16; ENTRIES];
-    show_name();
-    let p = take(&mut page);
-    let m = take(&mut memory);
-    let n = take(&mut input);
-    let o = take(&mut output);
-    let t = take_table(&mut table);
+    show_name(rt)?;
+    let p = take(rt, &mut page);
+    let m = take(rt, &mut memory);
+    let n = take(rt, &mut input);
+    let o = take(rt, &mut output);
+    let t = take_table(rt, &mut table);
     calls(
+        rt,
         &mut page[..p],
         &mut memory[..m],
         &input[..n],
         &mut output[..o],
         &mut table[..t],
-    );
+    )
 }
 
-fn main() {
-    let cases = number();
+fn main(rt: HostRuntime) -> io::Result<()> {
+    let cases = number(&rt);
     let mut i: u16 = 0;
     while i < cases {
-        next_case();
+        next_case(&rt)?;
         i += 1;
     }
+    Ok(())
 }

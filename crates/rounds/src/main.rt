@@ -10,8 +10,13 @@ use nibl::access::{Access, Sight};
 use nibl::{Call, ForEntry, ForStack, LineNumber, Onward, Place, PlaceStack, Session};
 use page::{Edited, FoundLine};
 use reader::MemberRead;
+use std::io;
+use std::io::Read;
 use value::Wrote;
 use word::{Cursor, Word};
+
+// The most bytes that are read.
+const INPUT: usize = 65536;
 
 // The works that go by a table.
 const LINES_BY_TABLE: u16 = 16;
@@ -527,23 +532,41 @@ fn sum_of(work: u16, n: u16, bytes: &mut [u8]) -> u16
     }
 }
 
-fn run(input: &mut [u8]) {
+fn run(rt: &impl Print, input: &mut [u8]) -> io::Result<()> {
     let Word::Decimal(work, past_work) = word::word_at(input, Cursor { at: 0 }) else {
-        return;
+        return Ok(());
     };
     let Word::Decimal(n, past_n) = word::word_at(input, past_work) else {
-        return;
+        return Ok(());
     };
     let from = past_n.at;
     if from < input.len() {
         let sum = sum_of(work, n, &mut input[from..]);
-        io::print_decimal(1, sum as u64);
-        io::write_all(1, b"\n");
+        println!(rt; "{sum}")?;
     }
+    Ok(())
 }
 
-fn main() {
-    let mut buffer = io::large_buffer();
-    let n = io::read_full(0, &mut buffer);
-    run(&mut buffer[..n]);
+// Reads until buf is full, the input ends or a read fails, and returns how many bytes it put at the start of buf.
+fn read_full(rt: &impl Input, buf: &mut [u8]) -> usize
+    ensures { result ≤ length buf.new }
+{
+    let mut reader = rt.reader();
+    let mut done = 0;
+    while done < buf.len() {
+        let Ok(n) = reader.read(&mut buf[done..]) else {
+            break;
+        };
+        if n == 0 {
+            break;
+        }
+        done += n;
+    }
+    done
+}
+
+fn main(rt: HostRuntime) -> io::Result<()> {
+    let mut buffer = [0u8; INPUT];
+    let n = read_full(&rt, &mut buffer);
+    run(&rt, &mut buffer[..n])
 }

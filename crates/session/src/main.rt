@@ -3,8 +3,12 @@
 // Of the program itself it is proved that it is safe and ends: no promise can say which bytes the system reads and writes.
 #![tactic(auto)]
 
+ghost use Rattle.std.specs.Prelude.{◌≤◌, length};
+
 use nibl::{Answer, Call, END_MARK, NO_LINE, Session};
 use outcome::Ended;
+use std::io;
+use std::io::Read;
 
 // What the session lends: standard input's first bytes, a page, a memory, and for each typed line an output and a budget. It lends
 // no table of line places.
@@ -21,34 +25,34 @@ const BUDGET: usize = 10000;
 // No CR is left in the input.
 const NO_CR: u8 = 7;
 
-fn say(s: &[u8]) {
-    io::write_all(1, s);
+fn say(rt: &impl Print, s: &[u8]) -> io::Result<()> {
+    rt.write_all(s)
 }
 
 // The first bytes of the output: those that a call wrote. The test is for the proof alone: no call answers a position past
 // the output.
-fn show_written(output: &[u8], outpos: usize) {
+fn show_written(rt: &impl Print, output: &[u8], outpos: usize) -> io::Result<()> {
     if outpos <= output.len() {
-        say(&output[..outpos]);
+        say(rt, &output[..outpos])?;
     }
+    Ok(())
 }
 
-fn show_line(line: u16) {
+fn show_line(rt: &impl Print, line: u16) -> io::Result<()> {
     if line == NO_LINE {
-        say(b"-");
-        return;
+        return say(rt, b"-");
     }
-    io::print_decimal(1, line as u64);
+    rt.print(line)
 }
 
 // Stop number, line number or "-", and steps.
-fn show_answer(answer: Answer) {
-    io::print_decimal(1, answer.stop as u64);
-    say(b" ");
-    show_line(answer.line);
-    say(b" ");
-    io::print_decimal(1, answer.steps as u64);
-    say(b"\n");
+fn show_answer(rt: &impl Print, answer: Answer) -> io::Result<()> {
+    rt.print(answer.stop)?;
+    say(rt, b" ")?;
+    show_line(rt, answer.line)?;
+    say(rt, b" ")?;
+    rt.print(answer.steps)?;
+    say(rt, b"\n")
 }
 
 // Whether no CR was left for a typed line. INPUT's 7 has a line, is shown, and the session goes on after it.
@@ -61,12 +65,13 @@ fn is_over(answer: Answer) -> bool {
 
 // One typed line, with what it wrote and answered; nothing is shown where there was none.
 fn next_line(
+    rt: &impl Print,
     rec: Session,
     page: &mut [u8],
     memory: &mut [u8],
     input: &[u8],
     inpos: usize,
-) -> Ended {
+) -> io::Result<Ended> {
     let mut output = [0u8; OUTPUT];
     let mut unlent = [0u16; 1];
     let given = Call {
@@ -79,21 +84,21 @@ fn next_line(
     let ended = calls::take_line(rec, page, memory, input, &mut output, given, &mut unlent);
     let answer = ended.answer;
     if !is_over(answer) {
-        show_written(&output, answer.outpos);
-        show_answer(answer);
+        show_written(rt, &output, answer.outpos)?;
+        show_answer(rt, answer)?;
     }
-    ended
+    Ok(ended)
 }
 
 // Line after line, until no CR is left. A typed line takes its CR at least, so there are no more lines than bytes: the count of
 // lines that may still come, by which the loop is seen to end, never ends it before the input does.
-fn lines(page: &mut [u8], memory: &mut [u8], input: &[u8]) {
+fn lines(rt: &impl Print, page: &mut [u8], memory: &mut [u8], input: &[u8]) -> io::Result<()> {
     let mut rec = Session::fresh();
     let mut inpos: usize = 0;
     let mut left = input.len();
     while 0 < left {
         left -= 1;
-        let ended = next_line(rec, page, memory, input, inpos);
+        let ended = next_line(rt, rec, page, memory, input, inpos)?;
         let answer = ended.answer;
         if is_over(answer) {
             break;
@@ -101,15 +106,34 @@ fn lines(page: &mut [u8], memory: &mut [u8], input: &[u8]) {
         rec = ended.session;
         inpos = answer.inpos;
     }
+    Ok(())
+}
+
+// Reads until buf is full, the input ends or a read fails, and returns how many bytes it put at the start of buf.
+fn read_full(rt: &impl Input, buf: &mut [u8]) -> usize
+    ensures { result ≤ length buf.new }
+{
+    let mut reader = rt.reader();
+    let mut done = 0;
+    while done < buf.len() {
+        let Ok(n) = reader.read(&mut buf[done..]) else {
+            break;
+        };
+        if n == 0 {
+            break;
+        }
+        done += n;
+    }
+    done
 }
 
 // What follows the first 65,535 bytes is not read.
-fn main() {
+fn main(rt: HostRuntime) -> io::Result<()> {
     let mut input = [0u8; INPUT];
-    let n = io::read_full(0, &mut input);
+    let n = read_full(&rt, &mut input);
     let mut page = [0u8; PAGE];
     page[0] = END_MARK;
     page[1] = END_MARK;
     let mut memory = [0u8; MEMORY];
-    lines(&mut page, &mut memory, &input[..n]);
+    lines(&rt, &mut page, &mut memory, &input[..n])
 }

@@ -1,0 +1,9 @@
+-- `read_full` ends: each read that moves a byte leaves less of the buffer to be filled.
+use Rattle.std.proofs.Common.{length, ◌-◌, ◌≤◌}
+use Rattle.rounds.proofs.read_full.Given as goal
+
+abbrev pub invariant-loop-done : goal.invariant-loop-done
+invariant-loop-done g l = l.done ≤ length l.buf
+
+abbrev pub decreases-loop-done : goal.decreases-loop-done
+decreases-loop-done g l = length l.initial.buf - l.done
