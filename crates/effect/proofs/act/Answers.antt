@@ -2,8 +2,7 @@
 use mathlib.Core.Path.{ap}
 use borrow.Author.Tests.{ne_eqb}
 use Rattle.codes.specs.Codes.{code_set_variable, code_if, code_goto, code_until, code_next}
-use Rattle.effect.specs.Acts.{act_by, acted_to, back_to, back_acted}
-use borrow.Author.Rules.{rules}
+use Rattle.effect.specs.Acts.{act_by, back_acted}
 use Rattle.effect.proofs.act.Goals as goal
 
 pub returns-in-16 : goal.returns-in-16

@@ -2,7 +2,6 @@
 use borrow.Author.Tests.{eq-eqb, ne_eqb}
 use Rattle.codes.specs.Codes.{code_gosub}
 use Rattle.effect.specs.Acts.{call_turn}
-use borrow.Author.Rules.{rules}
 use Rattle.effect.proofs.call_turn.Goals as goal
 
 pub returns-then-code-eq-GOSUB : goal.returns-then-code-eq-GOSUB

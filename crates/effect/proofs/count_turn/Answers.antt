@@ -2,7 +2,6 @@
 use borrow.Author.Tests.{eq-eqb, ne_eqb}
 use Rattle.codes.specs.Codes.{code_for}
 use Rattle.effect.specs.Acts.{count_turn}
-use borrow.Author.Rules.{rules}
 use Rattle.effect.proofs.count_turn.Goals as goal
 
 pub returns-then-code-eq-FOR : goal.returns-then-code-eq-FOR

@@ -1,12 +1,7 @@
 -- `input_string` meets its contract: by the reply. Assumes nothing.
 -- the reply is within the slots
-use Prim.Native.Nat.{◌≤◌}
-use mathlib.Core.Path.{sym}
-use native.Mathlib.Omega.{arith}
 use lib.ListN.{length}
-use lib.Seq.{length-take-le}
-use Rattle.effect.proofs.Answers.{no-reply, reply-stored}
-use borrow.Author.Rules.{rules}
+use Rattle.effect.proofs.Answers.{reply-stored}
 use Rattle.effect.proofs.input_string.Goals as goal
 
 pub returns-in-Line : goal.returns-in-Line

@@ -2,7 +2,6 @@
 use borrow.Author.Tests.{eq-eqb, ne_eqb}
 use Rattle.codes.specs.Codes.{code_do}
 use Rattle.effect.specs.Acts.{loop_turn}
-use borrow.Author.Rules.{rules}
 use Rattle.effect.proofs.loop_turn.Goals as goal
 
 pub returns-then-code-eq-DO : goal.returns-then-code-eq-DO

@@ -1,9 +1,8 @@
 -- `print_string` meets its contract: the string runs to its CR, or is not there. Assumes nothing.
 -- the string was found
 use native.Mathlib.Omega.{arith}
-use Rattle.world.proofs.memory.Strings.{StringRuns, string-to, string-no}
-use Rattle.effect.proofs.Answers.{no-string, string-put}
-use borrow.Author.Rules.{rules}
+use Rattle.world.proofs.memory.Strings.{StringRuns, string-to}
+use Rattle.effect.proofs.Answers.{string-put}
 use Rattle.effect.proofs.print_string.Goals as goal
 
 pub slice_bounds-write_item-end : goal.slice_bounds-write_item-end

@@ -1,6 +1,6 @@
 -- `assign` meets its contract: the relations and variables that are left do what is left of the whole. Assumes nothing.
-use Prim.Native.Nat.{suc, ◌+◌, ◌-◌, ◌≤◌}
-use mathlib.Core.Path.{◌≡◌, refl, sym, ◌∙◌}
+use Prim.Native.Nat.{◌+◌, ◌-◌, ◌≤◌}
+use mathlib.Core.Path.{refl, sym, ◌∙◌}
 use native.Mathlib.Omega.{arith}
 use borrow.Enum.Refused.{opened}
 use lib.ListN.{length, length-take}

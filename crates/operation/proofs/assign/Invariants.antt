@@ -2,22 +2,13 @@
 -- what was asked of the reader
 -- it always reads a relation
 -- its operations stand in the list, and the stack has room for their values
-use Prim.Native.Nat.{suc, ◌+◌, ◌-◌, ◌≤◌}
-use mathlib.Core.Path.{◌≡◌, refl, sym, ◌∙◌}
-use mathlib.Core.Bool.{true}
-use native.Mathlib.Omega.{arith}
-use lib.ListN.{length, drop, length-take}
-use lib.Seq.{length-take-le}
+use Prim.Native.Nat.{◌-◌}
+use mathlib.Core.Path.{◌≡◌}
+use lib.ListN.{length}
 use Rattle.nibl.specs.found.Read.{replied}
-use Rattle.reader.specs.Answers.{has_room}
-use Rattle.line.specs.Answers.{list_of}
-use Rattle.line.specs.declared.ListRead.TheVariants as list
-use Rattle.line.proofs.Lists.{room_for, room-less}
-use Rattle.line.proofs.InTurn.{left_of, InTurn, one-read, in-turn}
 use Rattle.operation.specs.Operations.{variables_of}
 use Rattle.operation.specs.Stacks.{sources, assigning}
-use Rattle.operation.proofs.Replies.{Remains, begins, replied-out, variables-out, first_reads, remains, refuses}
-use borrow.Author.Rules.{rules}
+use Rattle.operation.proofs.Replies.{Remains}
 use Rattle.operation.proofs.assign.Given as goal
 
 abbrev pub invariant-loop-i : goal.invariant-loop-i

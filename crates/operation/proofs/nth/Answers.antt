@@ -1,7 +1,6 @@
 -- `nth` meets its contract: past the stack or the array there is 0. Assumes nothing.
 use mathlib.Core.Path.{sym}
 use native.Mathlib.Omega.{arith}
-use borrow.Author.Rules.{rules}
 use Rattle.operation.proofs.Stacks.{nth_in, nth-out, nth_past}
 use Rattle.operation.proofs.nth.Goals as goal
 

@@ -2,7 +2,6 @@
 use mathlib.Core.Path.{sym}
 use native.Mathlib.Omega.{arith}
 use lib.ListN.{get_or-eq_default}
-use borrow.Author.Rules.{rules}
 use Rattle.nibl.specs.Tree.{unequal}
 use Rattle.codes.specs.Operators.{operators, op_of}
 use Rattle.operation.proofs.operator.Goals as goal

@@ -1,8 +1,7 @@
 -- `value_by` meets its contract: an arm for each code, and all others are operators. Assumes nothing.
 use mathlib.Core.Path.{ap}
 use borrow.Author.Tests.{ne_eqb}
-use borrow.Author.Rules.{rules}
-use Rattle.nibl.specs.Values.{is, apply}
+use Rattle.nibl.specs.Values.{is}
 use Rattle.operation.specs.Operations.{value_by}
 use Rattle.operation.proofs.value_by.Goals as goal
 

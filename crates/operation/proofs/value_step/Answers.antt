@@ -2,7 +2,6 @@
 use native.Mathlib.Omega.{arith}
 use Rattle.operation.specs.Stacks.{sources}
 use Rattle.operation.proofs.Stacks.{step_is, step-no, top-none, top-put}
-use borrow.Author.Rules.{rules}
 use Rattle.operation.proofs.value_step.Goals as goal
 
 pub returns-in-Is : goal.returns-in-Is

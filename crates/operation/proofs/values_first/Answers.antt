@@ -1,13 +1,10 @@
-use Prim.Native.Nat.{◌+◌, ◌-◌, ◌≤◌}
-use mathlib.Core.Path.{◌≡◌, refl, sym, ap, ◌∙◌}
-use mathlib.Core.List.{[]}
+use mathlib.Core.Path.{refl, sym, ap, ◌∙◌}
 use native.Mathlib.Omega.{arith}
-use lib.ListN.{length, drop}
+use lib.ListN.{drop}
 use Rattle.operation.specs.Operations.{values_first}
-use Rattle.operation.specs.Stacks.{sources, stack_of, top_in}
+use Rattle.operation.specs.Stacks.{sources, stack_of}
 use Rattle.operation.proofs.Stacks.{stack-none, top-none}
 use Rattle.operation.proofs.Firsts.{first_on, first_off, first-effect, first-end}
-use borrow.Author.Rules.{rules}
 use Rattle.operation.proofs.values_first.Goals as goal
 
 pub loop-i-init : goal.loop-i-init

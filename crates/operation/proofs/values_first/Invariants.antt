@@ -1,14 +1,10 @@
 -- `values_first` meets its contract: what is worked out so far stands on the stack. Assumes nothing.
 use Prim.Native.Nat.{◌+◌, ◌-◌, ◌≤◌}
-use mathlib.Core.Path.{◌≡◌, refl, sym, ap, ◌∙◌}
+use mathlib.Core.Path.{◌≡◌}
 use mathlib.Core.List.{[]}
-use native.Mathlib.Omega.{arith}
 use lib.ListN.{length, drop}
 use Rattle.operation.specs.Operations.{values_first}
 use Rattle.operation.specs.Stacks.{sources, stack_of, top_in}
-use Rattle.operation.proofs.Stacks.{stack-none, top-none}
-use Rattle.operation.proofs.Firsts.{first_on, first_off, first-effect, first-end}
-use borrow.Author.Rules.{rules}
 use Rattle.operation.proofs.values_first.Given as goal
 
 abbrev pub invariant-loop-i : goal.invariant-loop-i

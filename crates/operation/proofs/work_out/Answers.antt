@@ -1,13 +1,9 @@
-use Prim.Native.Nat.{◌-◌, ◌≤◌}
-use mathlib.Core.Path.{◌≡◌, refl, sym, ap, ◌∙◌}
-use mathlib.Core.List.{[]}
+use mathlib.Core.Path.{refl, sym, ap, ◌∙◌}
 use native.Mathlib.Omega.{arith}
-use lib.ListN.{length, drop}
 use Rattle.nibl.specs.Values.{is}
 use Rattle.operation.specs.Operations.{work_out}
-use Rattle.operation.specs.Stacks.{sources, stack_of, top_in}
+use Rattle.operation.specs.Stacks.{sources, stack_of}
 use Rattle.operation.proofs.Stacks.{work-on, work-off, work-end, stack-none, top-none, topmost}
-use borrow.Author.Rules.{rules}
 use Rattle.operation.proofs.work_out.Goals as goal
 
 pub loop-i-init : goal.loop-i-init

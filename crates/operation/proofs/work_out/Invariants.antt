@@ -1,14 +1,10 @@
 -- `work_out` meets its contract: what is worked out so far stands on the stack. Assumes nothing.
 use Prim.Native.Nat.{◌-◌, ◌≤◌}
-use mathlib.Core.Path.{◌≡◌, refl, sym, ap, ◌∙◌}
+use mathlib.Core.Path.{◌≡◌}
 use mathlib.Core.List.{[]}
-use native.Mathlib.Omega.{arith}
 use lib.ListN.{length, drop}
-use Rattle.nibl.specs.Values.{is}
 use Rattle.operation.specs.Operations.{work_out}
 use Rattle.operation.specs.Stacks.{sources, stack_of, top_in}
-use Rattle.operation.proofs.Stacks.{work-on, work-off, work-end, stack-none, top-none, topmost}
-use borrow.Author.Rules.{rules}
 use Rattle.operation.proofs.work_out.Given as goal
 
 abbrev pub invariant-loop-i : goal.invariant-loop-i

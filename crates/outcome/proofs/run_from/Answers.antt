@@ -1,5 +1,5 @@
 -- `run_from` meets its contract: the record is taken apart for the run, and put together after it. Assumes nothing.
-use mathlib.Core.Path.{◌≡◌, sym, ap, ◌∙◌}
+use mathlib.Core.Path.{sym, ap, ◌∙◌}
 use lib.ListN.{length}
 use Rattle.nibl.specs.Meaning.{World}
 use Rattle.nibl.specs.Record.{place, mark, position_of}

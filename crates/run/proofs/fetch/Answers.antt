@@ -10,7 +10,7 @@ use Rattle.nibl.specs.Runs.{line_from, text_from}
 use Rattle.nibl.specs.Record.{position_of}
 use Rattle.page.specs.Walk.{begin_of}
 use Rattle.line.proofs.Lists.{First}
-use Rattle.run.specs.Fetching.{FetchRoom, TextRoom}
+use Rattle.run.specs.Fetching.{FetchRoom}
 use Rattle.run.proofs.Members.{no_member, one-member, member-ends, member-room, member-fetched, fetch-none, fetch-some}
 use Rattle.run.proofs.fetch.Goals.{In-Member}
 use Rattle.run.proofs.fetch.Goals as goal

@@ -1,18 +1,17 @@
 -- `run_steps` meets its contract: what is left of the run, after the steps so far, leaves what the whole run does. Assumes nothing.
-use Prim.Native.Nat.{ℕ, ◌+◌, ◌-◌, ◌≤◌, ◌<◌}
+use Prim.Native.Nat.{ℕ, ◌+◌, ◌-◌, ◌<◌}
 use mathlib.Core.List.{List, [], ◌∷◌}
 use mathlib.Core.Path.{◌≡◌, refl, sym, ap, ◌∙◌}
 use native.Mathlib.Omega.{arith}
-use lib.ListN.{length, take, drop}
+use lib.ListN.{length, take}
 use lib.Seq.{length-take-le}
 use Rattle.nibl.specs.Page.{line_of, places_of}
 use Rattle.nibl.specs.Record.{mark, place, position, position_of}
 use Rattle.nibl.specs.Meaning.{World, Env, Done, go}
-use Rattle.nibl.specs.Runs.{Standing, stop_at, run_from, run_outcome}
+use Rattle.nibl.specs.Runs.{stop_at, run_from, run_outcome}
 use Rattle.nibl.specs.declared.Place.{Place}
 use Rattle.nibl.specs.declared.Parts.{Parts}
 use Rattle.nibl.specs.declared.Onward.{Onward}
-use Rattle.nibl.specs.declared.access.Sight.{Sight}
 use Rattle.page.specs.Standing.{Stands}
 use Rattle.page.proofs.Standing.{stands-inside, fetches-read}
 use Rattle.record.specs.Fit.{Fit}
@@ -20,13 +19,11 @@ use Rattle.world.specs.declared.jump.Way.{Way}
 use Rattle.world.specs.Turns.{gosubs_in, dos_in, fors_in}
 use Rattle.operation.specs.Operations.{run_ops}
 use Rattle.effect.specs.Worlds.{world_with, env_with, did, did_in}
-use Rattle.statement.specs.Lending.{Fair}
 use Rattle.statement.specs.Plain.{Around}
 use Rattle.statement.proofs.Plainly.{plain-ends, plain-calls, plain-loops, plain-counts, plain-needs, plain-within}
 use Rattle.run.specs.declared.Led.{Led}
 use Rattle.run.specs.declared.Led.TheVariants as by
 use Rattle.run.specs.StepEnds.{StepEnd, led_to, done_end, step_of, tally}
-use Rattle.run.specs.Fetching.{fetch_of, fetched}
 use Rattle.run.specs.Running.{ran_to, ran_in, pause_of}
 use Rattle.run.proofs.Starts.{ready-fair}
 use Rattle.run.proofs.Members.{NextMember, fetch-found, fetch-past, member-steps}

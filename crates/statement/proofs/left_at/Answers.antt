@@ -8,8 +8,7 @@ use borrow.Author.Tests.{eqb-true, eqb-false}
 use lib.Dec.{eqb}
 use Rattle.page.proofs.Walk.{by_cases}
 use Rattle.codes.specs.Codes.{code_gosub, code_do, code_for}
-use Rattle.statement.proofs.Plainly.{left-needs, left-calls, left-loops, left-counts}
-use borrow.Author.Rules.{rules}
+use Rattle.statement.proofs.Plainly.{left-calls, left-loops, left-counts}
 use Rattle.statement.proofs.left_at.Goals as goal
 
 one_of_two : (n m : ℕ) → n ≤ m → m < n + 2 → (m ≡ n) ⊎ (m ≡ n + 1)

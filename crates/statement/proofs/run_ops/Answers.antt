@@ -1,6 +1,5 @@
 -- `run_ops` meets its contract: it runs the list from its start, with no values. Assumes nothing.
-use mathlib.Core.Path.{◌≡◌, ap, ◌∙◌}
-use native.Mathlib.Omega.{arith}
+use mathlib.Core.Path.{ap, ◌∙◌}
 use lib.ListN.{length}
 use Rattle.operation.specs.Operations.{run_ops}
 use Rattle.operation.proofs.Stacks.{stack-none}

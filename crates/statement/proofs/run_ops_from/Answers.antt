@@ -1,7 +1,7 @@
 -- `run_ops_from` meets its contract: what is left of the list, run on the world and the values so far, does what the whole list
 -- does. Assumes nothing.
-use Prim.Native.Nat.{◌+◌, ◌≤◌}
-use mathlib.Core.Path.{◌≡◌, sym, ap, ◌∙◌}
+use Prim.Native.Nat.{◌+◌}
+use mathlib.Core.Path.{sym, ap, ◌∙◌}
 use native.Mathlib.Omega.{arith}
 use lib.ListN.{length, drop}
 use Rattle.nibl.specs.Meaning.{World, Env}

@@ -2,20 +2,12 @@
 -- does. Assumes nothing.
 -- at the head of the loop: the list, the world, the values
 -- where the function returns: a value is refused; the rest of the list is taken; an effect ends the statement; the list ends
-use Prim.Native.Nat.{ℕ, ◌+◌, ◌-◌, ◌≤◌}
-use mathlib.Core.Path.{◌≡◌, refl, sym, ap, ◌∙◌}
-use mathlib.Core.List.{List}
-use native.Mathlib.Omega.{arith}
-use borrow.Author.Tests.{not-true, not-false}
+use Prim.Native.Nat.{◌-◌, ◌≤◌}
+use mathlib.Core.Path.{◌≡◌}
 use lib.ListN.{length, drop}
-use Rattle.nibl.specs.Meaning.{World, Env}
-use Rattle.line.proofs.Lists.{part-rest}
 use Rattle.operation.specs.Operations.{run_ops}
 use Rattle.operation.specs.Stacks.{stack_of}
-use Rattle.operation.proofs.Stacks.{stack-none}
 use Rattle.effect.specs.Worlds.{world_with, env_with}
-use Rattle.statement.proofs.Running.{value_on, value-off, last-run, effect-on, effect-off, run_end}
-use borrow.Author.Rules.{rules}
 use Rattle.statement.proofs.run_ops_from.Given as goal
 
 abbrev pub invariant-loop-i : goal.invariant-loop-i

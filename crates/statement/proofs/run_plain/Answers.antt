@@ -1,16 +1,12 @@
-use Prim.Native.Nat.{ℕ, ◌-◌, ◌≤◌, ◌<◌}
-use mathlib.Core.Path.{◌≡◌, refl, sym, ap, ◌∙◌}
+use Prim.Native.Nat.{ℕ}
+use mathlib.Core.Path.{◌≡◌, sym, ap, ◌∙◌}
 use mathlib.Core.List.{List, []}
-use mathlib.Core.Option.{some}
 use native.Mathlib.Omega.{arith}
-use lib.ListN.{length, drop, get_or}
+use lib.ListN.{drop, get_or}
 use Rattle.codes.specs.Codes.{code_in, argument_in}
-use Rattle.world.specs.Turns.{way_of}
-use Rattle.world.specs.declared.jump.Way.{Way}
 use Rattle.nibl.specs.Values.{is}
 use Rattle.operation.specs.Operations.{run_ops, at_effect, values_first}
 use Rattle.operation.specs.Stacks.{stack_of, sources}
-use Rattle.effect.specs.Acts.{acted_to, act_by}
 use Rattle.effect.proofs.Acts.{act-not}
 use Rattle.statement.specs.Plain.{InView, Around, view_of, env_from, world_from}
 use Rattle.statement.proofs.Running.{run_end}

@@ -4,24 +4,11 @@
 -- the operation that is next, and how high the stack is
 -- where it does not act at once: the variables are as they were
 -- where an operation acted at once, and how it ended
-use Prim.Native.Nat.{ℕ, ◌-◌, ◌≤◌, ◌<◌}
-use mathlib.Core.Path.{◌≡◌, refl, sym, ap, ◌∙◌}
-use mathlib.Core.List.{List, []}
-use mathlib.Core.Option.{some}
-use native.Mathlib.Omega.{arith}
-use borrow.Author.Tests.{not-true, not-false}
-use lib.ListN.{length, drop, get_or}
-use Rattle.codes.specs.Codes.{code_in, argument_in}
-use Rattle.world.specs.Turns.{way_of}
-use Rattle.world.specs.declared.jump.Way.{Way}
-use Rattle.operation.specs.Operations.{run_ops}
-use Rattle.operation.specs.Stacks.{stack_of, top_in}
-use Rattle.effect.specs.Acts.{acted_to, act_by}
-use Rattle.effect.proofs.Acts.{act-not}
-use Rattle.statement.specs.Plain.{InView, Around, view_of, env_from, world_from}
-use Rattle.statement.proofs.Running.{run_end}
-use Rattle.statement.proofs.Plainly.{Reaches, plain-refused, plain-reached, plain-on, plain-off}
-use borrow.Author.Rules.{rules}
+use Prim.Native.Nat.{◌-◌}
+use mathlib.Core.Path.{◌≡◌}
+use lib.ListN.{length}
+use Rattle.statement.specs.Plain.{view_of}
+use Rattle.statement.proofs.Plainly.{Reaches}
 use Rattle.statement.proofs.run_plain.Given as goal
 
 abbrev pub invariant-loop-n : goal.invariant-loop-n
