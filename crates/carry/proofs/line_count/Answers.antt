@@ -12,19 +12,27 @@ loop-size-init c = (c.size_at-size.ensures, (omega arith, omega arith))
 
 pub overflow_add-k : goal.overflow_add-k
 overflow_add-k c =
-    let p = c.args.page.now in let t = (let it : (let p = c.args.page.now in let l = c.loop-size in (l.at + l.size ≤ length p + 1) × ((l.at + 3 ≤ length p) × (length (records_of (drop l.at p)) ≡ 1 + length (records_of (drop (l.at + l.size) p))))) = let p = c.args.page.now in let l = c.loop-size in let m = met p l.at l.size l.invariant.0 c.loop-size-test.true in (m.next, (m.inside, omega (arith, ap length m.records))) in it) in omega (arith, lines-most p)
+    let l = c.loop-size in
+    let m = met c.args.page.now l.at l.size l.invariant.0 c.loop-size-test.true in
+    omega (arith, m.next, m.inside, lines-most c.args.page.now)
 
 pub overflow_add-at : goal.overflow_add-at
 overflow_add-at c =
-    let t = (let it : (let p = c.args.page.now in let l = c.loop-size in (l.at + l.size ≤ length p + 1) × ((l.at + 3 ≤ length p) × (length (records_of (drop l.at p)) ≡ 1 + length (records_of (drop (l.at + l.size) p))))) = let p = c.args.page.now in let l = c.loop-size in let m = met p l.at l.size l.invariant.0 c.loop-size-test.true in (m.next, (m.inside, omega (arith, ap length m.records))) in it) in omega arith
+    let l = c.loop-size in
+    let m = met c.args.page.now l.at l.size l.invariant.0 c.loop-size-test.true in
+    omega (arith, m.next, m.inside)
 
 pub loop-size-smaller : goal.loop-size-smaller
 loop-size-smaller c =
-    let t = (let it : (let p = c.args.page.now in let l = c.loop-size in (l.at + l.size ≤ length p + 1) × ((l.at + 3 ≤ length p) × (length (records_of (drop l.at p)) ≡ 1 + length (records_of (drop (l.at + l.size) p))))) = let p = c.args.page.now in let l = c.loop-size in let m = met p l.at l.size l.invariant.0 c.loop-size-test.true in (m.next, (m.inside, omega (arith, ap length m.records))) in it) in omega arith
+    let l = c.loop-size in
+    let m = met c.args.page.now l.at l.size l.invariant.0 c.loop-size-test.true in
+    omega (arith, m.next, m.inside)
 
 pub loop-size-preserved : goal.loop-size-preserved
 loop-size-preserved c =
-    let t = (let it : (let p = c.args.page.now in let l = c.loop-size in (l.at + l.size ≤ length p + 1) × ((l.at + 3 ≤ length p) × (length (records_of (drop l.at p)) ≡ 1 + length (records_of (drop (l.at + l.size) p))))) = let p = c.args.page.now in let l = c.loop-size in let m = met p l.at l.size l.invariant.0 c.loop-size-test.true in (m.next, (m.inside, omega (arith, ap length m.records))) in it) in (c.size_at-size-in-loop-size.ensures, (t.0, omega (arith, c.loop-size.invariant.1.1)))
+    let l = c.loop-size in
+    let m = met c.args.page.now l.at l.size l.invariant.0 c.loop-size-test.true in
+    (c.size_at-size-in-loop-size.ensures, (m.next, omega (arith, ap length m.records, l.invariant.1.1)))
 
 pub returns : goal.returns
 returns c =

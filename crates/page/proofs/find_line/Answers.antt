@@ -20,7 +20,7 @@ returns-then-number_at-n c =
     let a = c.args in
     let p = a.page.now in
     let n = a.number.0 in
-    let m = (let it : (let p = c.args.page.now in let q = drop c.loop-n.at p in Stood p c.loop-n.at (length_at q)) = stood _ _ _ refl (sym c.has_record.ensures ∙ c.loop-n-test.true) in it) in
+    let m : Stood p l.at (length_at (drop l.at p)) = stood _ _ _ refl (sym c.has_record.ensures ∙ c.loop-n-test.true) in
     let e = sym c.number_at.ensures ∙ c.if-number_at-n.true in
     let here : position_in n l.at (records_of (drop l.at p)) ≡ some l.at = rw (m.records, eq-eqb (line_at (drop l.at p)) n e) in
     c.found_at.ensures
@@ -32,7 +32,7 @@ loop-n-preserved c =
     let a = c.args in
     let p = a.page.now in
     let n = a.number.0 in
-    let m = (let it : (let p = c.args.page.now in let q = drop c.loop-n.at p in Stood p c.loop-n.at (length_at q)) = stood _ _ _ refl (sym c.has_record.ensures ∙ c.loop-n-test.true) in it) in
+    let m : Stood p l.at (length_at (drop l.at p)) = stood _ _ _ refl (sym c.has_record.ensures ∙ c.loop-n-test.true) in
     let q = drop l.at p in
     let no : line_at q ≡ n → ⊥ = λ f. c.if-number_at-n.false (c.number_at.ensures ∙ f) in
     let past : position_in n l.at (records_of q) ≡ position_in n (l.at + size (record_at q)) (records_of (drop (l.at + length_at q) p)) = rw (m.records, ne_eqb (line_at q) n no) in

@@ -5,12 +5,18 @@ use native.Mathlib.Omega.{arith}
 use lib.ListN.{drop}
 use borrow.Author.Tests.{eq-eqb, ne_eqb, lt-ltb, le-ltb}
 use Rattle.nibl.specs.Page.{records_of, line_at, length_at, used_by, used, size}
-use Rattle.page.specs.declared.Seat.{Seat}
 use Rattle.page.specs.Edits.{Seated, seat_in, seat_of}
 use Rattle.page.specs.Walk.{record_at, cut}
 use Rattle.page.proofs.Walk.{Stood, stood, stops, cut_in, cut_most, drop-cut, not-true, size_is}
 use Rattle.page.proofs.Edits.{seated}
 use Rattle.page.proofs.find_seat.Goals as goal
+
+-- the seat is here
+here : (page : List ℕ) (n at gone : ℕ) → Stood page at (length_at (drop at page)) → seat_in n (cut page at) (records_of (drop at page)) ≡ seat_of page n
+    → cut page at + used_by (records_of (drop at page)) ≡ used page → seat_in n at (records_of (drop at page)) ≡ record { at = at; gone = gone } → Seated page n (record { at = at; gone = gone })
+here page n at gone m is rest e =
+    seated (sym e ∙ ap (λ (x : ℕ). seat_in n x (records_of (drop at page))) (sym m.here) ∙ is) (omega (arith, m.inside))
+    (ap (λ (x : ℕ). x + used_by (records_of (drop at page))) (sym m.here) ∙ rest)
 
 pub loop-line-init : goal.loop-line-init
 unfolding seat_of used
@@ -25,10 +31,10 @@ returns-then-line-n c =
     let a = c.args in
     let n = a.number.0 in
     let q = drop l.at a.page.now in
-    let m = (let it : (let p = c.args.page.now in let q = drop c.loop-line.at p in Stood p c.loop-line.at (length_at q)) = stood _ _ _ refl (sym c.has_record.ensures ∙ c.loop-line-test.true) in it) in
+    let m : Stood a.page.now l.at (length_at q) = stood _ _ _ refl (sym c.has_record.ensures ∙ c.loop-line-test.true) in
     let e = sym c.number_at-line.ensures ∙ c.if-line-n.true in
     let s = c.size_at-size.ensures ∙ size_is q (not-true _ (sym c.has_record.ensures ∙ c.loop-line-test.true)) in
-    (let it : (gone : ℕ) → (let p = c.args.page.now in let n = c.args.number.0 in let at = c.loop-line.at in let s : Seat = record { at = at; gone = gone } in seat_in n at (records_of (drop at p)) ≡ s → Seated p n s) = λ gone. λ e. let p = c.args.page.now in let n = c.args.number.0 in let l = c.loop-line in let m = (let it : (let p = c.args.page.now in let q = drop c.loop-line.at p in Stood p c.loop-line.at (length_at q)) = stood _ _ _ refl (sym c.has_record.ensures ∙ c.loop-line-test.true) in it) in seated (sym e ∙ ap (λ (x : ℕ). seat_in n x (records_of (drop l.at p))) (sym m.here) ∙ l.invariant.0) (omega (arith, m.inside)) (ap (λ (x : ℕ). x + used_by (records_of (drop l.at p))) (sym m.here) ∙ l.invariant.1) in it) c.size_at-size.result (rw (m.records, le-ltb (line_at q) n (omega arith), eq-eqb (line_at q) n e, s))
+    here a.page.now n l.at c.size_at-size.result m l.invariant.0 l.invariant.1 (rw (m.records, le-ltb (line_at q) n (omega arith), eq-eqb (line_at q) n e, s))
 
 pub returns-then-n-line : goal.returns-then-n-line
 returns-then-n-line c =
@@ -36,10 +42,10 @@ returns-then-n-line c =
     let a = c.args in
     let n = a.number.0 in
     let q = drop l.at a.page.now in
-    let m = (let it : (let p = c.args.page.now in let q = drop c.loop-line.at p in Stood p c.loop-line.at (length_at q)) = stood _ _ _ refl (sym c.has_record.ensures ∙ c.loop-line-test.true) in it) in
+    let m : Stood a.page.now l.at (length_at q) = stood _ _ _ refl (sym c.has_record.ensures ∙ c.loop-line-test.true) in
     let e = c.number_at-line.ensures in
     let no : line_at q ≡ n → ⊥ = λ f. c.if-line-n.false (e ∙ f) in
-    (let it : (gone : ℕ) → (let p = c.args.page.now in let n = c.args.number.0 in let at = c.loop-line.at in let s : Seat = record { at = at; gone = gone } in seat_in n at (records_of (drop at p)) ≡ s → Seated p n s) = λ gone. λ e. let p = c.args.page.now in let n = c.args.number.0 in let l = c.loop-line in let m = (let it : (let p = c.args.page.now in let q = drop c.loop-line.at p in Stood p c.loop-line.at (length_at q)) = stood _ _ _ refl (sym c.has_record.ensures ∙ c.loop-line-test.true) in it) in seated (sym e ∙ ap (λ (x : ℕ). seat_in n x (records_of (drop l.at p))) (sym m.here) ∙ l.invariant.0) (omega (arith, m.inside)) (ap (λ (x : ℕ). x + used_by (records_of (drop l.at p))) (sym m.here) ∙ l.invariant.1) in it) 0 (rw (m.records, le-ltb (line_at q) n (omega arith), ne_eqb (line_at q) n no))
+    here a.page.now n l.at 0 m l.invariant.0 l.invariant.1 (rw (m.records, le-ltb (line_at q) n (omega arith), ne_eqb (line_at q) n no))
 
 pub loop-line-preserved : goal.loop-line-preserved
 loop-line-preserved c =
@@ -48,7 +54,7 @@ loop-line-preserved c =
     let p = a.page.now in
     let n = a.number.0 in
     let q = drop l.at p in
-    let m = (let it : (let p = c.args.page.now in let q = drop c.loop-line.at p in Stood p c.loop-line.at (length_at q)) = stood _ _ _ refl (sym c.has_record.ensures ∙ c.loop-line-test.true) in it) in
+    let m : Stood a.page.now l.at (length_at q) = stood _ _ _ refl (sym c.has_record.ensures ∙ c.loop-line-test.true) in
     let e = c.number_at-line.ensures in
     let less : line_at q < n = omega (arith, c.if-line-n.false) in
     let past : seat_in n l.at (records_of q) ≡ seat_in n (l.at + size (record_at q)) (records_of (drop (l.at + length_at q) p)) = rw (m.records, lt-ltb (line_at q) n less) in (

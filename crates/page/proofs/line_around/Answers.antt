@@ -21,19 +21,21 @@ pub returns-then-p-at : goal.returns-then-p-at
 returns-then-p-at c =
     let l = c.loop-size in
     let p = c.args.page.now in
-    let m = (let it : Met c.args.page.now c.loop-size.at c.loop-size.size = let l = c.loop-size in met _ l.at l.size l.invariant.1.1.0 c.loop-size-test.true in it) in
+    let m : Met p l.at l.size = met _ l.at l.size l.invariant.1.1.0 c.loop-size-test.true in
     let x = c.args.p in
     c.line_at.ensures ∙ sym (rw (m.records, m.long, lt-ltb (x - l.at) l.size c.if-p-at.true)) ∙ l.invariant.1.1.1
 
 pub loop-size-smaller : goal.loop-size-smaller
 loop-size-smaller c =
-    let m = (let it : Met c.args.page.now c.loop-size.at c.loop-size.size = let l = c.loop-size in met _ l.at l.size l.invariant.1.1.0 c.loop-size-test.true in it) in omega arith
+    let l = c.loop-size in
+    let m : Met c.args.page.now l.at l.size = met _ l.at l.size l.invariant.1.1.0 c.loop-size-test.true in
+    omega arith
 
 pub loop-size-preserved : goal.loop-size-preserved
 loop-size-preserved c =
     let l = c.loop-size in
     let p = c.args.page.now in
-    let m = (let it : Met c.args.page.now c.loop-size.at c.loop-size.size = let l = c.loop-size in met _ l.at l.size l.invariant.1.1.0 c.loop-size-test.true in it) in
+    let m : Met p l.at l.size = met _ l.at l.size l.invariant.1.1.0 c.loop-size-test.true in
     let x = c.args.p in
     let h : l.size ≤ x - l.at = c.if-p-at.false in
     let e : x - l.at - l.size ≡ x - (l.at + l.size) = omega arith in (

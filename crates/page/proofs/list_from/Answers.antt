@@ -16,7 +16,7 @@ returns-in_default c =
     let a = c.args in
     let p = a.page.now in
     let n = a.number.0 in
-    let m = (let it : Met c.args.page.now c.loop-size.at c.loop-size.size = let l = c.loop-size in met _ l.at l.size l.invariant.1.0 c.loop-size-test.true in it) in
+    let m : Met p l.at l.size = met _ l.at l.size l.invariant.1.0 c.loop-size-test.true in
     let r = record_at (drop l.at p) in
     let h = rw c.in_default.is at c.list_here.ensures in
     sym (list_full n r (records_of (drop (l.at + l.size) p)) h)
@@ -25,7 +25,9 @@ returns-in_default c =
 
 pub overflow_add-at : goal.overflow_add-at
 overflow_add-at c =
-    let m = (let it : Met c.args.page.now c.loop-size.at c.loop-size.size = let l = c.loop-size in met _ l.at l.size l.invariant.1.0 c.loop-size-test.true in it) in omega arith
+    let l = c.loop-size in
+    let m : Met c.args.page.now l.at l.size = met _ l.at l.size l.invariant.1.0 c.loop-size-test.true in
+    omega arith
 
 pub loop-size-preserved : goal.loop-size-preserved
 loop-size-preserved c =
@@ -33,14 +35,14 @@ loop-size-preserved c =
     let a = c.args in
     let p = a.page.now in
     let n = a.number.0 in
-    let m = (let it : Met c.args.page.now c.loop-size.at c.loop-size.size = let l = c.loop-size in met _ l.at l.size l.invariant.1.0 c.loop-size-test.true in it) in
+    let m : Met p l.at l.size = met _ l.at l.size l.invariant.1.0 c.loop-size-test.true in
     let r = record_at (drop l.at p) in
     let h = rw c.in-To.is at c.list_here.ensures in (
       m.next,
       (
         c.size_at-size-in-loop-size.ensures,
         (
-          c.output-1.given ∙ l.invariant.1.1.0,
+          omega (arith, l.invariant.1.1.0),
           sym (list_on n r (records_of (drop (l.at + l.size) p)) _ h)
               ∙ ap (λ (rs : List Stored). listing n rs l.output l.pos) (sym m.records)
               ∙ l.invariant.1.1.1,

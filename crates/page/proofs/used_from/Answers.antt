@@ -9,7 +9,8 @@ use Rattle.page.proofs.used_from.Goals as goal
 
 pub loop-at-preserved : goal.loop-at-preserved
 loop-at-preserved c =
-    let m = (let it : Stood c.args.page.now c.loop-at.at c.length_at-at.result = stood _ _ _ c.length_at-at.ensures (sym c.has_record.ensures ∙ c.loop-at-test.true) in it) in omega (arith, ap used_by m.records, c.loop-at.invariant)
+    let m : Stood c.args.page.now c.loop-at.at c.length_at-at.result = stood _ _ _ c.length_at-at.ensures (sym c.has_record.ensures ∙ c.loop-at-test.true) in
+    omega (arith, ap used_by m.records, c.loop-at.invariant)
 
 pub returns : goal.returns
 returns c =

@@ -1,7 +1,5 @@
-use Prim.Native.Nat.{◌+◌, ◌≤◌}
 use mathlib.Core.Path.{sym}
 use native.Mathlib.Omega.{arith}
-use lib.ListN.{length}
 use Rattle.page.proofs.Walk.{met, past}
 use Rattle.table.proofs.Index.{describes-none}
 use Rattle.table.proofs.Compared.{compare-start, compare-short, compare-other, compare-step, compare-end}
@@ -27,11 +25,15 @@ returns-then-table-k c =
 
 pub overflow_add-at : goal.overflow_add-at
 overflow_add-at c =
-    let t = (let it : (let p = c.args.page.now in let l = c.loop-size in (l.at + 3 ≤ length p) × (l.at + l.size ≤ length p + 1)) = let l = c.loop-size in let m = met c.args.page.now l.at l.size l.invariant.1 c.loop-size-test.true in (m.inside, m.next) in it) in omega arith
+    let l = c.loop-size in
+    let m = met c.args.page.now l.at l.size l.invariant.1 c.loop-size-test.true in
+    omega (arith, m.inside, m.next)
 
 pub loop-size-smaller : goal.loop-size-smaller
 loop-size-smaller c =
-    let t = (let it : (let p = c.args.page.now in let l = c.loop-size in (l.at + 3 ≤ length p) × (l.at + l.size ≤ length p + 1)) = let l = c.loop-size in let m = met c.args.page.now l.at l.size l.invariant.1 c.loop-size-test.true in (m.inside, m.next) in it) in omega (arith, c.loop-size-test.true)
+    let l = c.loop-size in
+    let m = met c.args.page.now l.at l.size l.invariant.1 c.loop-size-test.true in
+    omega (arith, m.inside, m.next, c.loop-size-test.true)
 
 pub loop-size-preserved : goal.loop-size-preserved
 loop-size-preserved c =

@@ -1,7 +1,5 @@
-use Prim.Native.Nat.{◌+◌, ◌≤◌, ◌<◌}
 use mathlib.Core.Path.{sym, ◌∙◌}
 use native.Mathlib.Omega.{arith}
-use lib.ListN.{length}
 use Rattle.page.proofs.Walk.{past}
 use Rattle.page.proofs.Tables.{lines-most}
 use Rattle.table.proofs.Index.{kept-some}
@@ -10,31 +8,44 @@ use Rattle.table.proofs.refill.Goals as goal
 
 pub overflow_cast-table : goal.overflow_cast-table
 overflow_cast-table c =
-    let t = (let it : (let p = c.args.page.now in let l = c.loop-size in (l.at + 3 ≤ length p) × ((l.at + l.size ≤ length p + 1) × ((length p ≤ 4096) × (l.k + 1 < length l.table)))) = let l = c.loop-size in fill-room l.size l.invariant.0 l.invariant.1 c.loop-size-test.true in it) in omega arith
+    let l = c.loop-size in
+    let t = fill-room l.size l.invariant.0 l.invariant.1 c.loop-size-test.true in
+    omega arith
 
 pub overflow_add-table : goal.overflow_add-table
 overflow_add-table c =
-    let t = (let it : (let p = c.args.page.now in let l = c.loop-size in (l.at + 3 ≤ length p) × ((l.at + l.size ≤ length p + 1) × ((length p ≤ 4096) × (l.k + 1 < length l.table)))) = let l = c.loop-size in fill-room l.size l.invariant.0 l.invariant.1 c.loop-size-test.true in it) in omega arith
+    let l = c.loop-size in
+    let t = fill-room l.size l.invariant.0 l.invariant.1 c.loop-size-test.true in
+    omega arith
 
 pub offset_bounds-table-k : goal.offset_bounds-table-k
 offset_bounds-table-k c =
-    let t = (let it : (let p = c.args.page.now in let l = c.loop-size in (l.at + 3 ≤ length p) × ((l.at + l.size ≤ length p + 1) × ((length p ≤ 4096) × (l.k + 1 < length l.table)))) = let l = c.loop-size in fill-room l.size l.invariant.0 l.invariant.1 c.loop-size-test.true in it) in omega arith
+    let l = c.loop-size in
+    let t = fill-room l.size l.invariant.0 l.invariant.1 c.loop-size-test.true in
+    omega arith
 
 pub bounds-table-k : goal.bounds-table-k
 bounds-table-k c =
-    ((let it : (let p = c.args.page.now in let l = c.loop-size in (l.at + 3 ≤ length p) × ((l.at + l.size ≤ length p + 1) × ((length p ≤ 4096) × (l.k + 1 < length l.table)))) = let l = c.loop-size in fill-room l.size l.invariant.0 l.invariant.1 c.loop-size-test.true in it)).1.1.1
+    let l = c.loop-size in
+    (fill-room l.size l.invariant.0 l.invariant.1 c.loop-size-test.true).1.1.1
 
 pub overflow_add-k : goal.overflow_add-k
 overflow_add-k c =
-    let t = (let it : (let p = c.args.page.now in let l = c.loop-size in (l.at + 3 ≤ length p) × ((l.at + l.size ≤ length p + 1) × ((length p ≤ 4096) × (l.k + 1 < length l.table)))) = let l = c.loop-size in fill-room l.size l.invariant.0 l.invariant.1 c.loop-size-test.true in it) in omega arith
+    let l = c.loop-size in
+    let t = fill-room l.size l.invariant.0 l.invariant.1 c.loop-size-test.true in
+    omega arith
 
 pub overflow_add-at : goal.overflow_add-at
 overflow_add-at c =
-    let t = (let it : (let p = c.args.page.now in let l = c.loop-size in (l.at + 3 ≤ length p) × ((l.at + l.size ≤ length p + 1) × ((length p ≤ 4096) × (l.k + 1 < length l.table)))) = let l = c.loop-size in fill-room l.size l.invariant.0 l.invariant.1 c.loop-size-test.true in it) in omega arith
+    let l = c.loop-size in
+    let t = fill-room l.size l.invariant.0 l.invariant.1 c.loop-size-test.true in
+    omega arith
 
 pub loop-size-smaller : goal.loop-size-smaller
 loop-size-smaller c =
-    let t = (let it : (let p = c.args.page.now in let l = c.loop-size in (l.at + 3 ≤ length p) × ((l.at + l.size ≤ length p + 1) × ((length p ≤ 4096) × (l.k + 1 < length l.table)))) = let l = c.loop-size in fill-room l.size l.invariant.0 l.invariant.1 c.loop-size-test.true in it) in omega (arith, c.loop-size-test.true)
+    let l = c.loop-size in
+    let t = fill-room l.size l.invariant.0 l.invariant.1 c.loop-size-test.true in
+    omega (arith, c.loop-size-test.true)
 
 pub loop-size-preserved : goal.loop-size-preserved
 loop-size-preserved c =
