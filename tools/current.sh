@@ -43,8 +43,8 @@ state() {
     kit_version "$made"
     {
         echo "$machine"
-        find "tools/${0##*/}" tools/current.sh crates.txt "${crates[@]/#/crates/}" -type f -not -path '*/must-fail/*' \
-            -not -path 'crates/*/out/*' -exec sha256sum {} + | sort
+        find "tools/${0##*/}" tools/current.sh crates.txt "${crates[@]/#/crates/}" \( -path 'crates/*/out' -o -path 'crates/*/must-fail' \) -prune \
+            -o -type f -exec sha256sum {} + | sort
     } | sha256sum
 }
 
@@ -80,7 +80,7 @@ progress() {
         elif [ -n "$crate" ] && [[ $line = 'logic=proved '* ]]; then
             seconds=$((SECONDS - began))
             spent=$((spent + seconds)) weighed=$((weighed + $(weight_of "$crate")))
-            left=$(printf '%s\n' "${crates[@]}" | sed "1,/^$crate\$/d" | wc -l)
+            left=$(printf '%s\n' "${crates[@]}" | sed "0,/^$crate\$/d" | wc -l)
             say "$((${#crates[@]} - left)) of ${#crates[@]}: $crate proved ($seconds s), to go: $left, $(minutes $(($(weight_behind "$crate") * spent / weighed)))"
             crate=''
         fi
