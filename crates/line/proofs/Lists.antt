@@ -28,7 +28,6 @@ use Rattle.reader.specs.declared.MemberRead.TheVariants as member
 use Rattle.reader.specs.contracts.MemberRead.{the_type}
 use Rattle.line.specs.Answers.{list_of, members_of}
 use Rattle.line.specs.declared.Ends.TheVariants as ends
-use Rattle.line.specs.declared.ListRead.{ListRead}
 use Rattle.line.specs.declared.ListRead.TheVariants as lists
 use Rattle.line.specs.declared.EndRead.TheVariants as is
 

@@ -1,5 +1,5 @@
 -- A list of operations needs no more room on the stack than it has operations. Assumes nothing.
-use Prim.Native.Nat.{ℕ, suc, max, ◌+◌, ◌≤◌, ◌<◌}
+use Prim.Native.Nat.{ℕ, suc, max, ◌≤◌, ◌<◌}
 use mathlib.Core.List.{List, [], ◌∷◌, ◌++◌}
 use native.Mathlib.Omega.{arith}
 use lib.ListN.{length, length-append}
@@ -9,7 +9,7 @@ use Rattle.nibl.specs.Tree.{Stmt, let_var, let_stat, let_byte, let_copy, let_tex
 use Rattle.relation.specs.Code.{values}
 use Rattle.codes.specs.Codes.{op}
 use Rattle.codes.specs.Operators.{op_number}
-use Rattle.reader.specs.Code.{texts, item_code, items_code, end_code, compile}
+use Rattle.reader.specs.Code.{item_code, items_code, compile}
 use Rattle.reader.specs.Depth.{value_depth, item_depth, items_depth, depth}
 
 -- one operation behind a list of them, and two lists with one behind

@@ -10,7 +10,7 @@ use types.Run.{OneOf, miss}
 use lib.ListN.{length, drop, length-drop}
 use Rattle.nibl.specs.Bytes.{is_space, all}
 use Rattle.nibl.specs.Words.{keywords}
-use Rattle.nibl.specs.Tree.{Stmt, Member}
+use Rattle.nibl.specs.Tree.{Stmt}
 use Rattle.nibl.specs.found.Read.{FrontWord, at_end, step_in, nothing, found, on_step, sign_of, a_sign, fail, key, ends_member}
 use Rattle.nibl.proofs.Words.{ended-sound, ended-complete, true-all, all_true}
 use Rattle.word.specs.declared.Cursor.{Cursor}

@@ -4,7 +4,6 @@ use mathlib.Core.List.{List, [], ◌∷◌}
 use types.Run.{miss}
 use Rattle.line.proofs.Lines.{unnumbered-other, unnumbered-sign, unnumbered-front, typed-command, typed-plain}
 use borrow.Author.Tests.{not-true}
-use borrow.Author.Rules.{rules}
 use borrow.Enum.Refused.{opened}
 use Rattle.line.proofs.at_front.Goals as goal
 

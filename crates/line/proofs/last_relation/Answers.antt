@@ -1,13 +1,10 @@
 use mathlib.Core.Path.{refl, sym, subst, ◌∙◌}
-use native.Mathlib.Omega.{arith}
 use lib.ListN.{drop}
 use Rattle.nibl.specs.found.Read.{read, relation, fail}
 use Rattle.relation.specs.Code.{values}
 use Rattle.relation.specs.Makes.{Makes}
 use Rattle.relation.proofs.Answers.{got, none}
-use Rattle.line.proofs.Lists.{room_for}
 use Rattle.line.proofs.Replies.{key-told, comma-there, comma-none, last_none, last-spaces, last-comma, last-other}
-use borrow.Author.Rules.{rules}
 use Rattle.line.proofs.last_relation.Goals as goal
 
 pub returns-in_default : goal.returns-in_default

@@ -3,7 +3,6 @@ use lib.ListN.{length, drop}
 use mathlib.Core.List.{[], ◌∷◌}
 use types.Run.{miss}
 use Rattle.line.proofs.Lines.{list-number, list-whole, decimal-found, no-decimal}
-use borrow.Author.Rules.{rules}
 use borrow.Enum.Refused.{opened}
 use Rattle.line.proofs.list_from.Goals as goal
 

@@ -1,13 +1,8 @@
-use Prim.Native.Nat.{◌≤◌, ◌-◌}
-use mathlib.Core.Path.{◌≡◌, sym, ◌∙◌}
-use mathlib.Core.Bool.{false}
+use mathlib.Core.Path.{sym, ◌∙◌}
 use native.Mathlib.Omega.{arith}
 use lib.ListN.{length, drop, length-drop}
 use borrow.Enum.Refused.{opened}
 use Rattle.line.proofs.Lists.{no-first-at, first-at, left-fits, list-none, list-ends, list_on, met-here, met-not}
-use borrow.Author.Rules.{rules}
-use Rattle.nibl.specs.found.Read.{reading}
-use Rattle.line.specs.Answers.{members_of}
 use Rattle.line.proofs.members.Goals as goal
 use Rattle.line.proofs.members.Goals.{then-end-p, else-end-p}
 

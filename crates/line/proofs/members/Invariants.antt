@@ -1,12 +1,8 @@
 -- The loop's invariant: what is left of the list decides as the whole list does. Assumes nothing.
 use Prim.Native.Nat.{◌≤◌, ◌-◌}
-use mathlib.Core.Path.{◌≡◌, sym, ◌∙◌}
+use mathlib.Core.Path.{◌≡◌}
 use mathlib.Core.Bool.{false}
-use native.Mathlib.Omega.{arith}
-use lib.ListN.{length, drop, length-drop}
-use mathlib.Core.Logic.{⊎_elim}
-use Rattle.line.proofs.Lists.{no-first-at, first-at, left-fits, list-none, list-ends, list_on, met-here, met-not}
-use borrow.Author.Rules.{rules}
+use lib.ListN.{length, drop}
 use Rattle.nibl.specs.found.Read.{reading}
 use Rattle.line.specs.Answers.{members_of}
 use Rattle.line.proofs.members.Given as goal

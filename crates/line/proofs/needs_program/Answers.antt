@@ -1,11 +1,6 @@
-use Prim.Native.Nat.{ℕ, ◌≤◌, ◌-◌}
-use mathlib.Core.Path.{◌≡◌, sym, ap, ◌∙◌}
-use mathlib.Core.Bool.{false}
+use mathlib.Core.Path.{sym, ◌∙◌}
 use native.Mathlib.Omega.{arith}
-use lib.ListN.{take}
-use Rattle.line.specs.Answers.{some_need}
 use Rattle.line.proofs.Codes.{need-here, need-none}
-use borrow.Author.Rules.{rules}
 use Rattle.line.proofs.needs_program.Goals as goal
 
 pub returns-then-program_only : goal.returns-then-program_only

@@ -3,10 +3,8 @@ use mathlib.Core.Path.{sym, ap, ◌∙◌}
 use mathlib.Core.List.{List, [], ◌∷◌}
 use types.Run.{miss}
 use lib.ListN.{length, drop}
-use Rattle.word.proofs.Standing.{decimal-read}
 use Rattle.line.specs.Answers.{kind_of, line_ops}
 use Rattle.line.proofs.Lines.{blank-end, unblank, no_end, undone, decimal-found, no-decimal, numbered-silent, plain-blank, plain-number, plain-none}
-use borrow.Author.Rules.{rules}
 use borrow.Enum.Refused.{opened}
 use Rattle.line.proofs.plain_line.Goals as goal
 

@@ -1,12 +1,7 @@
-use Prim.Native.Nat.{ℕ}
-use mathlib.Core.Path.{◌≡◌, refl, sym, ap, ◌∙◌}
+use mathlib.Core.Path.{refl, sym, ◌∙◌}
 use native.Mathlib.Omega.{arith}
-use lib.ListN.{length, drop}
-use Rattle.nibl.specs.found.Read.{replied}
-use Rattle.line.specs.Answers.{list_of}
-use Rattle.line.proofs.Lists.{room_for, room-less}
+use lib.ListN.{drop}
 use Rattle.line.proofs.Replies.{key-told, more-none, more-on, no-reply, pair-none, pair_found}
-use borrow.Author.Rules.{rules}
 use Rattle.line.proofs.relations.Goals as goal
 
 pub returns-in_default : goal.returns-in_default

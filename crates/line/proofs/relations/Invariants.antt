@@ -1,12 +1,7 @@
-use Prim.Native.Nat.{ℕ}
-use mathlib.Core.Path.{◌≡◌, refl, sym, ap, ◌∙◌}
-use native.Mathlib.Omega.{arith}
+use mathlib.Core.Path.{◌≡◌}
 use lib.ListN.{length, drop}
 use Rattle.nibl.specs.found.Read.{replied}
 use Rattle.line.specs.Answers.{list_of}
-use Rattle.line.proofs.Lists.{room_for, room-less}
-use Rattle.line.proofs.Replies.{key-told, more-none, more-on, no-reply, pair-none, pair_found}
-use borrow.Author.Rules.{rules}
 use Rattle.line.proofs.relations.Given as goal
 
 abbrev pub invariant-loop-k : goal.invariant-loop-k

@@ -1,15 +1,13 @@
 use Prim.Native.Nat.{ℕ}
 use mathlib.Core.Path.{refl, sym, ap, subst, ◌∙◌}
-use native.Mathlib.Omega.{arith}
 use lib.ListN.{length, replicate}
 use Rattle.nibl.specs.found.Read.{read, relation}
 use Rattle.relation.specs.Code.{values}
 use Rattle.relation.specs.Makes.{Makes}
 use Rattle.line.specs.Answers.{relation_of, relation_ops}
-use Rattle.line.proofs.Lists.{room_for, shut, opened}
+use Rattle.line.proofs.Lists.{opened}
 use Rattle.line.proofs.Replies.{key-told, relation-none, relation-comma, relation-bare}
-use borrow.Author.Tests.{not-true, not-false}
-use borrow.Author.Rules.{rules}
+use borrow.Author.Tests.{not-false}
 use Rattle.line.proofs.reply_relation.Goals as goal
 
 pub returns-in_default : goal.returns-in_default

@@ -5,7 +5,6 @@ use mathlib.Core.List.{List}
 use mathlib.Core.Path.{◌≡◌, sym, ap, ◌∙◌}
 use native.Mathlib.Omega.{arith}
 use lib.ListN.{length, drop}
-use borrow.Author.Rules.{rules}
 use Rattle.nibl.specs.found.Read.{reading}
 use Rattle.nibl.specs.Page.{text_at, ends_of, is_among}
 use Rattle.page.proofs.Walk.{Met, met}

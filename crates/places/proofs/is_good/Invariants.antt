@@ -1,14 +1,10 @@
 -- `is_good` meets its contract: each record passed leaves the page as good as it is from there on. Assumes nothing.
 -- a record that may stand here was found
-use Prim.Native.Nat.{suc, ◌+◌, ◌-◌, ◌≤◌}
-use mathlib.Core.Path.{◌≡◌, refl, sym, ◌∙◌}
-use native.Mathlib.Omega.{arith}
-use lib.ListN.{length, drop, length-drop}
-use lib.Seq.{drop-drop}
-use borrow.Author.Rules.{rules}
-use borrow.Author.Tests.{not-true, not-false}
-use Rattle.nibl.specs.Page.{is_good, line_at}
-use Rattle.places.proofs.Checks.{good_from, good-end, good_none, NextRecord, good-next}
+use Prim.Native.Nat.{◌-◌, ◌≤◌}
+use mathlib.Core.Path.{◌≡◌}
+use lib.ListN.{length, drop}
+use Rattle.nibl.specs.Page.{is_good}
+use Rattle.places.proofs.Checks.{good_from}
 use Rattle.places.proofs.is_good.Given as goal
 
 abbrev pub invariant-loop-ops : goal.invariant-loop-ops

@@ -1,11 +1,10 @@
 use Prim.Native.Nat.{ℕ, ◌+◌, ◌-◌, ◌≤◌}
 use mathlib.Core.List.{List}
-use mathlib.Core.Path.{◌≡◌, refl, sym, ap, ◌∙◌}
+use mathlib.Core.Path.{refl, sym, ap, ◌∙◌}
 use native.Mathlib.Omega.{arith}
-use lib.ListN.{length, drop}
-use borrow.Author.Rules.{rules}
-use Rattle.nibl.specs.Page.{Stored, size, records_of, places_in, places_of, is_among}
-use Rattle.page.specs.Walk.{record_at, size_at}
+use lib.ListN.{drop}
+use Rattle.nibl.specs.Page.{Stored, records_of, places_in, places_of, is_among}
+use Rattle.page.specs.Walk.{record_at}
 use Rattle.page.proofs.Walk.{Met, met, past}
 use Rattle.places.proofs.Places.{places-here, places-past}
 use Rattle.places.proofs.is_place.Goals as goal

@@ -1,15 +1,10 @@
 -- `is_place` meets its contract: the position lies past each record walked over, so it is a place by those that are left. Assumes nothing.
 -- what a turn knows of the record that it is at
-use Prim.Native.Nat.{ℕ, ◌+◌, ◌-◌, ◌≤◌}
-use mathlib.Core.List.{List}
-use mathlib.Core.Path.{◌≡◌, refl, sym, ap, ◌∙◌}
-use native.Mathlib.Omega.{arith}
+use Prim.Native.Nat.{◌+◌, ◌-◌, ◌≤◌}
+use mathlib.Core.Path.{◌≡◌}
 use lib.ListN.{length, drop}
-use borrow.Author.Rules.{rules}
-use Rattle.nibl.specs.Page.{Stored, size, records_of, places_in, places_of, is_among}
-use Rattle.page.specs.Walk.{record_at, size_at}
-use Rattle.page.proofs.Walk.{Met, met, past}
-use Rattle.places.proofs.Places.{places-here, places-past}
+use Rattle.nibl.specs.Page.{records_of, places_in, places_of, is_among}
+use Rattle.page.specs.Walk.{size_at}
 use Rattle.places.proofs.is_place.Given as goal
 
 abbrev pub invariant-loop-size : goal.invariant-loop-size

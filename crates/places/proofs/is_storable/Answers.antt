@@ -3,7 +3,6 @@ use Prim.Native.Nat.{◌+◌, ◌≤◌}
 use mathlib.Core.Path.{sym, ◌∙◌}
 use native.Mathlib.Omega.{arith}
 use lib.ListN.{length}
-use borrow.Author.Rules.{rules}
 use Rattle.nibl.specs.Values.{digits}
 use Rattle.value.proofs.Digits.{digits-few}
 use Rattle.places.proofs.Checks.{storable-long, storable-digit, storable-short}

@@ -67,7 +67,7 @@ is_storable-requires c =
     let a = c.args in
     let n : ℕ = c.whole_size-size.result - 4 in
     let l : length (take (a.at + 3 + n - (a.at + 3)) (drop (a.at + 3) a.page.now)) ≡ n =
-        length-take-le (a.at + 3 + n - (a.at + 3)) (drop (a.at + 3) a.page.now) (omega (arith, k.inside, k.least, length-drop (a.at + 3) a.page.now)) ∙ omega arith in
+    length-take-le (a.at + 3 + n - (a.at + 3)) (drop (a.at + 3) a.page.now) (omega (arith, k.inside, k.least, length-drop (a.at + 3) a.page.now)) ∙ omega arith in
     record { room = omega (arith, k.most, length-take-le n a.ops.now (omega (arith, k.most))); short = omega (arith, k.most) }
 
 pub returns-then-is_storable : goal.returns-then-is_storable

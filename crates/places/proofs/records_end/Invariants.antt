@@ -1,15 +1,11 @@
 -- `records_end` meets its contract: the records that are left end where all of them do. Assumes nothing.
 -- a record is still to come
 -- one that may stand here was found
-use Prim.Native.Nat.{ℕ, suc, ◌+◌, ◌-◌, ◌≤◌}
-use mathlib.Core.Path.{◌≡◌, refl, sym, ap, ◌∙◌}
-use native.Mathlib.Omega.{arith}
-use lib.ListN.{length, drop, length-drop}
-use borrow.Author.Rules.{rules}
-use Rattle.nibl.specs.Page.{line_at}
+use Prim.Native.Nat.{◌≤◌}
+use mathlib.Core.Path.{◌≡◌}
+use lib.ListN.{length, drop}
 use Rattle.nibl.specs.found.Form.{records_in}
 use Rattle.places.specs.Ends.{end_in}
-use Rattle.places.proofs.Checks.{end_none, FurtherRecord, end-next, end-here}
 use Rattle.places.proofs.records_end.Given as goal
 
 abbrev pub invariant-loop-left : goal.invariant-loop-left

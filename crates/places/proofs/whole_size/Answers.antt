@@ -1,9 +1,7 @@
 -- `whole_size` meets its contract: the length byte, what is left of the page, and the CR. Assumes nothing.
-use Prim.Native.Nat.{◌+◌}
 use mathlib.Core.Path.{sym, ◌∙◌}
 use native.Mathlib.Omega.{arith}
 use lib.ListN.{drop, length-drop}
-use borrow.Author.Rules.{rules}
 use Rattle.places.proofs.Checks.{byte-length, byte_last, whole-short, whole-small, whole-cut, whole_open, whole-yes}
 use Rattle.places.proofs.whole_size.Goals as goal
 

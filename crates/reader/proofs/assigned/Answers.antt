@@ -1,7 +1,5 @@
 -- `reader::assigned` meets its contract. Assumes nothing.
-use Rattle.reader.proofs.Spending.{room-key}
 use Rattle.reader.proofs.Ways.{assigned-is}
-use borrow.Author.Rules.{rules}
 use Rattle.reader.proofs.assigned.Goals as goal
 
 pub returns : goal.returns

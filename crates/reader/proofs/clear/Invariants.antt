@@ -1,12 +1,7 @@
 -- `reader::clear` meets its contract: what lies before i are zeros. Assumes nothing.
-use Prim.Native.Nat.{ℕ, ◌≤◌, ◌-◌}
-use mathlib.Core.Path.{◌≡◌, ◌∙◌, refl, sym}
-use mathlib.Core.List.{List, []}
-use native.Mathlib.Omega.{arith}
-use borrow.Author.Rules.{rules}
-use lib.ListN.{length, take, replicate, length-set}
-use lib.Seq.{take_all}
-use Rattle.letter.proofs.Keeping.{zero_more}
+use Prim.Native.Nat.{◌≤◌, ◌-◌}
+use mathlib.Core.Path.{◌≡◌}
+use lib.ListN.{length, take, replicate}
 use Rattle.reader.proofs.clear.Given as goal
 
 abbrev pub invariant-loop-i : goal.invariant-loop-i

@@ -7,7 +7,6 @@ use Rattle.reader.specs.Forms.{KindIs}
 use Rattle.reader.proofs.Spending.{room-key}
 use Rattle.reader.proofs.Heads.{unstring}
 use Rattle.reader.proofs.Ways.{copy-slice, slice_fits, slice-more, copy-other}
-use borrow.Author.Rules.{rules}
 use Rattle.reader.proofs.copied.Goals as goal
 
 pub with_text-t-requires : goal.with_text-t-requires

@@ -1,7 +1,5 @@
 -- `reader::counted` meets its contract. Assumes nothing.
-use native.Mathlib.Omega.{arith}
-use Rattle.reader.proofs.Ways.{counted_none, counted-unread, counted_next, countable-at}
-use borrow.Author.Rules.{rules}
+use Rattle.reader.proofs.Ways.{counted_none, counted-unread, counted_next}
 use Rattle.reader.proofs.counted.Goals as goal
 
 pub returns-in_default : goal.returns-in_default

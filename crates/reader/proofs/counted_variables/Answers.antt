@@ -1,8 +1,6 @@
 -- `reader::counted_variables` meets its contract. Assumes nothing.
 use mathlib.Core.Path.{◌∙◌}
-use Rattle.reader.proofs.Spending.{room-write, room-written}
 use Rattle.reader.proofs.Ways.{countable, variables-are}
-use borrow.Author.Rules.{rules}
 use Rattle.reader.proofs.counted_variables.Goals as goal
 
 pub counted-requires : goal.counted-requires

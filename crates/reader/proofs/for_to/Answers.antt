@@ -7,7 +7,6 @@ use Rattle.relation.proofs.Signs.{stood-over}
 use Rattle.reader.proofs.Spending.{room-low, room-over, room-key, room-reads, room-spent, room-write}
 use Rattle.reader.proofs.Heads.{heads-variable, unvariable}
 use Rattle.reader.proofs.Ways.{for-is, for-none}
-use borrow.Author.Rules.{rules}
 use Rattle.reader.proofs.for_to.Goals as goal
 
 pub returns-in_default : goal.returns-in_default

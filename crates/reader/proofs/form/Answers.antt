@@ -1,10 +1,8 @@
 -- `reader::form` meets its contract. Assumes nothing.
 use native.Mathlib.Omega.{arith}
 use Rattle.nibl.specs.found.Read.{statement_cases, statement as a_statement}
-use Rattle.relation.proofs.Signs.{◌but◌, none_left}
-use Rattle.reader.proofs.Spending.{room-low, room-write, looser}
-use Rattle.reader.proofs.Ways.{case_at, goto-is, gosub-is, until-is, next-is, return-is, do-is, end_is, form-let}
-use borrow.Author.Rules.{rules}
+use Rattle.reader.proofs.Spending.{looser}
+use Rattle.reader.proofs.Ways.{case_at, goto-is, gosub-is, until-is, next-is, return-is, do-is, end_is}
 use Rattle.reader.proofs.form.Goals as goal
 
 pub returns-in-132 : goal.returns-in-132

@@ -3,7 +3,6 @@ use mathlib.Core.Path.{subst}
 use native.Mathlib.Omega.{arith}
 use Rattle.reader.specs.Forms.{KindIs}
 use Rattle.reader.proofs.Ways.{front-assigns, front-symbol, front-if, front-keyword, front-none}
-use borrow.Author.Rules.{rules}
 use Rattle.reader.proofs.front_at.Goals as goal
 
 pub returns-then-k-lt-KEYWORD : goal.returns-then-k-lt-KEYWORD

@@ -2,11 +2,8 @@
 use mathlib.Core.Path.{subst}
 use Rattle.nibl.specs.Words.{number}
 use Rattle.relation.specs.Makes.{SignIs}
-use Rattle.relation.proofs.Signs.{stood-over}
-use Rattle.reader.proofs.Spending.{room-over}
 use Rattle.reader.proofs.Heads.{stood-unless, absent-unless}
 use Rattle.reader.proofs.Ways.{go-to-is, go-sub-is, go-none}
-use borrow.Author.Rules.{rules}
 use Rattle.reader.proofs.go_to.Goals as goal
 
 pub returns-in_default : goal.returns-in_default

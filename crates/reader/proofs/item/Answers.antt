@@ -3,10 +3,8 @@ use mathlib.Core.Path.{subst}
 use native.Mathlib.Omega.{arith}
 use Rattle.nibl.specs.Words.{number}
 use Rattle.reader.specs.Forms.{KindIs}
-use Rattle.reader.proofs.Spending.{room-low, room-over}
-use Rattle.reader.proofs.Heads.{heads-over, heads-sign, stood-unless, plain, sign-unstring}
+use Rattle.reader.proofs.Heads.{heads-sign, stood-unless, plain, sign-unstring}
 use Rattle.reader.proofs.Ways.{slice_fits, item-slice, item-stored, item-value}
-use borrow.Author.Rules.{rules}
 use Rattle.reader.proofs.item.Goals as goal
 
 pub with_text-requires : goal.with_text-requires

@@ -1,12 +1,5 @@
-use mathlib.Core.Path.{◌∙◌, subst}
-use native.Mathlib.Omega.{arith}
-use borrow.Author.Rules.{rules}
-use Rattle.nibl.specs.found.Read.{an_item, joined}
-use Rattle.relation.specs.Makes.{ahead}
-use Rattle.relation.proofs.Signs.{stood-over}
-use Rattle.reader.specs.Code.{items_code}
+use mathlib.Core.Path.{subst}
 use Rattle.reader.specs.Forms.{KeyedIs}
-use Rattle.reader.proofs.Spending.{Proceeds, proceeds-none}
 use Rattle.reader.proofs.Ways.{items-on, items-end}
 use Rattle.reader.proofs.items.Goals as goal
 

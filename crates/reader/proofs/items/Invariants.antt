@@ -1,14 +1,8 @@
 -- `reader::items` meets its contract: what is still to be read makes it the whole, and what is left of the text falls. Assumes nothing.
-use mathlib.Core.Path.{◌∙◌, subst}
-use native.Mathlib.Omega.{arith}
-use borrow.Author.Rules.{rules}
 use Rattle.nibl.specs.found.Read.{an_item, joined}
 use Rattle.relation.specs.Makes.{ahead}
-use Rattle.relation.proofs.Signs.{stood-over}
 use Rattle.reader.specs.Code.{items_code}
-use Rattle.reader.specs.Forms.{KeyedIs}
-use Rattle.reader.proofs.Spending.{Proceeds, proceeds-none}
-use Rattle.reader.proofs.Ways.{items-on, items-end}
+use Rattle.reader.proofs.Spending.{Proceeds}
 use Rattle.reader.proofs.items.Given as goal
 
 abbrev pub invariant-loop-m : goal.invariant-loop-m

@@ -2,10 +2,7 @@
 use mathlib.Core.Path.{subst}
 use native.Mathlib.Omega.{arith}
 use Rattle.reader.specs.Forms.{KindIs}
-use Rattle.reader.proofs.Spending.{room-low, room-over}
-use Rattle.reader.proofs.Heads.{heads-over}
 use Rattle.reader.proofs.Ways.{let-variable, let-sign, let-none}
-use borrow.Author.Rules.{rules}
 use Rattle.reader.proofs.let_at.Goals as goal
 
 pub returns-in-Variable : goal.returns-in-Variable

@@ -4,7 +4,6 @@ use Rattle.nibl.specs.found.Read.{let_cases}
 use Rattle.relation.proofs.Signs.{◌but◌, none_left}
 use Rattle.reader.proofs.Spending.{room-low, room-reads, room-key}
 use Rattle.reader.proofs.Ways.{case_at, case-none, stat-is, byte-is, text-is}
-use borrow.Author.Rules.{rules}
 use Rattle.reader.proofs.let_form.Goals as goal
 
 pub copied-requires : goal.copied-requires

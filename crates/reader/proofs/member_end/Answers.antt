@@ -1,6 +1,5 @@
 -- `reader::member_end` meets its contract. Assumes nothing.
 use mathlib.Core.Path.{subst, refl}
-use native.Mathlib.Omega.{arith}
 use Rattle.nibl.specs.Words.{keywords}
 use Rattle.word.specs.Found.{WordIs}
 use Rattle.reader.proofs.Ends.{end_none, end-last, end-colon, end-other, end-wrong}

@@ -1,8 +1,7 @@
 -- `reader::next_is` meets its contract. Assumes nothing.
 use mathlib.Core.Path.{subst}
 use Rattle.relation.specs.Makes.{SignIs}
-use Rattle.reader.proofs.Heads.{keyed-none, keyed-past, keyed-other}
-use borrow.Author.Rules.{rules}
+use Rattle.reader.proofs.Heads.{keyed-none, keyed-other}
 use Rattle.reader.proofs.next_is.Goals as goal
 
 pub returns-in_default : goal.returns-in_default

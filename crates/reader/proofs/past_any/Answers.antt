@@ -1,7 +1,6 @@
 -- `reader::past_any` meets its contract. Assumes nothing.
 use mathlib.Core.Path.{subst}
 use Rattle.reader.specs.Forms.{KeyedIs, gone, kept}
-use borrow.Author.Rules.{rules}
 use Rattle.reader.proofs.past_any.Goals as goal
 
 pub returns-in-Past : goal.returns-in-Past

@@ -1,9 +1,7 @@
 -- `reader::print_end` meets its contract. Assumes nothing.
 use mathlib.Core.Path.{subst}
 use Rattle.reader.specs.Forms.{KeyedIs}
-use Rattle.reader.proofs.Spending.{room-write}
 use Rattle.reader.proofs.Ways.{end-semicolon, end_line}
-use borrow.Author.Rules.{rules}
 use Rattle.reader.proofs.print_end.Goals as goal
 
 pub returns-in-Past : goal.returns-in-Past

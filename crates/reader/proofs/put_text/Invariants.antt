@@ -1,12 +1,8 @@
 -- `reader::put_text` meets its contract: what is still to be written makes it the whole. Assumes nothing.
 use Prim.Native.Nat.{◌≤◌, ◌-◌, ◌+◌}
-use mathlib.Core.Path.{◌≡◌, ◌∙◌, refl, sym, ap}
-use mathlib.Core.List.{[]}
-use native.Mathlib.Numerals.{add-one}
-use native.Mathlib.Omega.{arith}
-use borrow.Author.Rules.{rules}
-use lib.ListN.{length, length-set}
-use lib.Seq.{sets, slice, slice-cons, slice_empty}
+use mathlib.Core.Path.{◌≡◌}
+use lib.ListN.{length}
+use lib.Seq.{sets, slice}
 use Rattle.reader.specs.Code.{texts}
 use Rattle.reader.proofs.put_text.Given as goal
 

@@ -1,9 +1,8 @@
 -- `reader::read_member` meets its contract. Assumes nothing.
 use borrow.Enum.Refused.{opened}
 use mathlib.Core.Path.{sym, ◌∙◌}
-use borrow.Author.Tests.{not-true, not-false}
-use Rattle.reader.proofs.Members.{start-room, member-room, member-none, member-found}
-use borrow.Author.Rules.{rules}
+use borrow.Author.Tests.{not-false}
+use Rattle.reader.proofs.Members.{member-none, member-found}
 use Rattle.reader.proofs.read_member.Goals as goal
 
 pub returns-in_default : goal.returns-in_default

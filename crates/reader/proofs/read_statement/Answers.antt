@@ -1,12 +1,7 @@
-use mathlib.Core.Path.{◌∙◌, subst}
-use native.Mathlib.Omega.{arith}
-use borrow.Author.Rules.{rules}
-use Rattle.nibl.specs.found.Read.{statement}
-use Rattle.relation.specs.Makes.{ahead}
-use Rattle.reader.specs.Code.{compile}
+use mathlib.Core.Path.{subst}
 use Rattle.reader.specs.Forms.{FrontIs}
-use Rattle.reader.proofs.Spending.{Proceeds, proceeds-none, room-low, room-over, room-long, room-write}
-use Rattle.reader.proofs.Ways.{assigns-over, symbol-over, if-over, keyword-long, by-assigns, by-symbol, by-keyword, by-none, if-room, if-falls, if-on}
+use Rattle.reader.proofs.Spending.{room-write}
+use Rattle.reader.proofs.Ways.{by-assigns, by-symbol, by-keyword, by-none, if-room, if-falls, if-on}
 use Rattle.reader.proofs.read_statement.Goals as goal
 
 pub returns-in-Assigns : goal.returns-in-Assigns

@@ -1,7 +1,6 @@
 -- `reader::remark` meets its contract. Assumes nothing.
 use mathlib.Core.Path.{refl, sym, ◌∙◌}
 use Rattle.reader.proofs.Ways.{remark-none, remark-rest, remark-not}
-use borrow.Author.Rules.{rules}
 use Rattle.reader.proofs.remark.Goals as goal
 
 pub returns-in_default : goal.returns-in_default

@@ -1,11 +1,7 @@
 -- `reader::step` meets its contract. Assumes nothing.
 use mathlib.Core.Path.{subst}
-use native.Mathlib.Omega.{arith}
 use Rattle.reader.specs.Forms.{KeyedIs}
-use Rattle.relation.proofs.Signs.{stood-over}
-use Rattle.reader.proofs.Spending.{room-low, room-over, room-write}
 use Rattle.reader.proofs.Ways.{step-some, step-none}
-use borrow.Author.Rules.{rules}
 use Rattle.reader.proofs.step.Goals as goal
 
 pub returns-in-Past : goal.returns-in-Past

@@ -1,13 +1,5 @@
-use mathlib.Core.Path.{◌∙◌, subst}
-use native.Mathlib.Omega.{arith}
-use borrow.Author.Rules.{rules}
-use Rattle.nibl.specs.found.Read.{a_variable, joined}
-use Rattle.codes.specs.Codes.{code_input_variable}
-use Rattle.relation.specs.Makes.{ahead}
-use Rattle.relation.proofs.Signs.{stood-over}
-use Rattle.reader.specs.Code.{texts}
+use mathlib.Core.Path.{subst}
 use Rattle.reader.specs.Forms.{KeyedIs}
-use Rattle.reader.proofs.Spending.{Proceeds, proceeds-none}
 use Rattle.reader.proofs.Ways.{variables-on, variables-end}
 use Rattle.reader.proofs.variables.Goals as goal
 

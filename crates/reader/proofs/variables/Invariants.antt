@@ -1,15 +1,9 @@
 -- `reader::variables` meets its contract: what is still to be read makes it the whole, and what is left of the text falls. Assumes nothing.
-use mathlib.Core.Path.{◌∙◌, subst}
-use native.Mathlib.Omega.{arith}
-use borrow.Author.Rules.{rules}
 use Rattle.nibl.specs.found.Read.{a_variable, joined}
 use Rattle.codes.specs.Codes.{code_input_variable}
 use Rattle.relation.specs.Makes.{ahead}
-use Rattle.relation.proofs.Signs.{stood-over}
 use Rattle.reader.specs.Code.{texts}
-use Rattle.reader.specs.Forms.{KeyedIs}
-use Rattle.reader.proofs.Spending.{Proceeds, proceeds-none}
-use Rattle.reader.proofs.Ways.{variables-on, variables-end}
+use Rattle.reader.proofs.Spending.{Proceeds}
 use Rattle.reader.proofs.variables.Given as goal
 
 abbrev pub invariant-loop-m : goal.invariant-loop-m

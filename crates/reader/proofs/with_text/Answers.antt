@@ -1,13 +1,9 @@
 -- `reader::with_text` meets its contract. Assumes nothing.
-use Prim.Native.Nat.{◌+◌, ◌-◌, ◌≤◌}
-use mathlib.Core.Path.{subst, ◌∙◌}
 use native.Mathlib.Omega.{arith}
-use lib.ListN.{length, length-set, length-map}
+use lib.ListN.{length-map}
 use lib.Seq.{slice, length-slice}
 use Rattle.codes.specs.Codes.{op}
-use Rattle.reader.specs.Forms.{filled_by}
 use Rattle.reader.proofs.Ways.{put-none, put_next}
-use borrow.Author.Rules.{rules}
 use Rattle.reader.proofs.with_text.Goals as goal
 
 pub returns-in_default : goal.returns-in_default

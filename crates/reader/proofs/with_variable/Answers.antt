@@ -2,8 +2,8 @@
 use mathlib.Core.Path.{subst}
 use native.Mathlib.Omega.{arith}
 use Rattle.reader.specs.Forms.{KindIs}
-use Rattle.reader.proofs.Spending.{missing, room-over, room-write}
-use Rattle.reader.proofs.Heads.{heads-over, heads-variable, unvariable}
+use Rattle.reader.proofs.Spending.{missing}
+use Rattle.reader.proofs.Heads.{heads-variable, unvariable}
 use Rattle.reader.proofs.Ways.{variable-is}
 use borrow.Enum.Refused.{opened}
 use Rattle.reader.proofs.with_variable.Goals as goal

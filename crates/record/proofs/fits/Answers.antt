@@ -1,7 +1,6 @@
 -- `fits` meets its contract: the depths come first, then the rest. Assumes nothing.
 use mathlib.Core.Path.{sym, ◌∙◌}
 use native.Mathlib.Omega.{arith}
-use borrow.Author.Rules.{rules}
 use borrow.Author.Tests.{not-true, not-false, lt-ltb, le-ltb}
 use Rattle.record.proofs.Fitting.{deep-gosubs, deep-dos, deep-fors, fits-rest}
 use Rattle.record.proofs.fits.Goals as goal

@@ -1,18 +1,11 @@
 -- `fits_places` meets its contract: each slot passed holds what it may. Assumes nothing.
-use Prim.Native.Nat.{ℕ, ◌-◌, ◌≤◌}
-use mathlib.Core.Path.{◌≡◌, sym, ap, ◌∙◌}
+use Prim.Native.Nat.{◌-◌, ◌≤◌}
+use mathlib.Core.Path.{◌≡◌}
 use mathlib.Core.Bool.{true}
-use native.Mathlib.Numerals.{add-one}
-use native.Mathlib.Omega.{arith}
 use lib.ListN.{take}
-use borrow.Author.Rules.{rules}
-use borrow.Author.Tests.{not-true, not-false}
 use Rattle.nibl.specs.Bytes.{all}
 use Rattle.nibl.specs.Page.{places_of}
-use Rattle.nibl.specs.Stack.{no_place}
-use Rattle.nibl.proofs.Sizes.{places}
 use Rattle.record.specs.Fits.{is_saved}
-use Rattle.record.proofs.Fitting.{all_more, all-stop}
 use Rattle.record.proofs.fits_places.Given as goal
 
 abbrev pub invariant-loop-i : goal.invariant-loop-i
