@@ -7,10 +7,10 @@ use native.Mathlib.Omega.{arith}
 use lib.ListN.{length, take, drop, set, length-append}
 use lib.Seq.{sets, sets-eq, take_at}
 use borrow.Author.Tests.{le-leb}
-use Rattle.nibl.specs.Page.{Stored, record_bytes, program_bytes, is_good, records_of, size, used_by, used, onto}
+use Rattle.nibl.specs.Page.{Stored, record_bytes, program_bytes, is_good, records_of, used_by, used, onto}
 use Rattle.nibl.specs.Saved.{RuleSet, two_bytes, values_bytes, records_bytes, counted, form_number, saved_form}
 use Rattle.page.specs.Standing.{Bytes}
-use Rattle.page.proofs.Program.{program-length, record-length}
+use Rattle.page.proofs.Program.{program-length}
 use Rattle.page.proofs.Laid.{good-bytes}
 use Rattle.page.proofs.Forms.{values_length}
 use Rattle.value.specs.declared.Wrote.{Wrote}

@@ -10,7 +10,7 @@ use lib.Seq.{length-take-le}
 use lib.Dec.{leb, eqb}
 use borrow.Author.Tests.{le-leb, lt-leb, leb-true, eq-eqb, ne_eqb}
 use Rattle.nibl.specs.Values.{Result, is, no}
-use Rattle.nibl.specs.Page.{Stored, program_bytes, used_by, onto}
+use Rattle.nibl.specs.Page.{program_bytes, onto}
 use Rattle.nibl.specs.Saved.{RuleSet, records_bytes}
 use Rattle.nibl.specs.found.Form.{values_in, form_in}
 use Rattle.nibl.specs.Lent.{Lent, Left, lent_all, left_all, unchanged}

@@ -1,18 +1,17 @@
 -- A slice opened: where its records end tells what it carries. Assumes nothing.
-use Rattle.std.specs.Prelude.{if◌then◌else◌}
-use Prim.Native.Nat.{ℕ, zero, suc, ◌+◌, ◌-◌, ◌≤◌, ◌<◌}
+use Prim.Native.Nat.{ℕ, ◌+◌, ◌-◌, ◌≤◌, ◌<◌}
 use mathlib.Core.Path.{◌≡◌, refl, sym, ap, subst, ◌∙◌}
-use mathlib.Core.Bool.{Bool, true, false, not}
-use mathlib.Core.List.{List, [], ◌∷◌, ◌++◌}
+use mathlib.Core.Bool.{true, false}
+use mathlib.Core.List.{List}
 use native.Mathlib.Omega.{arith}
-use lib.ListN.{length, get_or, take, drop, length-append, length-drop}
+use lib.ListN.{length, take, drop, length-append, length-drop}
 use lib.Seq.{take_at, drop_at, drop-drop}
-use Rattle.nibl.specs.Values.{Result, is, no}
+use Rattle.nibl.specs.Values.{is, no}
 use Rattle.nibl.specs.Page.{Stored, line_at}
-use Rattle.nibl.specs.Saved.{RuleSet, records_bytes}
+use Rattle.nibl.specs.Saved.{records_bytes}
 use Rattle.nibl.specs.found.Form.{values_in, Parted, broken, parted, records_in, is_counted, carried_by, has_number, has_values, form_in}
 use Rattle.page.specs.Standing.{Bytes}
-use Rattle.page.proofs.Forms.{bytes-from, Known, unread, read, records-known}
+use Rattle.page.proofs.Forms.{bytes-from, Known, read, records-known}
 use Rattle.places.specs.Ends.{end_in}
 use Rattle.carry.specs.Forms.{OpenedAt, OpenedAs, carries, refuses}
 use Rattle.carry.specs.declared.Opened.{Opened}

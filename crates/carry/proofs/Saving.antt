@@ -1,7 +1,6 @@
 -- What a save leaves, by its tests in their order. Assumes nothing.
-use Rattle.std.specs.Prelude.{if◌then◌else◌}
 use Prim.Native.Nat.{ℕ, ◌+◌, ◌≤◌, ◌<◌}
-use mathlib.Core.Path.{◌≡◌, refl, sym, ap, ◌∙◌}
+use mathlib.Core.Path.{◌≡◌, ap, ◌∙◌}
 use mathlib.Core.Bool.{true, false}
 use mathlib.Core.List.{List}
 use lib.ListN.{length}
@@ -12,9 +11,9 @@ use borrow.Author.Tests.{le-leb, lt-leb, leb-true}
 use Rattle.nibl.specs.Typing.{limit}
 use Rattle.nibl.specs.Page.{is_good, fits, used}
 use Rattle.nibl.specs.Saved.{saved_form}
-use Rattle.nibl.specs.Lent.{Lent, Left, left_all, unchanged, answer_of, no_line}
+use Rattle.nibl.specs.Lent.{Lent, left_all, unchanged, answer_of, no_line}
 use Rattle.nibl.specs.FirstRefusals.{page_in_range, memory_in_range, output_in_range}
-use Rattle.nibl.specs.Carry.{rule_set_of, save_in_range, saved, saves_in, saves}
+use Rattle.nibl.specs.Carry.{rule_set_of, save_in_range, saves_in, saves}
 use Rattle.page.proofs.Program.{both}
 use Rattle.carry.proofs.Forms.{form-length}
 

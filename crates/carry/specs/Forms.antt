@@ -4,7 +4,7 @@ use Rattle.nibl.specs.Values.{is, no}
 use Rattle.nibl.specs.Typing.{limit}
 use Rattle.nibl.specs.Page.{Stored, is_good, used}
 use Rattle.nibl.specs.FirstRefusals.{table_in_range}
-use Rattle.nibl.specs.Saved.{RuleSet, records_bytes}
+use Rattle.nibl.specs.Saved.{records_bytes}
 use Rattle.nibl.specs.found.Form.{values_in, form_in}
 use Rattle.nibl.specs.declared.Call.{Call}
 use Rattle.carry.specs.declared.Opened.{Opened}

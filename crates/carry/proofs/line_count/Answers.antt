@@ -1,8 +1,6 @@
-use Prim.Native.Nat.{◌+◌, ◌≤◌}
-use mathlib.Core.Path.{◌≡◌, ap}
+use mathlib.Core.Path.{ap}
 use native.Mathlib.Omega.{arith}
-use lib.ListN.{length, drop}
-use Rattle.nibl.specs.Page.{records_of}
+use lib.ListN.{length}
 use Rattle.page.proofs.Walk.{met, past}
 use Rattle.page.proofs.Tables.{lines-most}
 use Rattle.carry.proofs.line_count.Goals as goal

@@ -1,5 +1,5 @@
 -- `load` meets its contract: by its range, and by what was opened. Assumes nothing.
-use mathlib.Core.Path.{◌≡◌, sym, ap, ◌∙◌}
+use mathlib.Core.Path.{sym, ap, ◌∙◌}
 use Rattle.nibl.specs.Typing.{limit}
 use Rattle.nibl.specs.found.Form.{form_in}
 use Rattle.nibl.specs.Lent.{Lent, lent_all}

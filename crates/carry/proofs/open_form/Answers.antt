@@ -8,7 +8,7 @@ use lib.ListN.{length, drop}
 use lib.Dec.{leb}
 use borrow.Author.Tests.{leb-true}
 use Rattle.nibl.specs.Page.{line_at}
-use Rattle.nibl.specs.found.Form.{records_in, is_counted, has_number, has_values}
+use Rattle.nibl.specs.found.Form.{records_in, is_counted, has_values}
 use Rattle.page.specs.Standing.{Bytes}
 use Rattle.page.proofs.Program.{both}
 use Rattle.places.specs.Ends.{end_in}
