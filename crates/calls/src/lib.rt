@@ -204,7 +204,8 @@ pub fn take_line(
         ≡ leaves take_line (lent_all rec page.old memory.old input.now output.old call table.old) }
 {
     let first = first_refusal(rec, page, memory, input, output, call, LIMIT, table);
-    if first != stop::DONE {
+    let refused = first != stop::DONE;
+    if refused {
         return outcome::stopped(first, rec, call.inpos, call.outpos);
     }
     accepted_call(true, rec, page, memory, input, output, call, table)

@@ -85,7 +85,8 @@ fn members(text: &[u8], p: usize, ops: &mut [u32]) -> Ends
         if end == p {
             met = true;
         }
-        if left == 0 {
+        let last = left == 0;
+        if last {
             return Ends::Met(met);
         }
         at = end + 1;

@@ -413,7 +413,8 @@ fn relation_at(text: &[u8], from: usize, ops: &mut [u32], n: &mut usize) -> usiz
         if d == NONE {
             return NONE;
         }
-        if waits != NOTHING {
+        let second = waits != NOTHING;
+        if second {
             put(ops, n, waits);
             return d;
         }

@@ -18,14 +18,14 @@ overflow_sub-end c =
     let at = c.loop-left.at in
     omega (arith, left-fits (first-at text c.loop-left.ops c.args.ops.now at _ c.requires c.loop-left.invariant.1 c.read_member-m.ensures.value c.in-Member.is), length-drop at text)
 
-pub returns-then-left-eq0 : goal.returns-then-left-eq0
-returns-then-left-eq0 c =
+pub returns-then-last : goal.returns-then-last
+returns-then-last c =
     let text = c.args.text.now in
     let at = c.loop-left.at in
     let met = c.loop-left.met in
     let p = c.args.p in
     let n = length text in
-    sym (c.loop-left.invariant.2 ∙ list-ends text at p met c.if-end-p.met (first-at text c.loop-left.ops c.args.ops.now at _ c.requires c.loop-left.invariant.1 c.read_member-m.ensures.value c.in-Member.is) (elim c.if-end-p.branch [ then-end-p w ↦ met-here met n p _ w.if-end-p.true ∙ sym w.met-is | else-end-p w ↦ met-not met n p _ w.if-end-p.false ∙ sym w.met-is ]) c.if-left-eq0.true)
+    sym (c.loop-left.invariant.2 ∙ list-ends text at p met c.if-end-p.met (first-at text c.loop-left.ops c.args.ops.now at _ c.requires c.loop-left.invariant.1 c.read_member-m.ensures.value c.in-Member.is) (elim c.if-end-p.branch [ then-end-p w ↦ met-here met n p _ w.if-end-p.true ∙ sym w.met-is | else-end-p w ↦ met-not met n p _ w.if-end-p.false ∙ sym w.met-is ]) c.if-last.true)
 
 pub loop-left-smaller : goal.loop-left-smaller
 loop-left-smaller c =
@@ -41,4 +41,4 @@ loop-left-preserved c =
     let p = c.args.p in
     let n = length text in
     let f = (first-at text c.loop-left.ops c.args.ops.now at _ c.requires c.loop-left.invariant.1 c.read_member-m.ensures.value c.in-Member.is) in
-    (omega (arith, left-fits f, length-drop at text), omega (arith, c.read_member-m.auto.ops), c.loop-left.invariant.2 ∙ list_on text at p met c.if-end-p.met f (elim c.if-end-p.branch [ then-end-p w ↦ met-here met n p _ w.if-end-p.true ∙ sym w.met-is | else-end-p w ↦ met-not met n p _ w.if-end-p.false ∙ sym w.met-is ]) c.loop-left.invariant.0 c.if-left-eq0.false)
+    (omega (arith, left-fits f, length-drop at text), omega (arith, c.read_member-m.auto.ops), c.loop-left.invariant.2 ∙ list_on text at p met c.if-end-p.met f (elim c.if-end-p.branch [ then-end-p w ↦ met-here met n p _ w.if-end-p.true ∙ sym w.met-is | else-end-p w ↦ met-not met n p _ w.if-end-p.false ∙ sym w.met-is ]) c.loop-left.invariant.0 c.if-last.false)

@@ -163,15 +163,15 @@ relation_at-put-requires t c =
     let l = c.loop-from in
     let y = c.sum_at-d in
     let z = to-standing c.if-d-eq-NONE.false y.ensures in
-    let w : waiting l.waits ≡ 1 = rw (ne_eqb l.waits 0 c.if-waits-ne-NOTHING.true) refl in
+    let w : waiting l.waits ≡ 1 = rw (ne_eqb l.waits 0 c.if-second.true) refl in
     omega (arith, l.invariant.few 0, z.few (0 + waiting l.waits), l.invariant.size, y.auto.ops)
 
-pub relation_at-returns-then-waits-ne-NOTHING : goal.relation_at-returns-then-waits-ne-NOTHING
-relation_at-returns-then-waits-ne-NOTHING t c =
+pub relation_at-returns-then-second : goal.relation_at-returns-then-second
+relation_at-returns-then-second t c =
     let l = c.loop-from in
     let y = c.sum_at-d in
     let n = c.if-d-eq-NONE.false in
-    let m = c.if-waits-ne-NOTHING.true in
+    let m = c.if-second.true in
     let p = c.put.ensures in
     to_made n (waiting-last (l.invariant.second m) (to-standing n y.ensures) (last-here m p.0 p.1) (λ a s. refl))
 
@@ -180,7 +180,7 @@ relation_at-returns-then-at-eq-NONE t c =
     let l = c.loop-from in
     let y = c.sum_at-d in
     let n = c.if-d-eq-NONE.false in
-    let z = c.if-waits-ne-NOTHING.false in
+    let z = c.if-second.false in
     to_made n (waiting-end (l.invariant.first z) (to-standing n y.ensures) (nothing_waits z) sum_joints give read-related (joint-absent _ c.compare_at-at.ensures c.if-at-eq-NONE.true))
 
 pub relation_at-loop-from-smaller : goal.relation_at-loop-from-smaller
@@ -195,7 +195,7 @@ relation_at-loop-from-preserved t c =
     let l = c.loop-from in
     let y = c.sum_at-d in
     let n = c.if-d-eq-NONE.false in
-    let z = c.if-waits-ne-NOTHING.false in
+    let z = c.if-second.false in
     let j = joint-by c.compare_at-at.ensures c.if-at-eq-NONE.false in
     relating-second (joint-waits j.operator j.number) (waiting-on (l.invariant.first z) (to-standing n y.ensures) (nothing_waits z) sum_joints give read-related j.operator j.number (j.next _) y.auto.ops)
 
