@@ -130,14 +130,33 @@ END
     rm -r "$apart"
 }
 
-# The kept module as text.
+# The kept module as text, with no function worked into another yet.
 module_text() {
-    "$tools/bin/clang" --target=x86_64-unknown-linux-gnu -S -emit-llvm -x ir "$made.bc" -o -
+    "$tools/bin/clang" --target=x86_64-unknown-linux-gnu -S -emit-llvm -Xclang -disable-llvm-passes -x ir "$made.bc" -o -
 }
 
-# A module's text for another target than the kit's: what it says of x86-64 is left out.
+# A module's text for another target than the kit's: what it says of x86-64 is left out. An Option of a reference is written part by part,
+# the reference 8 bytes on, and read as a pair: it is read part by part here, since where a pointer has 4 bytes the pair's second part lies
+# elsewhere.
 for_any_target() {
-    sed -e '/^target /d' -e 's/"target-cpu"="x86-64"//'
+    local name='%[A-Za-z0-9_.]+'
+    sed -E -e '/^target /d' -e 's/"target-cpu"="x86-64"//' \
+        -e "s/^( *)($name) = load \\{ i8, ptr \\}, ptr ($name), align [0-9]+\$/\\1\\2.case = load i8, ptr \\3\\n\\1\\2.place = getelementptr i8, ptr \\3, i64 8\\n\\1\\2.ref = load ptr, ptr \\2.place\\n\\1\\2.half = insertvalue { i8, ptr } poison, i8 \\2.case, 0\\n\\1\\2 = insertvalue { i8, ptr } \\2.half, ptr \\2.ref, 1/"
+}
+
+# The same text for a target whose pointers have 4 bytes: in a constant table each takes 8, as the module reads it.
+with_wide_pointers() {
+    sed -E '/^@.* constant <\{.*ptr/ {
+        s/ptr getelementptr \(i8, ptr (@[A-Za-z0-9_.]+), i64 ([0-9]+)\)/POINTER getelementptr (i8, POINTER \1, i64 \2), [4 x i8] zeroinitializer/g
+        s/ptr (@[A-Za-z0-9_.]+)/POINTER \1, [4 x i8] zeroinitializer/g
+        s/\<ptr\>/ptr, [4 x i8]/g
+        s/POINTER/ptr/g
+    }'
+}
+
+# How many bytes a pointer has on a target.
+pointer_bytes() { # TARGET
+    echo __SIZEOF_POINTER__ | "$tools/bin/clang" "--target=$1" -E -P -x c - | tail -1
 }
 
 # Compiles a module's text as the kit's compiler was told to, but for the target, which more words say.

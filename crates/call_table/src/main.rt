@@ -13,8 +13,8 @@ ghost use Rattle.std.specs.Prelude.{◌≤◌, ◌<◌, length, ◌≡◌};
 
 use nibl::{Answer, Call, ForEntry, ForStack, Place, PlaceStack, Session};
 use outcome::Ended;
-use std::io;
-use std::io::Read;
+use std::array;
+use std::io::{self, Read};
 
 // The most numbers that a table of these cases has.
 const ENTRIES: usize = 1100;
@@ -23,10 +23,6 @@ const ENTRIES: usize = 1100;
 const NAME: usize = 4096;
 
 const LENT: usize = 65536;
-
-fn say(rt: &impl Print, s: &[u8]) -> io::Result<()> {
-    rt.write_all(s)
-}
 
 // Reads until buf is full, the input ends or a read fails, and returns how many bytes it put at the start of buf.
 fn read_full(rt: &impl Input, buf: &mut [u8]) -> usize
@@ -55,181 +51,111 @@ fn byte(rt: &impl Input) -> u8 {
 
 // A number of two bytes, high first.
 fn number(rt: &impl Input) -> u16 {
-    let high = byte(rt) as u16;
-    let low = byte(rt) as u16;
-    high * 256 + low
+    u16::from_be_bytes([byte(rt), byte(rt)])
 }
 
 // A number of four bytes: a length of lent bytes, a position or a budget.
 fn long(rt: &impl Input) -> usize {
-    let high = number(rt) as usize;
-    let low = number(rt) as usize;
+    let high = usize::from(number(rt));
+    let low = usize::from(number(rt));
     high * 65536 + low
 }
 
 fn place(rt: &impl Input) -> Place {
-    Place::at(number(rt) as usize)
+    Place::at(usize::from(number(rt)))
 }
 
 // A stack: its depth, and its eight places.
 fn place_stack(rt: &impl Input) -> PlaceStack {
-    let depth = number(rt) as usize;
-    let none = Place::mark();
-    let mut stack = PlaceStack {
-        depth: 0,
-        places: [none; 8],
-    };
-    let mut i: u8 = 0;
-    while i < 8 {
-        let pushed = stack.push(place(rt));
-        stack = pushed.stack;
-        i += 1;
-    }
-    stack.depth = depth;
-    stack
+    let depth = usize::from(number(rt));
+    let places = array::from_fn(|_| place(rt));
+    PlaceStack { depth, places }
 }
 
 fn for_entry(rt: &impl Input) -> ForEntry {
     let var = byte(rt);
     let limit = number(rt);
     let step = number(rt);
-    let at = place(rt);
+    let place = place(rt);
     ForEntry {
-        var: var,
-        limit: limit,
-        step: step,
-        place: at,
+        var,
+        limit,
+        step,
+        place,
     }
 }
 
 // The same of FORs: four entries.
 fn for_stack(rt: &impl Input) -> ForStack {
-    let depth = number(rt) as usize;
-    let none = ForEntry {
-        var: 0,
-        limit: 0,
-        step: 0,
-        place: Place::mark(),
-    };
-    let mut stack = ForStack {
-        depth: 0,
-        entries: [none; 4],
-    };
-    let mut i: u8 = 0;
-    while i < 4 {
-        let pushed = stack.push(for_entry(rt));
-        stack = pushed.stack;
-        i += 1;
-    }
-    stack.depth = depth;
-    stack
+    let depth = usize::from(number(rt));
+    let entries = array::from_fn(|_| for_entry(rt));
+    ForStack { depth, entries }
 }
 
 fn session(rt: &impl Input) -> Session {
-    let mut vars = [0u16; nibl::VARIABLES];
-    let mut i = 0;
-    while i < 26 {
-        vars[i] = number(rt);
-        i += 1;
-    }
+    let vars = array::from_fn(|_| number(rt));
     let flags = byte(rt);
     let paused = number(rt);
     let gosubs = place_stack(rt);
     let dos = place_stack(rt);
     let fors = for_stack(rt);
     Session {
-        vars: vars,
-        flags: flags,
-        gosubs: gosubs,
-        dos: dos,
-        fors: fors,
-        paused: paused,
+        vars,
+        flags,
+        gosubs,
+        dos,
+        fors,
+        paused,
     }
-}
-
-fn show(rt: &impl Print, n: u64) -> io::Result<()> {
-    print!(rt; " {n}")
 }
 
 fn show_line(rt: &impl Print, line: u16) -> io::Result<()> {
     if line == nibl::NO_LINE {
-        return say(rt, b" -");
+        print!(rt; " -")
+    } else {
+        print!(rt; " {line}")
     }
-    show(rt, line as u64)
+}
+
+fn show_numbers(rt: &impl Print, numbers: &[u16]) -> io::Result<()> {
+    for n in numbers {
+        print!(rt; " {n}")?;
+    }
+    Ok(())
 }
 
 fn show_places(rt: &impl Print, stack: PlaceStack) -> io::Result<()> {
-    say(rt, b" /")?;
-    show(rt, stack.depth as u64)?;
-    let mut i: usize = 0;
-    while i < 8 {
-        let p = stack.places[i];
-        show(rt, p.position() as u64)?;
-        i += 1;
+    print!(rt; " / {}", stack.depth)?;
+    for place in stack.places {
+        print!(rt; " {}", place.position())?;
     }
     Ok(())
-}
-
-fn show_entry(rt: &impl Print, e: ForEntry) -> io::Result<()> {
-    show(rt, e.var as u64)?;
-    show(rt, e.limit as u64)?;
-    show(rt, e.step as u64)?;
-    let p = e.place;
-    show(rt, p.position() as u64)
 }
 
 fn show_fors(rt: &impl Print, stack: ForStack) -> io::Result<()> {
-    say(rt, b" /")?;
-    show(rt, stack.depth as u64)?;
-    let mut i: usize = 0;
-    while i < 4 {
-        let e = stack.entries[i];
-        show_entry(rt, e)?;
-        i += 1;
-    }
-    Ok(())
-}
-
-fn show_var(rt: &impl Print, v: u16) -> io::Result<()> {
-    show(rt, v as u64)
-}
-
-fn show_vars(rt: &impl Print, vars: &[u16]) -> io::Result<()> {
-    say(rt, b" /")?;
-    let mut i = 0;
-    while i < vars.len() {
-        show_var(rt, vars[i])?;
-        i += 1;
+    print!(rt; " / {}", stack.depth)?;
+    for e in stack.entries {
+        print!(rt; " {} {} {} {}", e.var, e.limit, e.step, e.place.position())?;
     }
     Ok(())
 }
 
 fn show_answer(rt: &impl Print, answer: Answer) -> io::Result<()> {
-    rt.print(answer.stop)?;
+    print!(rt; "{}", answer.stop)?;
     show_line(rt, answer.line)?;
-    show(rt, answer.steps as u64)?;
-    show(rt, answer.column as u64)?;
-    show(rt, answer.inpos as u64)?;
-    show(rt, answer.outpos as u64)
+    print!(rt;
+        " {} {} {} {}",
+        answer.steps, answer.column, answer.inpos, answer.outpos
+    )
 }
 
 fn show_session(rt: &impl Print, rec: Session) -> io::Result<()> {
-    show(rt, rec.flags as u64)?;
-    show(rt, rec.paused as u64)?;
-    let gosubs = rec.gosubs;
-    let dos = rec.dos;
-    let fors = rec.fors;
-    let vars = rec.vars;
-    show_places(rt, gosubs)?;
-    show_places(rt, dos)?;
-    show_fors(rt, fors)?;
-    show_vars(rt, &vars)
-}
-
-fn wide(b: u8) -> u32
-    ensures { result ≤ 255 }
-{
-    b as u32
+    print!(rt; " {} {}", rec.flags, rec.paused)?;
+    show_places(rt, rec.gosubs)?;
+    show_places(rt, rec.dos)?;
+    show_fors(rt, rec.fors)?;
+    print!(rt; " /")?;
+    show_numbers(rt, &rec.vars)
 }
 
 // Bytes as one number, the first byte highest: what is left of it by 16,777,213, a prime, with one byte more.
@@ -237,15 +163,13 @@ fn with_byte(sum: u32, b: u8) -> u32
     requires { sum < 16777213 }
     ensures { result < 16777213 }
 {
-    (sum * 256 + wide(b)) % 16777213
+    (sum * 256 + u32::from(b)) % 16777213
 }
 
 fn sum(bytes: &[u8]) -> u32 {
-    let mut sum: u32 = 0;
-    let mut i = 0;
-    while i < bytes.len() {
-        sum = with_byte(sum, bytes[i]);
-        i += 1;
+    let mut sum = 0;
+    for b in bytes {
+        sum = with_byte(sum, *b);
     }
     sum
 }
@@ -255,56 +179,31 @@ fn with_number(sum: u32, n: u16) -> u32
     requires { sum < 16777213 }
     ensures { result < 16777213 }
 {
-    let high = with_byte(sum, (n / 256) as u8);
-    with_byte(high, (n % 256) as u8)
+    let [high, low] = n.to_be_bytes();
+    with_byte(with_byte(sum, high), low)
 }
 
 fn sum_numbers(numbers: &[u16]) -> u32 {
-    let mut sum: u32 = 0;
-    let mut i = 0;
-    while i < numbers.len() {
-        sum = with_number(sum, numbers[i]);
-        i += 1;
+    let mut sum = 0;
+    for n in numbers {
+        sum = with_number(sum, *n);
     }
     sum
 }
 
-fn show_byte(rt: &impl Print, b: u8) -> io::Result<()> {
-    show(rt, b as u64)
-}
-
 // The bytes of the output from a position to another, at most the first 40.
 fn show_written(rt: &impl Print, output: &[u8], from: usize, to: usize) -> io::Result<()> {
-    say(rt, b" /")?;
-    let mut at = from;
-    let mut shown: u8 = 0;
-    while shown < 40 {
-        if to <= at {
-            break;
-        }
-        if output.len() <= at {
-            break;
-        }
-        show_byte(rt, output[at])?;
-        at += 1;
-        shown += 1;
+    print!(rt; " /")?;
+    for b in output.iter().take(to).skip(from).take(40) {
+        print!(rt; " {b}")?;
     }
     Ok(())
 }
 
 // The table's sum and its first numbers, at most 12.
 fn show_table(rt: &impl Print, table: &[u16]) -> io::Result<()> {
-    say(rt, b" /")?;
-    show(rt, sum_numbers(table) as u64)?;
-    let mut i: usize = 0;
-    while i < 12 {
-        if table.len() <= i {
-            break;
-        }
-        show_var(rt, table[i])?;
-        i += 1;
-    }
-    Ok(())
+    print!(rt; " / {}", sum_numbers(table))?;
+    show_numbers(rt, &table[..table.len().min(12)])
 }
 
 // The row of a call that wrote from this position on.
@@ -317,22 +216,37 @@ fn row(
     output: &[u8],
     table: &[u16],
 ) -> io::Result<()> {
-    let answer = ended.answer;
-    let rec = ended.session;
-    show_answer(rt, answer)?;
-    show_session(rt, rec)?;
-    say(rt, b" /")?;
-    show(rt, sum(page) as u64)?;
-    show(rt, sum(memory) as u64)?;
-    show(rt, sum(output) as u64)?;
-    show_written(rt, output, from, answer.outpos)?;
+    show_answer(rt, ended.answer)?;
+    show_session(rt, ended.session)?;
+    print!(rt; " / {} {} {}", sum(page), sum(memory), sum(output))?;
+    show_written(rt, output, from, ended.answer.outpos)?;
     show_table(rt, table)?;
-    say(rt, b"\n")
+    println!(rt)
 }
 
-// A typed line for kind 0, a continued run for 1, a save for 2, else a load, whose form is the input.
+// What is called.
+#[derive(Clone, Copy)]
+enum Kind {
+    TakeLine,
+    ContinueRun,
+    Save,
+    Load,
+}
+
+impl Kind {
+    fn of(code: u8) -> Kind {
+        match code {
+            0 => Kind::TakeLine,
+            1 => Kind::ContinueRun,
+            2 => Kind::Save,
+            _ => Kind::Load,
+        }
+    }
+}
+
+// A load's form is the input.
 fn make_call(
-    kind: u8,
+    kind: Kind,
     rec: Session,
     page: &mut [u8],
     memory: &mut [u8],
@@ -341,16 +255,12 @@ fn make_call(
     given: Call,
     table: &mut [u16],
 ) -> Ended {
-    if kind == 0 {
-        return calls::take_line(rec, page, memory, input, output, given, table);
+    match kind {
+        Kind::TakeLine => calls::take_line(rec, page, memory, input, output, given, table),
+        Kind::ContinueRun => calls::continue_run(rec, page, memory, input, output, given, table),
+        Kind::Save => carry::save(rec, page, memory, input, output, given, table),
+        Kind::Load => carry::load(rec, page, memory, input, output, given, table),
     }
-    if kind == 1 {
-        return calls::continue_run(rec, page, memory, input, output, given, table);
-    }
-    if kind == 2 {
-        return carry::save(rec, page, memory, input, output, given, table);
-    }
-    carry::load(rec, page, memory, input, output, given, table)
 }
 
 // The next call, with its row.
@@ -365,16 +275,16 @@ fn next_call(
     outpos: usize,
     table: &mut [u16],
 ) -> io::Result<Ended> {
-    let kind = byte(rt);
+    let kind = Kind::of(byte(rt));
     let sense = byte(rt);
     let budget = long(rt);
     let tabled = byte(rt);
     let given = Call {
-        inpos: inpos,
-        outpos: outpos,
-        sense: sense,
-        budget: budget,
-        tabled: tabled,
+        inpos,
+        outpos,
+        sense,
+        budget,
+        tabled,
     };
     let ended = make_call(kind, rec, page, memory, input, output, given, table);
     row(rt, ended, outpos, page, memory, output, table)?;
@@ -393,25 +303,13 @@ fn calls(
     let mut inpos = long(rt);
     let mut outpos = long(rt);
     let mut rec = session(rt);
-    let count = byte(rt);
-    let mut i: u8 = 0;
-    while i < count {
+    for _ in 0..byte(rt) {
         let ended = next_call(rt, rec, page, memory, input, output, inpos, outpos, table)?;
-        let answer = ended.answer;
         rec = ended.session;
-        inpos = answer.inpos;
-        outpos = answer.outpos;
-        i += 1;
+        inpos = ended.answer.inpos;
+        outpos = ended.answer.outpos;
     }
     Ok(())
-}
-
-fn fill(room: &mut [u8], filler: u8) {
-    let mut i = 0;
-    while i < room.len() {
-        room[i] = filler;
-        i += 1;
-    }
 }
 
 // The next lent bytes: their length, a byte that fills them, and those that stand before it, after their number. A length that
@@ -422,64 +320,42 @@ fn take(rt: &impl Input, room: &mut [u8]) -> usize
 {
     let n = long(rt);
     let filler = byte(rt);
-    let given = number(rt) as usize;
-    if room.len() < n {
+    let given = usize::from(number(rt));
+    if room.len() < n || n < given {
         return 0;
     }
-    if n < given {
-        return 0;
-    }
-    fill(&mut room[..n], filler);
+    room[..n].fill(filler);
     read_full(rt, &mut room[..given]);
     n
 }
 
-fn fill_numbers(room: &mut [u16], filler: u16) {
-    let mut i = 0;
-    while i < room.len() {
-        room[i] = filler;
-        i += 1;
-    }
-}
-
-fn read_numbers(rt: &impl Input, room: &mut [u16]) {
-    let mut i = 0;
-    while i < room.len() {
-        room[i] = number(rt);
-        i += 1;
-    }
-}
-
-// The table, in the same way: its length, a number that fills it, and those that stand before it, after how many they are.
+// The table, in the same way: its length, a number that fills it, and those that stand before it, after how many they are. Beside
+// `take` it has a body of its own: bytes that the input lacks are left as filled, and such numbers are 0.
 fn take_table(rt: &impl Input, room: &mut [u16]) -> usize
     ensures upper_bound { result ≤ length room.new }
     ensures room_len_unchanged { length room.new ≡ length room.old }
 {
     let n = long(rt);
     let filler = number(rt);
-    let given = number(rt) as usize;
-    if room.len() < n {
+    let given = usize::from(number(rt));
+    if room.len() < n || n < given {
         return 0;
     }
-    if n < given {
-        return 0;
+    room[..n].fill(filler);
+    for entry in &mut room[..given] {
+        *entry = number(rt);
     }
-    fill_numbers(&mut room[..n], filler);
-    read_numbers(rt, &mut room[..given]);
     n
-}
-
-fn echo(rt: &(impl Input + Print), name: &mut [u8]) -> io::Result<()> {
-    read_full(rt, name);
-    say(rt, name)?;
-    say(rt, b"\n")
 }
 
 // A case's name, on a line of its own.
 fn show_name(rt: &(impl Input + Print)) -> io::Result<()> {
-    let mut name = [0u8; NAME];
-    let n = byte(rt) as usize;
-    echo(rt, &mut name[..n])
+    let mut room = [0u8; NAME];
+    let n = usize::from(byte(rt));
+    let name = &mut room[..n];
+    read_full(rt, name);
+    rt.write_all(name)?;
+    println!(rt)
 }
 
 fn next_case(rt: &(impl Input + Print)) -> io::Result<()> {
@@ -505,11 +381,8 @@ fn next_case(rt: &(impl Input + Print)) -> io::Result<()> {
 }
 
 fn main(rt: HostRuntime) -> io::Result<()> {
-    let cases = number(&rt);
-    let mut i: u16 = 0;
-    while i < cases {
+    for _ in 0..number(&rt) {
         next_case(&rt)?;
-        i += 1;
     }
     Ok(())
 }

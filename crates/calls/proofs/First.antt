@@ -1,5 +1,7 @@
 -- The two calls by their first refusal, and a paused run by its pause. Assumes nothing.
 use Rattle.std.specs.Prelude.{if◌then◌else◌}
+use Rattle.std.specs.Prelude.{Option, Ok, Err}
+use Rattle.nibl.specs.declared.Onward.{Onward}
 use Prim.Native.Nat.{ℕ, zero, suc, ◌+◌}
 use mathlib.Core.Path.{◌≡◌, refl, sym, ap, ◌∙◌}
 use mathlib.Core.Bool.{Bool, true, false, not}
@@ -18,12 +20,13 @@ use Rattle.nibl.specs.Lent.{lent_world, lent_env, begun}
 use Rattle.nibl.specs.FirstRefusals.{page_in_range, memory_in_range, input_in_range, output_in_range, position_in_range, budget_in_range, in_range, table_in_range, table_is_true, first_refusal}
 use Rattle.nibl.specs.Calls.{obey_line, take_line_in, take_line, continue_from, continue_run_in, continue_run}
 use Rattle.nibl.specs.declared.Session.{Session}
-use Rattle.nibl.specs.declared.Paused.{Paused}
 use Rattle.page.proofs.Program.{both}
 use Rattle.record.specs.Sound.{Sized}
 use Rattle.record.proofs.Fitted.{sound-fit, fit-paused}
 use Rattle.outcome.specs.Ends.{world_at}
 use Rattle.outcome.specs.Lends.{Lists, Accepted}
+use Rattle.nibl.specs.declared.stop.Stop.{Stop}
+use Rattle.calls.specs.Past.{refusal_of}
 use Rattle.calls.specs.Tables.{TableLent}
 use Rattle.calls.proofs.Tables.{table-lent}
 
@@ -86,8 +89,17 @@ module _ (x : Lent) {n : ℕ} (e : n ≡ first_refusal limit x) where
   unfolding continue_run continue_run_in
   continue-on h = ap (outcome_by x _) (sym h ∙ e)
 
+-- what the answer of the first refusals says
+pub refusal-err : (n : ℕ) {s : Stop} → Err s ≡ refusal_of n → (s.0 ≡ n) × (s.0 ≡ 0 → ⊥)
+refusal-err zero h = let z : ◌≡◌ {A = ℕ} 0 1 = cc in absurd (omega arith)
+refusal-err (suc n) {s} h = let e : s.0 ≡ suc n = cc in (e, λ z. omega arith)
+
+pub refusal-ok : (n : ℕ) → Ok tt ≡ refusal_of n → n ≡ 0
+refusal-ok zero h = refl
+refusal-ok (suc n) h = let z : ◌≡◌ {A = ℕ} 0 1 = cc in absurd (omega arith)
+
 -- a pause that is known
-pub pause-is : {r k : Paused} {n : ℕ} → pause_number r ≡ n → r ≡ k → n ≡ pause_number k
+pub pause-is : {r k : (Option Onward)} {n : ℕ} → pause_number r ≡ n → r ≡ k → n ≡ pause_number k
 pause-is e f = sym e ∙ ap pause_number f
 
 -- a call that takes no line begins where it was lent, with the record s

@@ -2,7 +2,7 @@
 // The first refusals come first and change nothing; past them a call has ended any pause.
 #![tactic(auto)]
 
-ghost use Rattle.std.specs.Prelude.{◌≡◌, true, length};
+ghost use Rattle.std.specs.Prelude.{◌≡◌, true, false, length};
 ghost use Rattle.nibl.specs.Page.{places_of, fits_paused};
 ghost use Rattle.nibl.specs.Record.{unpaused};
 ghost use Rattle.nibl.specs.Lent.{lent_all, left_all, outcome_with};
@@ -12,10 +12,11 @@ ghost use Rattle.nibl.specs.Calls.{leaves, continue_from, take_line, continue_ru
 ghost use Rattle.outcome.specs.Ends.{ended_in};
 ghost use Rattle.outcome.specs.Lends.{Lists, Accepted};
 ghost use Rattle.calls.specs.Tables.{TableLent};
-ghost use Rattle.calls.specs.Past.{past_refusals};
+ghost use Rattle.calls.specs.Past.{refusal_of, past_refusals};
 ghost use Rattle.table.specs.Index.{Indexed};
 
-use nibl::{Call, LIMIT, Paused, ROOM, Session, range, stop};
+use nibl::stop::Stop;
+use nibl::{Call, LIMIT, Onward, ROOM, Session, range};
 use outcome::Ended;
 
 // Whether all that a call looks at is in range.
@@ -29,41 +30,24 @@ fn in_range(
 ) -> bool
     ensures { result ≡ lengths_in_range page memory input output call table }
 {
-    if !range::page_in_range(page) {
-        return false;
-    }
-    if !range::memory_in_range(memory) {
-        return false;
-    }
-    if !range::input_in_range(input) {
-        return false;
-    }
-    if !range::output_in_range(output) {
-        return false;
-    }
-    if !range::position_in_range(call.inpos, input) {
-        return false;
-    }
-    if !range::position_in_range(call.outpos, output) {
-        return false;
-    }
-    if !range::budget_in_range(call.budget) {
-        return false;
-    }
-    range::table_in_range(call, table)
+    range::page_in_range(page)
+        && range::memory_in_range(memory)
+        && range::input_in_range(input)
+        && range::output_in_range(output)
+        && range::position_in_range(call.inpos, input)
+        && range::position_in_range(call.outpos, output)
+        && range::budget_in_range(call.budget)
+        && range::table_in_range(call, table)
 }
 
 // Whether a table that is lent describes the page.
 fn is_described(page: &[u8], call: Call, table: &[u16]) -> bool
     ensures { result ≡ true_of page.now call table.now }
 {
-    if call.tabled == 0 {
-        return true;
-    }
-    table::describes(page, table)
+    call.tabled == 0 || table::describes(page, table)
 }
 
-// The first refusals, in their order: 1, 18, 26, 19. 0 for none.
+// The first refusals, in their order: 1, 18, 26, 19.
 fn first_refusal(
     rec: Session,
     page: &[u8],
@@ -73,8 +57,8 @@ fn first_refusal(
     call: Call,
     lim: usize,
     table: &[u16],
-) -> u8
-    ensures { result ≡ first_refusal lim (lent_all rec page.now memory.now input.now output.now call table.now) }
+) -> Result<(), Stop>
+    ensures { result ≡ refusal_of (first_refusal lim (lent_all rec page.now memory.now input.now output.now call table.now)) }
 {
     if !in_range(
         page.len(),
@@ -84,18 +68,18 @@ fn first_refusal(
         call,
         table.len(),
     ) {
-        return stop::OUT_OF_RANGE;
+        return Err(Stop::OUT_OF_RANGE);
     }
     if !places::is_good(page, lim) {
-        return stop::BAD_PAGE;
+        return Err(Stop::BAD_PAGE);
     }
     if !is_described(page, call, table) {
-        return stop::BAD_TABLE;
+        return Err(Stop::BAD_TABLE);
     }
     if !record::fits(page, rec) {
-        return stop::BAD_RECORD;
+        return Err(Stop::BAD_RECORD);
     }
-    stop::DONE
+    Ok(())
 }
 
 // A paused run goes on; with nothing paused there is nothing to do.
@@ -116,9 +100,9 @@ fn paused_run(
     ensures { ended_in result page.now memory.new output.new
         ≡ continue_from (length reply.old) (lent_all rec page.now memory.old input.now output.old call table.now) rec.paused }
 {
-    match Paused::of(rec.paused) {
-        Paused::Nowhere => outcome::stopped(stop::DONE, rec.unpaused(), call.inpos, call.outpos),
-        Paused::At(from) => outcome::run_from(
+    match Onward::paused(rec.paused) {
+        None => outcome::stopped(Stop::DONE, rec.unpaused(), call.inpos, call.outpos),
+        Some(from) => outcome::run_from(
             from,
             rec.unpaused(),
             page,
@@ -136,10 +120,9 @@ fn paused_run(
     }
 }
 
-// A call past its first refusals: it obeys the typed line, or lets a paused run go on. Its lists stand here and not in the calls,
-// so that they take no stack while page and record are checked. Below here no table is one without entries.
-fn accepted_call(
-    typed: bool,
+// A typed line past the first refusals. The lists stand here and not in the call, so that they take no stack while page and record
+// are checked. Below here no table is one without entries.
+fn accepted_line(
     rec: Session,
     page: &mut [u8],
     memory: &mut [u8],
@@ -150,31 +133,41 @@ fn accepted_call(
 ) -> Ended
     requires { (Accepted limit page.old call.budget (unpaused rec) × (fits_paused (places_of page.old) rec.paused ≡ true)) × TableLent page.old call table.old }
     ensures output_after { outcome_with result.answer result.session page.new memory.new output.new
-        ≡ past_refusals typed (lent_all rec page.old memory.old input.now output.old call table.old) }
+        ≡ past_refusals true (lent_all rec page.old memory.old input.now output.old call table.old) }
     ensures table_after { table.new ≡ table_past call page.new table.old }
 {
     let entries = table::lent_entries(call, table);
-    let mut line = [0u8; LIMIT];
-    let mut reply = [0u8; LIMIT];
-    let mut replies = [0u32; LIMIT];
-    let mut values = [0u16; ROOM];
-    let mut ops = [0u32; ROOM];
-    if typed {
-        return obey::typed_line(
-            rec,
-            page,
-            memory,
-            input,
-            output,
-            call,
-            &mut line,
-            &mut reply,
-            &mut replies,
-            &mut values,
-            &mut ops,
-            &mut table[..entries],
-        );
-    }
+    obey::typed_line(
+        rec,
+        page,
+        memory,
+        input,
+        output,
+        call,
+        &mut [0u8; LIMIT],
+        &mut [0u8; LIMIT],
+        &mut [0u32; LIMIT],
+        &mut [0u16; ROOM],
+        &mut [0u32; ROOM],
+        &mut table[..entries],
+    )
+}
+
+// A paused run past the first refusals: page and table stay. Its lists stand here for the same reason.
+fn accepted_run(
+    rec: Session,
+    page: &[u8],
+    memory: &mut [u8],
+    input: &[u8],
+    output: &mut [u8],
+    call: Call,
+    table: &[u16],
+) -> Ended
+    requires { (Accepted limit page.now call.budget (unpaused rec) × (fits_paused (places_of page.now) rec.paused ≡ true)) × TableLent page.now call table.now }
+    ensures { outcome_with result.answer result.session page.now memory.new output.new
+        ≡ past_refusals false (lent_all rec page.now memory.old input.now output.old call table.now) }
+{
+    let entries = table::lent_entries(call, table);
     paused_run(
         rec,
         page,
@@ -182,13 +175,15 @@ fn accepted_call(
         input,
         output,
         call,
-        &mut reply,
-        &mut replies,
-        &mut values,
-        &mut ops,
+        &mut [0u8; LIMIT],
+        &mut [0u32; LIMIT],
+        &mut [0u16; ROOM],
+        &mut [0u32; ROOM],
         &table[..entries],
     )
 }
+
+// The two calls have one shape and stay two: hosts know both, and past the refusals each has a function of its own.
 
 // Take one typed line: all that is left is what the definition's `take_line` leaves of all that was lent.
 pub fn take_line(
@@ -203,12 +198,10 @@ pub fn take_line(
     ensures { left_all result.answer result.session page.new memory.new output.new table.new
         ≡ leaves take_line (lent_all rec page.old memory.old input.now output.old call table.old) }
 {
-    let first = first_refusal(rec, page, memory, input, output, call, LIMIT, table);
-    let refused = first != stop::DONE;
-    if refused {
-        return outcome::stopped(first, rec, call.inpos, call.outpos);
+    if let Err(stop) = first_refusal(rec, page, memory, input, output, call, LIMIT, table) {
+        return outcome::stopped(stop, rec, call.inpos, call.outpos);
     }
-    accepted_call(true, rec, page, memory, input, output, call, table)
+    accepted_line(rec, page, memory, input, output, call, table)
 }
 
 // Continue a paused run: all that is left is what the definition's `continue_run` leaves of all that was lent.
@@ -224,9 +217,8 @@ pub fn continue_run(
     ensures { left_all result.answer result.session page.new memory.new output.new table.new
         ≡ leaves continue_run (lent_all rec page.old memory.old input.now output.old call table.old) }
 {
-    let refusal = first_refusal(rec, page, memory, input, output, call, LIMIT, table);
-    if refusal != stop::DONE {
-        return outcome::stopped(refusal, rec, call.inpos, call.outpos);
+    if let Err(stop) = first_refusal(rec, page, memory, input, output, call, LIMIT, table) {
+        return outcome::stopped(stop, rec, call.inpos, call.outpos);
     }
-    accepted_call(false, rec, page, memory, input, output, call, table)
+    accepted_run(rec, page, memory, input, output, call, table)
 }

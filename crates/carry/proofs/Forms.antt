@@ -5,16 +5,14 @@ use mathlib.Core.Bool.{true}
 use mathlib.Core.List.{List, [], ◌∷◌, ◌++◌, append_assoc}
 use native.Mathlib.Omega.{arith}
 use lib.ListN.{length, take, drop, set, length-append}
-use lib.Seq.{sets, sets-eq, take_at}
-use borrow.Author.Tests.{le-leb}
+use lib.Seq.{sets, sets-eq, take_at, drop-drop}
+use borrow.Rule.Slice.PartMut.{put_mid}
 use Rattle.nibl.specs.Page.{Stored, record_bytes, program_bytes, is_good, records_of, used_by, used, onto}
 use Rattle.nibl.specs.Saved.{RuleSet, two_bytes, values_bytes, records_bytes, counted, form_number, saved_form}
 use Rattle.page.specs.Standing.{Bytes}
 use Rattle.page.proofs.Program.{program-length}
 use Rattle.page.proofs.Laid.{good-bytes}
 use Rattle.page.proofs.Forms.{values_length}
-use Rattle.value.specs.declared.Wrote.{Wrote}
-use Rattle.value.specs.Writes.{Writes}
 use Rattle.value.proofs.Writing.{sets-append}
 
 -- a program is its records and the end mark
@@ -87,20 +85,25 @@ head-pieces output vars at lines n =
     sym (sets-append (values_bytes vars) (two_bytes lines) head (suc (suc at))
     ∙ (λ i. sets (sets (set (set output at 1) (one i) 26) (two i) (values_bytes vars)) (behind i) (two_bytes lines)))
 
--- an item that has room is written
-pub written : {output item after : List ℕ} {at : ℕ} {r : Wrote} → Writes output at item r after → at + length item ≤ length output → after ≡ sets output at item
-written {output} {item} {after} {at} w h = w.output ∙ rw (le-leb (at + length item) (length output) h)
+-- a slice's part is written over
+pub part-put : (l v : List ℕ) (at : ℕ) {k : ℕ} → k ≡ length v → at + length v ≤ length l → put_mid at k l v ≡ sets l at v
+part-put l v at e h = rw e (ap (λ (r : List ℕ). take at l ++ (v ++ r)) (drop-drop (length v) at l) ∙ sym (append_assoc (take at l) v (drop (at + length v) l)) ∙ sym (sets-eq v l at h))
+
+-- bytes behind their count
+pub counted-put : (l v : List ℕ) (at : ℕ) → sets (sets l at (two_bytes (length v))) (at + 2) v ≡ sets l at (counted v)
+counted-put l v at = let two : at + 2 ≡ suc (suc at) = omega arith in ap (λ (k : ℕ). sets (sets l at (two_bytes (length v))) k v) two
 
 -- records at a page's front, and the end mark behind them
 pub program-put : (page records : List ℕ) → length records + 2 ≤ length page
-    → set (set (sets page 0 records) (length records) 255) (length records + 1) 255 ≡ records ++ (255 ∷ 255 ∷ drop (length records + 2) page)
+    → set (set (records ++ drop (length records) page) (length records) 255) (length records + 1) 255 ≡ records ++ (255 ∷ 255 ∷ drop (length records + 2) page)
 program-put page records h =
     let n : ℕ = length records in
     let next : n + 1 ≡ suc (0 + n) = omega arith in
     let last : 0 + length (records ++ (255 ∷ 255 ∷ [])) ≡ n + 2 = omega (arith, length-append records (255 ∷ 255 ∷ [])) in
     let two : n + 2 ≡ length (records ++ (255 ∷ 255 ∷ [])) = sym (length-append records (255 ∷ 255 ∷ [])) in
     let zero-add : 0 + n ≡ n = omega arith in
-    (λ i. set (set (sets page 0 records) (sym zero-add i) 255) (next i) 255)
+    let front : sets page 0 records ≡ records ++ drop n page = sets-eq records page 0 (omega arith) ∙ ap (λ (k : ℕ). records ++ drop k page) zero-add in
+    (λ i. set (set (sym front i) (sym zero-add i) 255) (next i) 255)
     ∙ sym (sets-append records (255 ∷ 255 ∷ []) page 0)
     ∙ sets-eq (records ++ (255 ∷ 255 ∷ [])) page 0 (omega arith)
     ∙ append_assoc records (255 ∷ 255 ∷ []) (drop (0 + length (records ++ (255 ∷ 255 ∷ []))) page)

@@ -1,5 +1,5 @@
 -- What is asked for before a form is written, what an opened slice is known to carry, and what is asked for before it is loaded.
-use Rattle.std.specs.Prelude.{ℕ, ◌+◌, ◌-◌, ◌≤◌, ◌≡◌, true, List, length, take, drop}
+use Rattle.std.specs.Prelude.{ℕ, ◌+◌, ◌-◌, ◌≤◌, ◌≡◌, true, List, length, take, drop, Result, Ok, Err}
 use Rattle.nibl.specs.Values.{is, no}
 use Rattle.nibl.specs.Typing.{limit}
 use Rattle.nibl.specs.Page.{Stored, is_good, used}
@@ -7,8 +7,7 @@ use Rattle.nibl.specs.FirstRefusals.{table_in_range}
 use Rattle.nibl.specs.Saved.{records_bytes}
 use Rattle.nibl.specs.found.Form.{values_in, form_in}
 use Rattle.nibl.specs.declared.Call.{Call}
-use Rattle.carry.specs.declared.Opened.{Opened}
-use Rattle.carry.specs.declared.Opened.TheVariants.{Form, No}
+use Rattle.nibl.specs.declared.stop.Stop.{Stop}
 
 -- a good page, lengths that two bytes can say, and room
 pub record Savable (output : List ℕ) (at : ℕ) (page memory : List ℕ) : Type 0 where
@@ -26,9 +25,9 @@ pub record OpenedAt (lim : ℕ) (s : List ℕ) (e : ℕ) : Type 0 where
   pub inside : e + 2 ≤ length s
 
 -- what the answer says of a slice that was opened
-pub data OpenedAs (lim : ℕ) (s : List ℕ) : Opened → Type 0 where
-  carries : {e : ℕ} → OpenedAt lim s e → OpenedAs lim s (Form e)
-  refuses : {n : ℕ} → form_in lim s ≡ no n → OpenedAs lim s (No n)
+abbrev pub OpenedAs : ℕ → List ℕ → Result ℕ Stop → Type 0
+OpenedAs lim s (Ok e) = OpenedAt lim s e
+OpenedAs lim s (Err n) = form_in lim s ≡ no n.0
 
 -- an opened slice, and lengths in range
 pub record Loadable (lim : ℕ) (page s : List ℕ) (e : ℕ) (c : Call) (table : List ℕ) : Type 0 where

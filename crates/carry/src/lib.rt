@@ -13,9 +13,10 @@ ghost use Rattle.nibl.specs.Lent.{lent_all, left_all};
 ghost use Rattle.nibl.specs.Carry.{saves, loads_form, loads};
 ghost use Rattle.carry.specs.Forms.{Savable, OpenedAs, Loadable};
 
-use nibl::{Call, END_MARK, LIMIT, Session, VARIABLES, range, stop};
+use nibl::stop::Stop;
+use nibl::{Call, END_MARK, LIMIT, Session, VARIABLES, range};
 use outcome::{Ended, stopped};
-use value::write_item;
+use page::Records;
 
 // The form's first two bytes: its number, and how many variables follow.
 const NUMBER: u8 = 1;
@@ -34,26 +35,11 @@ const COUNT: usize = 2;
 
 const MARK: usize = 2;
 
-// A slice that was opened: where the records end that it carries, or 22 or 23.
-#[derive(Clone, Copy)]
-enum Opened {
-    Form(usize),
-    No(u8),
-}
-
 // How many lines a page has.
 fn line_count(page: &[u8]) -> usize
     ensures { result ≡ length (records_of page.now) }
 {
-    let mut k: usize = 0;
-    let mut at: usize = 0;
-    let mut size = page::size_at(page, at);
-    while 0 < size {
-        k += 1;
-        at += size;
-        size = page::size_at(page, at);
-    }
-    k
+    Records::of(page).count()
 }
 
 // Two bytes, the high one first.
@@ -61,18 +47,15 @@ fn put_two(output: &mut [u8], at: usize, x: u16)
     requires { at + 2 ≤ length output.old }
     ensures { output.new ≡ sets output.old at (two_bytes x) }
 {
-    output[at] = (x / 256) as u8;
-    output[at + 1] = (x % 256) as u8;
+    output[at..at + 2].copy_from_slice(&x.to_be_bytes());
 }
 
 fn put_values(output: &mut [u8], at: usize, vars: [u16; VARIABLES])
     requires { at + 52 ≤ length output.old }
     ensures { output.new ≡ sets output.old at (values_bytes vars) }
 {
-    let mut i: usize = 0;
-    while i < VARIABLES {
-        put_two(output, at + 2 * i, vars[i]);
-        i += 1;
+    for (i, x) in vars.iter().enumerate() {
+        put_two(output, at + 2 * i, *x);
     }
 }
 
@@ -93,7 +76,8 @@ fn put_counted(output: &mut [u8], at: usize, bytes: &[u8])
     ensures { output.new ≡ sets output.old at (counted bytes.now) }
 {
     put_two(output, at, bytes.len() as u16);
-    write_item(output, at + COUNT, bytes);
+    let from = at + COUNT;
+    output[from..from + bytes.len()].copy_from_slice(bytes);
 }
 
 // The form of a good page, of these variables and of this memory goes to the output, where it has room.
@@ -103,24 +87,19 @@ fn put_form(output: &mut [u8], at: usize, vars: [u16; VARIABLES], page: &[u8], m
 {
     let end = page::used_bytes(page) - MARK;
     put_head(output, at, vars, line_count(page) as u16);
-    write_item(output, at + RECORDS_AT, &page[..end]);
-    put_counted(output, at + RECORDS_AT + end, memory);
+    let from = at + RECORDS_AT;
+    output[from..from + end].copy_from_slice(&page[..end]);
+    put_counted(output, from + end, memory);
 }
 
 // Whether all that a save looks at is in range.
 fn save_in_range(page: usize, memory: usize, output: usize, outpos: usize) -> bool
     ensures { result ≡ (page_in_range page && (memory_in_range memory && (output_in_range output && position_in_range outpos output))) }
 {
-    if !range::page_in_range(page) {
-        return false;
-    }
-    if !range::memory_in_range(memory) {
-        return false;
-    }
-    if !range::output_in_range(output) {
-        return false;
-    }
-    range::position_in_range(outpos, output)
+    range::page_in_range(page)
+        && range::memory_in_range(memory)
+        && range::output_in_range(output)
+        && range::position_in_range(outpos, output)
 }
 
 // Save: all that is left is what the definition's `saves` leaves of all that was lent.
@@ -137,41 +116,34 @@ pub fn save(
 {
     let at = call.outpos;
     if !save_in_range(page.len(), memory.len(), output.len(), at) {
-        return stopped(stop::OUT_OF_RANGE, rec, call.inpos, at);
+        return stopped(Stop::OUT_OF_RANGE, rec, call.inpos, at);
     }
     if !places::is_good(page, LIMIT) {
-        return stopped(stop::BAD_PAGE, rec, call.inpos, at);
+        return stopped(Stop::BAD_PAGE, rec, call.inpos, at);
     }
     if !record::fits(page, rec) {
-        return stopped(stop::BAD_RECORD, rec, call.inpos, at);
+        return stopped(Stop::BAD_RECORD, rec, call.inpos, at);
     }
     let end = at + RECORDS_AT + page::used_bytes(page) + memory.len();
     if output.len() < end {
-        return stopped(stop::OUTPUT_FULL, rec, call.inpos, at);
+        return stopped(Stop::OUTPUT_FULL, rec, call.inpos, at);
     }
-    let vars = rec.vars;
-    put_form(output, at, vars, page, memory);
-    stopped(stop::DONE, rec, call.inpos, end)
+    put_form(output, at, rec.vars, page, memory);
+    stopped(Stop::DONE, rec, call.inpos, end)
 }
 
 // Whether a slice has the form's number.
 fn has_number(form: &[u8]) -> bool
     ensures { result ≡ has_number form.now }
 {
-    if form.len() < 1 {
-        return false;
-    }
-    form[0] == NUMBER
+    form.first() == Some(&NUMBER)
 }
 
 // Whether it has as many variables as it should, and a line count.
 fn has_values(form: &[u8]) -> bool
     ensures { result ≡ has_values form.now }
 {
-    if form.len() < RECORDS_AT {
-        return false;
-    }
-    form[1] == VALUES
+    RECORDS_AT <= form.len() && form[1] == VALUES
 }
 
 // Whether a count and so many bytes are all that stands from `at` on.
@@ -180,31 +152,25 @@ fn is_counted(form: &[u8], at: usize) -> bool
     ensures { result ≡ is_counted (drop at form.now) }
 {
     let left = form.len() - at;
-    if left < COUNT {
-        return false;
-    }
-    left == page::number_at(form, at) as usize + COUNT
+    COUNT <= left && left == usize::from(page::number_at(form, at)) + COUNT
 }
 
-// A slice is opened: it is looked at whole.
-fn open_form(form: &[u8], lim: usize) -> Opened
+// A slice is opened, it is looked at whole: where the records end that it carries, or 22 or 23.
+fn open_form(form: &[u8], lim: usize) -> Result<usize, Stop>
     ensures { OpenedAs lim form.now result }
 {
     if !has_number(form) {
-        return Opened::No(stop::OTHER_FORM);
+        return Err(Stop::OTHER_FORM);
     }
     if !has_values(form) {
-        return Opened::No(stop::BAD_FORM);
+        return Err(Stop::BAD_FORM);
     }
-    let count = page::number_at(form, COUNT_AT) as usize;
-    let end = places::records_end(form, RECORDS_AT, count, lim);
-    if end < RECORDS_AT {
-        return Opened::No(stop::BAD_FORM);
-    }
+    let count = usize::from(page::number_at(form, COUNT_AT));
+    let end = places::records_end(form, RECORDS_AT, count, lim).ok_or(Stop::BAD_FORM)?;
     if !is_counted(form, end) {
-        return Opened::No(stop::BAD_FORM);
+        return Err(Stop::BAD_FORM);
     }
-    Opened::Form(end)
+    Ok(end)
 }
 
 // The variables of a form.
@@ -213,10 +179,8 @@ fn form_values(form: &[u8]) -> [u16; VARIABLES]
     ensures { result ≡ values_in 26 (drop 2 form.now) }
 {
     let mut vars = [0u16; VARIABLES];
-    let mut i: usize = 0;
-    while i < VARIABLES {
-        vars[i] = page::number_at(form, VALUES_AT + 2 * i);
-        i += 1;
+    for (i, x) in vars.iter_mut().enumerate() {
+        *x = page::number_at(form, VALUES_AT + 2 * i);
     }
     vars
 }
@@ -227,7 +191,7 @@ fn put_program(page: &mut [u8], records: &[u8])
     ensures { page.new ≡ records.now ++ (255 ∷ 255 ∷ drop (length records.now + 2) page.old) }
 {
     let n = records.len();
-    write_item(page, 0, records);
+    page[..n].copy_from_slice(records);
     page[n] = END_MARK;
     page[n + 1] = END_MARK;
 }
@@ -236,13 +200,9 @@ fn put_program(page: &mut [u8], records: &[u8])
 fn load_in_range(page: usize, memory: usize, call: Call, table: usize) -> bool
     ensures { result ≡ (page_in_range page && (memory_in_range memory && table_in_range call table)) }
 {
-    if !range::page_in_range(page) {
-        return false;
-    }
-    if !range::memory_in_range(memory) {
-        return false;
-    }
-    range::table_in_range(call, table)
+    range::page_in_range(page)
+        && range::memory_in_range(memory)
+        && range::table_in_range(call, table)
 }
 
 // A load of a form whose records end at `end`: 24, 2, or all that it carries.
@@ -260,17 +220,21 @@ fn load_opened(
 {
     let from = end + COUNT;
     if form.len() - from != memory.len() {
-        return stopped(stop::OTHER_MEMORY, rec, call.inpos, call.outpos);
+        return stopped(Stop::OTHER_MEMORY, rec, call.inpos, call.outpos);
     }
     if page.len() < end - RECORDS_AT + MARK {
-        return stopped(stop::PAGE_FULL, rec, call.inpos, call.outpos);
+        return stopped(Stop::PAGE_FULL, rec, call.inpos, call.outpos);
     }
     put_program(page, &form[RECORDS_AT..end]);
-    write_item(memory, 0, &form[from..]);
+    memory.copy_from_slice(&form[from..]);
     let entries = table::lent_entries(call, table);
     table::refill(page, &mut table[..entries], 0, 0);
-    let vars = form_values(form);
-    stopped(stop::DONE, rec.loaded(vars), call.inpos, call.outpos)
+    stopped(
+        Stop::DONE,
+        rec.loaded(form_values(form)),
+        call.inpos,
+        call.outpos,
+    )
 }
 
 // Load: all that is left is what the definition's `loads` leaves of all that was lent. The form is the input, whole.
@@ -286,10 +250,10 @@ pub fn load(
     ensures { left_all result.answer result.session page.new memory.new output.new table.new ≡ loads (lent_all rec page.old memory.old input.now output.old call table.old) }
 {
     if !load_in_range(page.len(), memory.len(), call, table.len()) {
-        return stopped(stop::OUT_OF_RANGE, rec, call.inpos, call.outpos);
+        return stopped(Stop::OUT_OF_RANGE, rec, call.inpos, call.outpos);
     }
     match open_form(input, LIMIT) {
-        Opened::No(n) => stopped(n, rec, call.inpos, call.outpos),
-        Opened::Form(end) => load_opened(rec, page, memory, input, end, call, table),
+        Ok(end) => load_opened(rec, page, memory, input, end, call, table),
+        Err(n) => stopped(n, rec, call.inpos, call.outpos),
     }
 }

@@ -1,5 +1,7 @@
 -- A statement does alike in surroundings that are alike. Assumes nothing.
 use Rattle.std.specs.Prelude.{if◌then◌else◌}
+use Rattle.std.specs.Prelude.{Option as Opt}
+use Rattle.nibl.specs.declared.ForEntry.{ForEntry}
 use Prim.Native.Nat.{ℕ, suc, ◌+◌, ◌%◌}
 use mathlib.Core.Path.{◌≡◌, refl, sym, ap, ◌∙◌, subst}
 use mathlib.Core.Bool.{Bool, true, false, not}
@@ -24,8 +26,6 @@ use Rattle.nibl.specs.declared.Session.{Session}
 use Rattle.nibl.specs.declared.Place.{Place}
 use Rattle.nibl.specs.declared.PlaceStack.{PlaceStack}
 use Rattle.nibl.specs.declared.ForStack.{ForStack}
-use Rattle.nibl.specs.declared.Top.{Top}
-use Rattle.nibl.specs.declared.TopFor.{TopFor}
 use Rattle.changes.specs.Alike.{Likeness, TopsAlike, ForTopsAlike, EntriesAlike, ResultsAlike, OptionsAlike, nothing, something, Each, FineItem, FineStmt, SessionsAlike, WorldsAlike, NextAlike, go_on, skips, goes, stops, Both, both, EnvsAlike, Alike, alike, heard, parted}
 use Rattle.changes.specs.Alike as A
 
@@ -186,7 +186,7 @@ module _ (L : Likeness) (N : ℕ → Type 0) (e e' : Env) (s : EnvsAlike L N e e
       by true = stops
       by false = goes (L.after _ _ h)
 
-    return-both : {t t' : Top} → TopsAlike L.H t t' → Both L i (return_by w t) (return_by w' t')
+    return-both : {t t' : (Opt Place)} → TopsAlike L.H t t' → Both L i (return_by w t) (return_by w' t')
     unfolding return_by
     return-both A.empty = both stops r
     return-both (A.places {p} {p'} h) = both (after-alike p p' h) (with-session r (with-gosubs r.session (L.pop _ _ r.session.gosubs)))
@@ -197,7 +197,7 @@ module _ (L : Likeness) (N : ℕ → Type 0) (e e' : Env) (s : EnvsAlike L N e e
         choice (Both L i) _ _ (L.push_ok _ _ _ _ r.session.dos s.here)
         (both go_on (with-session r (with-dos r.session (L.push _ _ _ _ r.session.dos s.here)))) (both stops r)
 
-    until-both : (x : ℕ) {t t' : Top} → TopsAlike L.H t t' → Both L i (until_by w x t) (until_by w' x t')
+    until-both : (x : ℕ) {t t' : (Opt Place)} → TopsAlike L.H t t' → Both L i (until_by w x t) (until_by w' x t')
     unfolding until_by
     until-both x A.empty = both stops r
     until-both x (A.places h) =
@@ -211,7 +211,7 @@ module _ (L : Likeness) (N : ℕ → Type 0) (e e' : Env) (s : EnvsAlike L N e e
         choice (Both L i) _ _ (L.push_for_ok _ _ _ _ r.session.fors f)
         (both go_on (with-session r (with-var (with-fors r.session (L.push_fors _ _ _ _ r.session.fors f)) v x))) (both stops r)
 
-    next_both : (v : ℕ) {t t' : TopFor} → ForTopsAlike L.H t t' → Both L i (next_by w v t) (next_by w' v t')
+    next_both : (v : ℕ) {t t' : (Opt ForEntry)} → ForTopsAlike L.H t t' → Both L i (next_by w v t) (next_by w' v t')
     unfolding next_by
     next_both v A.empty = both stops r
     next_both v (A.entries {f} {f'} h) =

@@ -1,5 +1,7 @@
 -- A run of a box is the same whatever stands in the bytes that it may not read. Assumes nothing.
 use Prim.Native.Nat.{ℕ, suc}
+use Rattle.std.specs.Prelude.{Option as Opt, Some, None}
+use Rattle.nibl.specs.declared.Place.{Place}
 use mathlib.Core.Path.{◌≡◌, refl, ap, subst}
 use mathlib.Core.List.{List, [], ◌∷◌}
 use mathlib.Core.Option.{Option, none, some}
@@ -16,10 +18,6 @@ use Rattle.nibl.specs.Runs as runs
 use Rattle.nibl.specs.declared.PlaceStack.{PlaceStack}
 use Rattle.nibl.specs.declared.ForEntry.{ForEntry}
 use Rattle.nibl.specs.declared.ForStack.{ForStack}
-use Rattle.nibl.specs.declared.Top.{Top}
-use Rattle.nibl.specs.declared.Top.TheVariants as top
-use Rattle.nibl.specs.declared.TopFor.{TopFor}
-use Rattle.nibl.specs.declared.TopFor.TheVariants as topf
 use Rattle.changes.specs.Alike.{Likeness, TopsAlike, ForTopsAlike, EntriesAlike, ResultsAlike, OptionsAlike, nothing, something, Each, no_more, one_more, FineItem, FineStmt, WorldsAlike, EnvsAlike, FetchedAlike, past, unread, here, RunsAlike}
 use Rattle.changes.specs.Alike as A
 use Rattle.changes.specs.Boxes.{Sees, Printed}
@@ -61,13 +59,13 @@ any-stmt remark = A.a_remark
 any-stmt end = A.an_end
 
 -- equal stacks are alike
-pub tops-same : (t : Top) → TopsAlike (λ (p q : ℕ). p ≡ q) t t
-tops-same top.Empty = A.empty
-tops-same (top.At p) = A.places refl
+pub tops-same : (t : Opt Place) → TopsAlike (λ (p q : ℕ). p ≡ q) t t
+tops-same None = A.empty
+tops-same (Some p) = A.places refl
 
-pub for-tops-same : (t : TopFor) → ForTopsAlike (λ (p q : ℕ). p ≡ q) t t
-for-tops-same topf.Empty = A.empty
-for-tops-same (topf.Entry f) = A.entries (record { var = refl; limit = refl; step = refl; place = refl })
+pub for-tops-same : (t : Opt ForEntry) → ForTopsAlike (λ (p q : ℕ). p ≡ q) t t
+for-tops-same None = A.empty
+for-tops-same (Some f) = A.entries (record { var = refl; limit = refl; step = refl; place = refl })
 
 pub same-entry : {f g : ForEntry} → EntriesAlike (λ (p q : ℕ). p ≡ q) f g → f ≡ g
 same-entry h = λ i. record { var = h.var i; limit = h.limit i; step = h.step i; place = place (h.place i) }

@@ -1,5 +1,6 @@
 -- Two runs alike, in surroundings that differ in a harmless way: one law for all that document 02's items want shown of that.
 use Rattle.std.specs.Prelude.{ℕ, suc, ◌+◌, ◌≡◌, Bool, true, List, [], ◌∷◌, ◌⊎◌, length, drop, eqb}
+use Rattle.std.specs.Prelude.{Option as Opt, Some, None}
 use Rattle.std.proofs.Math.Option.{Option, none, some}
 use Rattle.std.proofs.lemmas.List.Edits.{sets}
 use Rattle.nibl.specs.Tree.{Op, Expr, top, byte_at, invert, negate, modulo, two}
@@ -19,16 +20,12 @@ use Rattle.nibl.specs.declared.Place.{Place}
 use Rattle.nibl.specs.declared.PlaceStack.{PlaceStack}
 use Rattle.nibl.specs.declared.ForEntry.{ForEntry}
 use Rattle.nibl.specs.declared.ForStack.{ForStack}
-use Rattle.nibl.specs.declared.Top.{Top}
-use Rattle.nibl.specs.declared.Top.TheVariants as top
-use Rattle.nibl.specs.declared.TopFor.{TopFor}
-use Rattle.nibl.specs.declared.TopFor.TheVariants as topf
 use Rattle.demands.specs.Leaves.{WholeLines}
 
 -- the tops of two stacks, whose places are alike by H
-pub data TopsAlike (H : ℕ → ℕ → Type 0) : Top → Top → Type 0 where
-  empty : TopsAlike H top.Empty top.Empty
-  places : {p p' : Place} → H (position p) (position p') → TopsAlike H (top.At p) (top.At p')
+pub data TopsAlike (H : ℕ → ℕ → Type 0) : Opt Place → Opt Place → Type 0 where
+  empty : TopsAlike H None None
+  places : {p p' : Place} → H (position p) (position p') → TopsAlike H (Some p) (Some p')
 
 pub record EntriesAlike (H : ℕ → ℕ → Type 0) (f f' : ForEntry) : Type 0 where
   pub var : f.var ≡ f'.var
@@ -36,9 +33,9 @@ pub record EntriesAlike (H : ℕ → ℕ → Type 0) (f f' : ForEntry) : Type 0 
   pub step : f.step ≡ f'.step
   pub place : H (position f.place) (position f'.place)
 
-pub data ForTopsAlike (H : ℕ → ℕ → Type 0) : TopFor → TopFor → Type 0 where
-  empty : ForTopsAlike H topf.Empty topf.Empty
-  entries : {f f' : ForEntry} → EntriesAlike H f f' → ForTopsAlike H (topf.Entry f) (topf.Entry f')
+pub data ForTopsAlike (H : ℕ → ℕ → Type 0) : Opt ForEntry → Opt ForEntry → Type 0 where
+  empty : ForTopsAlike H None None
+  entries : {f f' : ForEntry} → EntriesAlike H f f' → ForTopsAlike H (Some f) (Some f')
 
 -- what was asked for is alike, or the refusal is the same
 pub data ResultsAlike {A B : Type 0} (R : A → B → Type 0) : Result A → Result B → Type 0 where

@@ -1,5 +1,6 @@
 // The operations that a statement is read into. An operation is one number: its code below CODES, and its argument above.
 // The codes below EFFECTS take values off a stack and put one on; the others change the world and leave no values.
+// Numbers and no enum: crates operation, effect and statement promise an answer for every number, and the lists that are lent hold numbers.
 #![tactic(auto)]
 
 ghost use Rattle.std.specs.Prelude.{◌≤◌, ◌<◌, ◌≡◌};
@@ -106,6 +107,8 @@ pub const INPUT_STRING: u32 = 37;
 pub const END: u32 = 38;
 
 // The operators, by their index in the grammar's lists: * / AND, + - OR, = < > <= >= <>
+// Numbers and no enum, as the codes are: an operator is the argument of an operation, one number in a buffer of fixed size, so that an enum
+// would be made of it at each step only to be matched once.
 pub const OPERATOR_TIMES: u8 = 0;
 
 pub const OPERATOR_DIVIDE: u8 = 1;

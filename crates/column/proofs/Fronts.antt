@@ -1,15 +1,18 @@
 -- Whether a text is the front of a line, a spelling and a byte at a time. Assumes nothing.
-use Rattle.std.specs.Prelude.{if◌then◌else◌}
+use Rattle.std.specs.Prelude.{if◌then◌else◌, Ok, Err}
 use Prim.Native.Nat.{ℕ, zero, suc, ◌+◌, ◌-◌, ◌/◌, ◌%◌, ◌≤◌, ◌<◌, min, max}
 use mathlib.Core.Path.{◌≡◌, refl, sym, ap, ◌∙◌}
 use mathlib.Core.Bool.{Bool, true, false, false≢true, ◌&&◌, ◌||◌}
 use mathlib.Core.List.{List, [], ◌∷◌, ◌++◌}
-use native.Mathlib.Nat.{add-zero}
 use native.Mathlib.Omega.{arith}
-use borrow.Author.Tests.{leb-true, leb-false, le-leb, lt-leb, eq-eqb, ne_eqb}
+use borrow.Author.Tests.{leb-true, leb-false, le-leb}
 use lib.Dec.{eqb, leb}
-use lib.ListN.{length, take, drop, get_or, set, length-drop, drop_of_length-le, take-append-drop}
-use lib.Seq.{sets, sets-eq, length-sets, take-append_seam, paste, paste-zero, paste-suc, length-paste, take-paste, length-take-le, take_all, take-take, take-append-le, get_or-take, get_or-drop}
+use lib.ListN.{length, length-append, take, drop, get_or, length-drop, drop_of_length-le, take-append-drop}
+use Rattle.std.specs.Cmp.Lexicographic.{pointwise}
+use Rattle.std.specs.Prelude.{nat_eq}
+use Rattle.std.proofs.lemmas.Slice.{take-put_mid}
+use borrow.Rule.Slice.PartMut.{put_mid}
+use lib.Seq.{sets, sets-eq, length-sets, take-append_seam, take-take, take-append-le}
 use Rattle.nibl.specs.Bytes.{same}
 use Rattle.nibl.specs.Words.{keywords, commands}
 use Rattle.nibl.specs.found.Column.{typed_line, typed_command, Verdict, alive, stuck, is_alive, line_run, all_taken, spellings, ends_with, begun_by, begun_in, is_front, column_down, column_of}
@@ -20,63 +23,20 @@ use Rattle.word.specs.Found.{spellings_of, longest_keyword, spelled_key}
 use Rattle.word.proofs.Runs.{at_byte}
 use Rattle.column.specs.Runs.{VerdictIs, line_symbol}
 use Rattle.column.specs.Fronts.{spelled_all, Spare, Kept, bytes_left, ReachIs, last_tried}
-use Rattle.column.specs.declared.run.Verdict.TheVariants.{Alive, Stuck}
 
 -- What a verdict says
 module _ {text : List ℕ} {v : Verdict} where
-  pub taken-alive : VerdictIs text v Alive → true ≡ is_alive v
+  pub taken-alive : VerdictIs text v (Ok tt) → true ≡ is_alive v
   taken-alive h = ap is_alive h.same
 
-  pub taken-stuck : {at : ℕ} → VerdictIs text v (Stuck at) → false ≡ is_alive v
+  pub taken-stuck : {at : ℕ} → VerdictIs text v (Err at) → false ≡ is_alive v
   taken-stuck h = ap is_alive h.same
 
-  pub reach-alive : VerdictIs text v Alive → ReachIs text v (length text)
+  pub reach-alive : VerdictIs text v (Ok tt) → ReachIs text v (length text)
   reach-alive h = record { same = omega (arith, ap bytes_left h.same); inside = omega arith }
 
-  pub reach-stuck : {at : ℕ} → VerdictIs text v (Stuck at) → ReachIs text v at
+  pub reach-stuck : {at : ℕ} → VerdictIs text v (Err at) → ReachIs text v at
   reach-stuck h = record { same = omega (arith, ap bytes_left h.same, h.inside); inside = h.inside }
-
--- The end of a text and the beginning of a spelling
-module _ (text : List ℕ) (n : ℕ) (z : List ℕ) (i : ℕ) (l : n ≤ length text) (m : i ≤ length z) where
-  sizes : (length (take n text) ≡ n) × (length (take i z) ≡ i)
-  sizes = (length-take-le n text l, length-take-le i z m)
-
-  pub ends-short : n < i → false ≡ ends_with (take i z) (take n text)
-  ends-short h = rw (sizes.0, sizes.1, lt-leb i n h)
-
-  pub record Ending (j : ℕ) : Type 0 where
-    pub some : i ≤ n
-    pub most : j ≤ i
-    pub same : same (drop j (take i z)) (drop (n - i + j) (take n text)) ≡ ends_with (take i z) (take n text)
-
-  pub ending-first : i ≤ n → Ending 0
-  ending-first h = record { some = h; most = omega arith; same = rw (sizes.0, sizes.1, le-leb i n h, add-zero) }
-
-  module _ {j : ℕ} (e : Ending j) where
-    module _ (h : j < i) where
-      here : (eqb (get_or z j 0) (get_or text (n - i + j) 0) && same (drop (j + 1) (take i z)) (drop (n - i + (j + 1)) (take n text)))
-          ≡ ends_with (take i z) (take n text)
-      here =
-          let k : n - i + j < n = omega (arith, e.some) in
-          let a : drop j (take i z) ≡ get_or z j 0 ∷ drop (j + 1) (take i z)
-          = rw (get_or-take i z j 0 h) at (at_byte (take i z) j (omega (arith, sizes.1))) in
-          let d : n - i + j + 1 ≡ n - i + (j + 1) = omega arith in
-          let b : drop (n - i + j) (take n text) ≡ get_or text (n - i + j) 0 ∷ drop (n - i + (j + 1)) (take n text)
-          = rw (get_or-take n text (n - i + j) 0 k, d) at (at_byte (take n text) (n - i + j) (omega (arith, sizes.0))) in
-          rw (a, b) at e.same
-
-      pub ending-on : get_or text (n - i + j) 0 ≡ get_or z j 0 → Ending (j + 1)
-      ending-on d = record { some = e.some; most = omega arith; same = rw (eq-eqb (get_or z j 0) (get_or text (n - i + j) 0) (sym d)) at here }
-
-      pub ending-not : (get_or text (n - i + j) 0 ≡ get_or z j 0 → ⊥) → false ≡ ends_with (take i z) (take n text)
-      ending-not d = rw (ne_eqb (get_or z j 0) (get_or text (n - i + j) 0) (λ q. d (sym q))) at here
-
-    pub ending-last : i ≤ j → true ≡ ends_with (take i z) (take n text)
-    ending-last h =
-        let d : j ≡ i = omega (arith, e.most) in
-        let a : drop j (take i z) ≡ [] = drop_of_length-le (take i z) {i = j} (omega (arith, sizes.1)) in
-        let b : drop (n - i + j) (take n text) ≡ [] = drop_of_length-le (take n text) {i = n - i + j} (omega (arith, sizes.0, e.some)) in
-        rw (a, b) at e.same
 
 pub all-taken-line : (s : List ℕ) → true ≡ is_alive (line_run (spellings_of false) (line_symbol false) s) → true ≡ all_taken s
 unfolding all_taken
@@ -87,77 +47,30 @@ pub all-taken-command : (s : List ℕ) {b : Bool} → false ≡ is_alive (line_r
 unfolding all_taken
 all-taken-command s e f = rw (← e) f
 
--- Bytes laid over a text
-pub record Laying (before : List ℕ) (n : ℕ) (z : List ℕ) (i : ℕ) (text : List ℕ) (j to : ℕ) : Type 0 where
-  pub low : i ≤ j
-  pub high : j ≤ length z
-  pub at : to ≡ n + (j - i)
-  pub same : text ≡ paste before n (drop i z) (j - i)
-
-module _ (before : List ℕ) (n : ℕ) (z : List ℕ) (i : ℕ) (l : i ≤ length z) (r : n + (length z - i) ≤ length before) where
-  pub laying-first : Laying before n z i before i n
-  laying-first =
-      let d : i - i ≡ 0 = omega arith in
-      record { low = omega arith; high = l; at = omega arith; same = rw d (paste-zero before n (drop i z)) }
-
-  module _ {text : List ℕ} {j to : ℕ} (p : Laying before n z i text j to) where
-    pub laying-size : length text ≡ length before
-    laying-size =
-        ap length p.same
-        ∙ length-paste before n (drop i z) (j - i) (omega (arith, p.low, p.high)) (omega (arith, length-drop i z, p.low, p.high))
-
-    pub laying-room : j < length z → to < length text
-    laying-room h = omega (arith, p.at, p.low, laying-size)
-
-    pub laying-on : j < length z → Laying before n z i (set text to (get_or z j 0)) (j + 1) (to + 1)
-    laying-on h =
-        let d : j + 1 - i ≡ suc (j - i) = omega (arith, p.low) in
-        let f : i + (j - i) ≡ j = omega (arith, p.low) in
-        let g : get_or (drop i z) (j - i) 0 ≡ get_or z j 0 = rw f at (get_or-drop i z (j - i) 0) in
-        let k = paste-suc before n (drop i z) (j - i) 0 (omega (arith, p.low)) (omega (arith, length-drop i z, p.low)) in
-        record {
-          low = omega (arith, p.low);
-          high = omega arith;
-          at = omega (arith, p.at, p.low);
-          same = rw (d, p.at, p.same, ← g) k;
-        }
-
-    pub laying-end : length z ≤ j → to ≡ n + (length z - i)
-    laying-end h = omega (arith, p.at, p.high)
-
-    pub laying-last : length z ≤ j → text ≡ paste before n (drop i z) (length z - i)
-    laying-last h = let d : j ≡ length z = omega (arith, p.high) in rw d at p.same
-
 -- The longest front part that need be tried
 module _ (text : List ℕ) {a b : ℕ} (p : ReachIs text (line_run (spellings_of false) (line_symbol false) text) a) (q : ReachIs text (line_run (spellings_of true) (line_symbol true) text) b) where
-  pub last-whole : length text < max a b + 4 → length text ≡ last_tried text
+  pub last-part : {far : ℕ} → far ≡ max a b → min (length text) (far + 4) ≡ last_tried text
   unfolding last_tried
-  last-whole h = omega (arith, p.same, q.same)
+  last-part e = omega (arith, p.same, q.same, p.inside, q.inside)
 
-  pub last-part : max a b + 4 ≤ length text → max a b + 4 ≡ last_tried text
-  unfolding last_tried
-  last-part h = omega (arith, p.same, q.same)
+-- the code's test of an end is the definition's
+same-pairs : (xs ys : List ℕ) → pointwise nat_eq xs ys ≡ same xs ys
+same-pairs [] [] = refl
+same-pairs [] (y ∷ ys) = refl
+same-pairs (x ∷ xs) [] = refl
+same-pairs (x ∷ xs) (y ∷ ys) = ap (λ (b : Bool). eqb x y && b) (same-pairs xs ys)
 
-module _ (text : List ℕ) (n : ℕ) (z : List ℕ) (i : ℕ) (l : i ≤ length z) (r : n + (length z - i) ≤ length text) where
-  part : length z - i ≤ length (drop i z)
-  part = omega (arith, length-drop i z)
+pub ends-found : {front end : List ℕ} (s : List ℕ) → front ≡ end → true ≡ pointwise nat_eq front (drop (length s - length front) s) → length front ≤ length s
+    → ends_with end s ≡ true
+ends-found {front} {end} s e f l =
+    ap (λ (x : List ℕ). ends_with x s) (sym e) ∙ rw (le-leb (length front) (length s) l) (sym (same-pairs front (drop (length s - length front) s)) ∙ sym f)
 
-  -- the rest of a spelling behind the first n bytes
-  pub laid-whole : take (n + (length z - i)) (paste text n (drop i z) (length z - i)) ≡ take n text ++ drop i z
-  laid-whole = take-paste text n (drop i z) (length z - i) (omega arith) part ∙ ap (λ (x : List ℕ). take n text ++ x) (take_all (length z - i) (drop i z) (omega (arith, length-drop i z)))
-
-  pub laid_kept : Kept text n (paste text n (drop i z) (length z - i))
-  laid_kept = record {
-    front =
-        sym (take-take n (n + (length z - i)) (paste text n (drop i z) (length z - i)) (omega arith)) ∙ ap (take n) laid-whole
-        ∙ take-append-le n (take n text) (drop i z) (omega (arith, length-take-le n text (omega arith))) ∙ take-take n n text (omega arith);
-    size = length-paste text n (drop i z) (length z - i) r part;
-  }
-
-  pub begun-laid : {b : Bool} {to : ℕ} {text' : List ℕ} → ends_with (take i z) (take n text) ≡ true → to ≡ n + (length z - i)
-      → text' ≡ paste text n (drop i z) (length z - i) → b ≡ all_taken (take to text')
-      → b ≡ (ends_with (take i z) (take n text) && all_taken (take n text ++ drop i z))
-  begun-laid e d f g = rw e (g ∙ ap all_taken (rw (d, f) laid-whole))
+-- the rest of a spelling laid behind the first n bytes
+pub begun-laid : (text : List ℕ) (n k : ℕ) (z : List ℕ) (i : ℕ) {b : Bool} {rest part : List ℕ} → n ≤ length text
+    → ends_with (take i z) (take n text) ≡ true → rest ≡ drop i z → part ≡ rest
+    → b ≡ all_taken (take (n + length rest) (put_mid n k text part)) → b ≡ (ends_with (take i z) (take n text) && all_taken (take n text ++ drop i z))
+begun-laid text n k z i {part = part} l e f g h =
+    rw e (h ∙ ap all_taken (rw (← f, ← g) (take-put_mid n k text part (n + length part) refl l)))
 
 pub begun-not : {x : Bool} (y : Bool) → x ≡ false → false ≡ (x && y)
 begun-not y e = rw e
@@ -266,9 +179,6 @@ module _ {before : List ℕ} {n : ℕ} {keys bottom text stack : List ℕ} {i : 
   trying-last h = let d : drop i keys ≡ [] = drop_of_length-le keys h in rw d at p.same
 
 -- Fronts
-pub is-front-taken : (s : List ℕ) → true ≡ all_taken s → true ≡ is_front s
-is-front-taken s e = sym (front-taken s (sym e))
-
 -- two lists of spellings, one behind the other
 begun-both : (ys zs : List (List ℕ)) (s : List ℕ) → begun_in (ys ++ zs) s ≡ (begun_in ys s || begun_in zs s)
 unfolding begun_in
@@ -284,20 +194,35 @@ begun-both (y ∷ ys) zs s = go (begun_by s y (length y - 1)) (begun-both ys zs 
 abbrev pub others : List (List ℕ)
 others = drop (length keywords + length commands) spellings
 
-module _ (s : List ℕ) (e : false ≡ all_taken s) where
-  front_by : is_front s ≡ (begun_in keywords s || (begun_in commands s || begun_in others s))
-  front_by =
-      front-begun s (sym e) ∙ begun-both keywords (commands ++ others) s ∙ ap (λ (b : Bool). begun_in keywords s || b) (begun-both commands others s)
+or-both : (a b c : Bool) → (a || (b || c)) ≡ ((a || b) || c)
+or-both true b c = refl
+or-both false b c = refl
 
-  pub front-keyword : true ≡ begun_in keywords s → true ≡ is_front s
-  front-keyword f = rw (front_by, ← f)
+front_by : (s : List ℕ) → is_front s ≡ (((all_taken s || begun_in keywords s) || begun_in commands s) || begun_in others s)
+front_by s = go (all_taken s) refl
+  where
+    go : (t : Bool) → all_taken s ≡ t → is_front s ≡ (((t || begun_in keywords s) || begun_in commands s) || begun_in others s)
+    go true e = front-taken s e
+    go false e =
+        front-begun s e ∙ begun-both keywords (commands ++ others) s ∙ ap (λ (b : Bool). begun_in keywords s || b) (begun-both commands others s)
+        ∙ or-both (begun_in keywords s) (begun_in commands s) (begun_in others s)
 
-  module _ (f : false ≡ begun_in keywords s) where
-    pub front-command : true ≡ begun_in commands s → true ≡ is_front s
-    front-command g = rw (front_by, ← f, ← g)
+-- what was found of the first n bytes so far, and that they are left as they were
+pub record Found (text : List ℕ) (n : ℕ) (x v : Bool) (text' : List ℕ) : Type 0 where
+  pub same : v ≡ x
+  pub kept : Kept text n text'
 
-    pub front-other : false ≡ begun_in commands s → {b : Bool} → b ≡ begun_in others s → b ≡ is_front s
-    front-other g h = rw (front_by, ← f, ← g) h
+module _ {text a : List ℕ} {n : ℕ} {x v : Bool} (f : Found text n x v a) (keys : List (List ℕ)) where
+  pub found-then : {u : Bool} {b : List ℕ} → v ≡ true → u ≡ v → b ≡ a → Found text n (x || begun_in keys (take n text)) u b
+  found-then e d i = record { same = rw (sym f.same ∙ e) (d ∙ e); kept = rw i f.kept }
+
+  pub found-else : {u r : Bool} {b c : List ℕ} → v ≡ false → u ≡ r → r ≡ begun_in keys (take n a) → b ≡ c → Kept a n c → Found text n (x || begun_in keys (take n text)) u b
+  found-else e d g i k =
+      record { same = rw (sym f.same ∙ e) (d ∙ g ∙ ap (begun_in keys) f.kept.front); kept = rw i (kept_then f.kept k) }
+
+pub front-found : {text a : List ℕ} {n : ℕ} {v : Bool}
+    → Found text n (((all_taken (take n text) || begun_in keywords (take n text)) || begun_in commands (take n text)) || begun_in others (take n text)) v a → v ≡ is_front (take n text)
+front-found {text} {n} f = f.same ∙ sym (front_by (take n text))
 
 -- A front part of a front is a front; so behind one that is none there is none
 front-part : (s : List ℕ) (n m : ℕ) → n ≤ m → is_front (take m s) ≡ true → is_front (take n s) ≡ true
@@ -331,21 +256,19 @@ searching-first text from room stack =
 module _ {text : List ℕ} {from : ℕ} {room₀ stack₀ room stack : List ℕ} {lo hi : ℕ} (p : Searching text from room₀ stack₀ room stack lo hi)
     (s : Spare room₀ (length text) stack₀) (l : from ≤ length text) where
   -- whatever stood in the room, the text laid into it can be tried
-  module _ {laid : List ℕ} (e : laid ≡ paste room 0 (drop 0 text) (length text - 0)) {n : ℕ} (h : n ≤ hi) where
-    fits : 0 + (length text - 0) ≤ length room
-    fits = omega (arith, s.behind, p.size)
+  module _ {part laid : List ℕ} (e : part ≡ text) (j : laid ≡ part ++ drop (length text) room) {n : ℕ} (h : n ≤ hi) where
+    laid-part : length part ≡ length text
+    laid-part = ap (λ (x : List ℕ). length x) e
 
     laid-size : length laid ≡ length room₀
-    laid-size = ap length e ∙ (laid_kept room 0 text 0 (omega arith) fits).size ∙ p.size
+    laid-size = ap (λ (x : List ℕ). length x) j ∙ length-append part (drop (length text) room) ∙ omega (arith, laid-part, length-drop (length text) room, s.behind, p.size)
 
     pub searching-spare : Spare laid n stack
     searching-spare = record { behind = omega (arith, s.behind, p.high, laid-size); deep = omega (arith, s.deep, p.deep, laid-size) }
 
     laid-front : take n laid ≡ take n text
     laid-front =
-        let d : length text ≡ 0 + (length text - 0) = omega arith in
-        sym (take-take n (length text) laid (omega (arith, p.high)))
-        ∙ ap (take n) (ap (λ (k : ℕ). take k laid) d ∙ ap (take (0 + (length text - 0))) e ∙ laid-whole room 0 text 0 (omega arith) fits)
+        ap (take n) j ∙ take-append-le n part (drop (length text) room) (omega (arith, p.high, laid-part)) ∙ ap (take n) e
 
     module _ {b : Bool} (a : b ≡ is_front (take n laid)) {room' stack' : List ℕ} (k : Kept laid n room') (q : length stack' ≡ length stack) where
       pub searching-up : true ≡ b → Searching text from room₀ stack₀ room' stack' n hi

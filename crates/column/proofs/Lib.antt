@@ -1,4 +1,3 @@
-pub mod Packed
 pub mod Table
 pub mod Turns
 pub mod Steps

@@ -1,15 +1,17 @@
 -- A run over a text, a word at a time. Assumes nothing.
-use Rattle.std.specs.Prelude.{if◌then◌else◌}
+use Rattle.std.specs.Prelude.{if◌then◌else◌, cond, not, None, Some, Ok, Err}
+use Rattle.std.specs.List.{position_or_len}
 use Prim.Native.Nat.{ℕ, zero, suc, ◌+◌, ◌-◌, ◌*◌, ◌≤◌, ◌<◌}
 use mathlib.Core.Path.{◌≡◌, refl, sym, ap, ◌∙◌}
 use mathlib.Core.Bool.{Bool, true, false, ◌&&◌}
-use mathlib.Core.List.{List, [], ◌∷◌}
+use mathlib.Core.List.{List, [], ◌∷◌, ◌++◌}
 use mathlib.Core.Option.{Option, none, some}
 use native.Mathlib.Omega.{arith}
-use borrow.Author.Tests.{eq-eqb, ne_eqb}
-use lib.Dec.{eqb}
-use lib.ListN.{length, drop, get_or, set, length-drop, length-set, drop_of_length-le}
-use lib.Seq.{lt-length-set, get_or-set_same}
+use borrow.Author.Tests.{eq-eqb, ne_eqb, ltb-true, ltb-false}
+use Rattle.std.proofs.lemmas.Option.{none-some, same_Some}
+use lib.Dec.{eqb, ltb}
+use lib.ListN.{length, take, drop, set, length-drop, length-set, drop_of_length-le}
+use lib.Seq.{take_all, lt-length-set, get_or-set_same}
 use Rattle.nibl.specs.Bytes.{is_space, is_quotable, is_text, past, all}
 use Rattle.nibl.specs.Words.{keywords, commands}
 use Rattle.nibl.specs.found.Read.{FrontWord, at_end, wrong, got, step_in}
@@ -22,12 +24,10 @@ use Rattle.nibl.proofs.Bound.{and-false}
 use Rattle.word.specs.declared.Word.{Word}
 use Rattle.word.specs.declared.Word.TheVariants.{Variable, Decimal, Hex, Text, Sign, End as WordEnd, Wrong as WordWrong}
 use Rattle.word.specs.Found.{first_of, spellings_of, WordIs}
-use Rattle.word.proofs.Runs.{at_byte, run_end, rest_at}
-use Rattle.column.specs.Rules.{unpacked, SeekIs, Pushed}
-use Rattle.column.specs.Runs.{VerdictIs, held, NextIs, wordless, runs, run_by, line_symbol, Room}
+use Rattle.word.proofs.Runs.{at_byte}
+use Rattle.column.specs.Rules.{SeekIs, Pushed}
+use Rattle.column.specs.Runs.{RunEnd, VerdictIs, held, NextIs, wordless, runs, run_by, line_symbol, Room}
 use Rattle.column.specs.declared.rules.Turn.{Turn}
-use Rattle.column.specs.declared.run.Verdict.{Verdict as Answer}
-use Rattle.column.specs.declared.run.Verdict.TheVariants.{Alive, Stuck}
 use Rattle.column.specs.declared.run.Next.{Next}
 use Rattle.column.specs.declared.run.Next.TheVariants.{End as NextEnd, Wrong as NextWrong, Got}
 
@@ -155,51 +155,75 @@ module _ (table : List (List ℕ)) (text : List ℕ) (at : ℕ) where
   next-is {w = WordEnd} h = sym h.same
   next-is {w = WordWrong c} h = (sym h.same, h.stopped)
 
--- The end of a text, and remarks
-pub remark-none : (stack : List ℕ) (top : ℕ) → length stack ≤ top → false ≡ is_remark (drop top stack)
-remark-none stack top h = rw (drop_of_length-le stack h)
+-- A remark goes on to the first byte that is none of a text
+abbrev pub bad_at : List ℕ → ℕ
+bad_at s = position_or_len (λ b. not (is_text b)) s
 
-pub remark-top : (stack : List ℕ) (top : ℕ) → top < length stack → eqb (get_or stack top 0) 21 ≡ is_remark (drop top stack)
-remark-top stack top h = rw (at_byte stack top h)
+bad-left : (s : List ℕ) → length (past is_text s) + bad_at s ≡ length s
+bad-left [] = refl
+bad-left (b ∷ s) = go (is_text b) (bad-left s)
+  where
+    go : (t : Bool) → length (past is_text s) + bad_at s ≡ length s → length (if t then past is_text s else b ∷ s) + cond (not (not t)) (1 + bad_at s) 0 ≡ suc (length s)
+    go true e = omega arith
+    go false e = omega arith
 
-module _ (text : List ℕ) (at end : ℕ) (l : at ≤ length text) (e : end ≡ run_end is_text text at) where
-  ended : past is_text (drop at text) ≡ drop end text
-  ended = rest_at is_text text at end e
+module _ (text : List ℕ) (at : ℕ) (l : at ≤ length text) where
+  rest : length (drop at text) ≡ length text - at
+  rest = length-drop at text
 
-  pub remark-stuck : end < length text → VerdictIs text (remark_at (drop at text)) (Stuck end)
-  remark-stuck h =
-      let d : length (past is_text (drop at text)) ≡ length text - end = ap length ended ∙ length-drop end text in
-      let f : all is_text (drop at text) ≡ false = all_left is_text (drop at text) ∙ ne_eqb (length (past is_text (drop at text))) 0 (λ z. omega arith) in
-      record { same = rw f (ap stuck (sym d)); inside = omega arith }
+  pub from-here : take (length text - at) (drop at text) ≡ drop at text
+  from-here = take_all (length text - at) (drop at text) (omega (arith, rest))
 
-  pub remark-alive : length text ≤ end → VerdictIs text (remark_at (drop at text)) Alive
-  remark-alive h =
-      let d : length (past is_text (drop at text)) ≡ 0 = ap length ended ∙ length-drop end text ∙ (omega arith) in
-      let f : all is_text (drop at text) ≡ true = all_left is_text (drop at text) ∙ eq-eqb (length (past is_text (drop at text))) 0 d in
-      record { same = rw f; inside = tt }
+  pub remark-stuck : (n : ℕ) → Some n ≡ cond (ltb (bad_at (drop at text)) (length (drop at text))) (Some (bad_at (drop at text))) None
+      → VerdictIs text (remark_at (drop at text)) (Err (at + n))
+  remark-stuck n e = go (ltb (bad_at (drop at text)) (length (drop at text))) refl e
+    where
+      go : (t : Bool) → ltb (bad_at (drop at text)) (length (drop at text)) ≡ t → Some n ≡ cond t (Some (bad_at (drop at text))) None
+          → VerdictIs text (remark_at (drop at text)) (Err (at + n))
+      go true h e =
+          let i : n ≡ bad_at (drop at text) = same_Some n (bad_at (drop at text)) e in
+          let k = ltb-true (bad_at (drop at text)) (length (drop at text)) h in
+          let f : all is_text (drop at text) ≡ false
+          = all_left is_text (drop at text) ∙ ne_eqb (length (past is_text (drop at text))) 0 (λ z. omega (arith, bad-left (drop at text))) in
+          let d : length text - (at + n) ≡ length (past is_text (drop at text)) = omega (arith, bad-left (drop at text), rest) in
+          record { same = rw f (ap stuck d); inside = omega (arith, rest) }
+      go false h e = absurd (none-some n (sym e))
+
+  pub remark-alive : None ≡ cond (ltb (bad_at (drop at text)) (length (drop at text))) (Some (bad_at (drop at text))) None
+      → VerdictIs text (remark_at (drop at text)) (Ok tt)
+  remark-alive e = go (ltb (bad_at (drop at text)) (length (drop at text))) refl e
+    where
+      go : (t : Bool) → ltb (bad_at (drop at text)) (length (drop at text)) ≡ t → None ≡ cond t (Some (bad_at (drop at text))) None
+          → VerdictIs text (remark_at (drop at text)) (Ok tt)
+      go true h e = absurd (none-some (bad_at (drop at text)) e)
+      go false h e =
+          let k = ltb-false (bad_at (drop at text)) (length (drop at text)) h in
+          let d : length (past is_text (drop at text)) ≡ 0 = omega (arith, bad-left (drop at text)) in
+          let f : all is_text (drop at text) ≡ true = all_left is_text (drop at text) ∙ eq-eqb (length (past is_text (drop at text))) 0 d in
+          record { same = rw f; inside = tt }
 
 -- Without a word
 module _ (text : List ℕ) (at end : ℕ) (stack : List ℕ) (top : ℕ) (l : end ≤ length text) where
-  abbrev Wordless : Answer → Type 0
+  abbrev Wordless : RunEnd → Type 0
   Wordless = VerdictIs text (wordless (length text - end) (drop top stack) (drop at text))
 
-  stuck-here : (eqb (length text - end) 0 && eqb (first_of (past is_space (drop at text))) 34) && is_some (turn 8 (drop top stack)) ≡ false → Wordless (Stuck end)
+  stuck-here : (eqb (length text - end) 0 && eqb (first_of (past is_space (drop at text))) 34) && is_some (turn 8 (drop top stack)) ≡ false → Wordless (Err end)
   stuck-here e = record { same = rw e; inside = l }
 
-  pub wordless-within : end < length text → Wordless (Stuck end)
+  pub wordless-within : end < length text → Wordless (Err end)
   wordless-within h = stuck-here (rw (ne_eqb (length text - end) 0 (λ z. omega arith)))
 
-  pub wordless-unquoted : (first_of (past is_space (drop at text)) ≡ 34 → ⊥) → Wordless (Stuck end)
+  pub wordless-unquoted : (first_of (past is_space (drop at text)) ≡ 34 → ⊥) → Wordless (Err end)
   wordless-unquoted h = stuck-here (rw (ne_eqb (first_of (past is_space (drop at text))) 34 h, and-false (eqb (length text - end) 0)))
 
-  pub wordless-refused : {t : Turn} → SeekIs stack top 8 t → t.after ≡ 0 → Wordless (Stuck end)
-  wordless-refused s z =
-      let e : turn 8 (drop top stack) ≡ none = sym s.same ∙ rw (eq-eqb _ 0 z) in
-      stuck-here (rw e (and-false (eqb (length text - end) 0 && eqb (first_of (past is_space (drop at text))) 34)))
+  pub wordless-refused : SeekIs stack top 8 None → Wordless (Err end)
+  wordless-refused s =
+      let e : turn 8 (drop top stack) ≡ none = sym s.same in
+      stuck-here (rw (e, and-false (eqb (length text - end) 0 && eqb (first_of (past is_space (drop at text))) 34)))
 
-  pub wordless-open : {t : Turn} → length text ≤ end → first_of (past is_space (drop at text)) ≡ 34 → SeekIs stack top 8 t → (t.after ≡ 0 → ⊥) → Wordless Alive
-  wordless-open {t} h q s z =
-      let e : turn 8 (drop top stack) ≡ some (unpacked 4 t.after (drop (t.at + 1) stack)) = sym s.same ∙ rw (ne_eqb t.after 0 z) in
+  pub wordless-open : {t : Turn} → end ≡ length text → first_of (past is_space (drop at text)) ≡ 34 → SeekIs stack top 8 (Some t) → Wordless (Ok tt)
+  wordless-open {t} h q s =
+      let e : turn 8 (drop top stack) ≡ some (t.next.now ++ drop (t.at + 1) stack) = sym s.same in
       record { same = rw (eq-eqb (length text - end) 0 (omega arith), eq-eqb (first_of (past is_space (drop at text))) 34 q, e); inside = tt }
 
 -- A run of the code: from here on, the text's words lead to the verdict v
@@ -208,43 +232,46 @@ pub record Running (text : List ℕ) (v : Verdict) (before stack : List ℕ) (at
   pub same : run_by (spellings_of by) (drop top stack) (drop at text) ≡ v
   pub size : length stack ≡ length before
 
-verdict-is : {text : List ℕ} {v v' : Verdict} {x : Answer} → v' ≡ v → VerdictIs text v' x → VerdictIs text v x
+verdict-is : {text : List ℕ} {v v' : Verdict} {x : RunEnd} → v' ≡ v → VerdictIs text v' x → VerdictIs text v x
 verdict-is e h = record { same = h.same ∙ e; inside = h.inside }
 
 module _ {text : List ℕ} {v : Verdict} {before stack : List ℕ} {at : ℕ} {by : Bool} {top : ℕ} (r : Running text v before stack at by top) where
-  pub running-remark : {x : Answer} → is_remark (drop top stack) ≡ true → VerdictIs text (remark_at (drop at text)) x → VerdictIs text v x
+  pub running-remark : {x : RunEnd} → is_remark (drop top stack) ≡ true → VerdictIs text (remark_at (drop at text)) x → VerdictIs text v x
   running-remark e h = verdict-is (sym (by-remark (spellings_of by) (drop top stack) (drop at text) e) ∙ r.same) h
 
   module _ (e : is_remark (drop top stack) ≡ false) where
-    pub running-end : NextIs (spellings_of by) text at NextEnd → VerdictIs text v Alive
+    pub running-end : NextIs (spellings_of by) text at NextEnd → VerdictIs text v (Ok tt)
     running-end h = record { same = sym (by_end (spellings_of by) (drop top stack) (drop at text) e h) ∙ r.same; inside = tt }
 
-    pub running-wrong : (end : ℕ) {x : Answer} → NextIs (spellings_of by) text at (NextWrong end)
+    pub running-wrong : (end : ℕ) {x : RunEnd} → NextIs (spellings_of by) text at (NextWrong end)
         → VerdictIs text (wordless (length text - end) (drop top stack) (drop at text)) x → VerdictIs text v x
     running-wrong end h y =
         let d : length text - end ≡ gave_up (spellings_of by) (drop at text) = omega (arith, h.1) in
         verdict-is (ap (λ (n : ℕ). wordless n (drop top stack) (drop at text)) d ∙ sym (by-nothing (spellings_of by) (drop top stack) (drop at text) e h.0) ∙ r.same) y
 
-    module _ {k end : ℕ} (h : NextIs (spellings_of by) text at (Got k end)) {t : Turn} (s : SeekIs stack top k t) where
+    module _ {k end : ℕ} (h : NextIs (spellings_of by) text at (Got k end)) where
       by_turn : (o : Option (List ℕ)) → turn k (drop top stack) ≡ o → turned runs (drop end text) o ≡ v
       by_turn o i = ap (turned runs (drop end text)) (sym i) ∙ sym (by-word (spellings_of by) (drop top stack) (drop at text) e h.0) ∙ r.same
 
-      pub running-stuck : t.after ≡ 0 → VerdictIs text v (Stuck end)
-      running-stuck z = record { same = ap stuck (sym (length-drop end text)) ∙ by_turn none (sym s.same ∙ rw (eq-eqb t.after 0 z)); inside = h.2 }
+      pub running-stuck : SeekIs stack top k None → VerdictIs text v (Err end)
+      running-stuck s = record { same = ap stuck (sym (length-drop end text)) ∙ by_turn none (sym s.same); inside = h.2 }
 
-      -- a word is there, so there is room for what may come after it
-      pub running-room : 4 ≤ t.at + 1
-      running-room = omega (arith, r.room.deep, h.1, h.2, s.low)
+      module _ {t : Turn} (s : SeekIs stack top k (Some t)) where
+        -- a word is there, so there is room for what may come after it
+        pub running-room : length t.next.now ≤ t.at + 1
+        running-room = omega (arith, r.room.deep, h.1, h.2, s.at.low, s.at.short)
 
-      pub running-on : (t.after ≡ 0 → ⊥) → {stack' : List ℕ} {top' : ℕ} → Pushed stack (t.at + 1) t.after stack' top' → Running text v before stack' end false top'
-      running-on z {stack'} {top'} p =
-          let i : turn k (drop top stack) ≡ some (drop top' stack') = sym s.same ∙ (rw (ne_eqb t.after 0 z) (ap some (sym p.same))) in
-          let l : t.at < length stack = s.inside (omega (arith, z)) in
-          record {
-            room = record { inside = h.2; deep = omega (arith, r.room.deep, h.1, h.2, s.low, p.low); within = omega (arith, p.high, p.size) };
-            same = sym (runs_by (drop top' stack') (drop end text)) ∙ by_turn (some (drop top' stack')) i;
-            size = p.size ∙ r.size;
-          }
+        pub running-within : t.at + 1 ≤ length stack
+        running-within = omega (arith, s.at.inside)
+
+        pub running-on : {stack' : List ℕ} {top' : ℕ} → Pushed stack (t.at + 1) t.next.now stack' top' → Running text v before stack' end false top'
+        running-on {stack'} {top'} p =
+            let i : turn k (drop top stack) ≡ some (drop top' stack') = sym s.same ∙ ap some (sym p.same) in
+            record {
+              room = record { inside = h.2; deep = omega (arith, r.room.deep, h.1, h.2, s.at.low, s.at.short, p.at); within = omega (arith, p.at, p.size, s.at.inside) };
+              same = sym (runs_by (drop top' stack') (drop end text)) ∙ by_turn (some (drop top' stack')) i;
+              size = p.size ∙ r.size;
+            }
 
 -- From the bottom of the stack on
 bottom : (stack : List ℕ) (x : ℕ) → 0 < length stack → drop (length stack - 1) (set stack (length stack - 1) x) ≡ x ∷ []
@@ -254,7 +281,7 @@ bottom stack x h =
     at_byte (set stack t x) t (lt-length-set stack t x k)
     ∙ rw (get_or-set_same stack t x 0 k, drop_of_length-le (set stack t x) {i = t + 1} (omega (arith, length-set stack t x)))
 
-pub whole_run : (b : Bool) (text stack : List ℕ) {x : ℕ} {r : Answer} → 0 < length stack → x ≡ line_symbol b
+pub whole_run : (b : Bool) (text stack : List ℕ) {x : ℕ} {r : RunEnd} → 0 < length stack → x ≡ line_symbol b
     → VerdictIs text (run_by (spellings_of b) (drop (length stack - 1) (set stack (length stack - 1) x)) text) r → VerdictIs text (line_run (spellings_of b) (line_symbol b) text) r
 whole_run b text stack {x} h e v =
     verdict-is (ap (λ (l : List ℕ). run_by (spellings_of b) l text) (bottom stack x h) ∙ ap (λ (y : ℕ). run_by (spellings_of b) (y ∷ []) text) e ∙ line-by b text) v

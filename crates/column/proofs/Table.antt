@@ -1,140 +1,25 @@
 -- The table of the rules is the definition's, by computation. Assumes nothing.
-use Rattle.std.specs.Prelude.{if◌then◌else◌}
-use Prim.Native.Nat.{ℕ, zero, suc, ◌+◌, ◌-◌, ◌*◌, ◌/◌, ◌%◌, ◌≤◌, ◌<◌}
+use Rattle.std.specs.Prelude.{if◌then◌else◌, Option as Maybe, None, Some, IfSome, find, option_map}
+use Rattle.std.proofs.lemmas.List.{get_or_default}
+use Prim.Native.Nat.{ℕ, zero, suc, ◌+◌, ◌≤◌, ◌<◌}
 use mathlib.Core.Path.{◌≡◌, refl, sym, ap, ◌∙◌}
-use mathlib.Core.Bool.{Bool, true, false, ◌&&◌}
-use mathlib.Core.List.{List, [], ◌∷◌, ◌++◌, map}
-use mathlib.Core.Option.{Option, some}
+use mathlib.Core.Bool.{Bool, true, false, cond}
+use mathlib.Core.List.{List, [], ◌∷◌, ◌++◌}
+use mathlib.Core.Option.{Option, none, some}
 use native.Mathlib.Omega.{arith}
 use native.Mathlib.Nat.{zero-add, add-zero, add-suc, suc-add}
-use borrow.Author.Tests.{leb-true, ltb-true, eq-eqb, ne_eqb}
-use lib.Dec.{eqb, leb, ltb}
-use lib.ListN.{length, get_or, take}
-use lib.Seq.{slice}
+use denote.Ref.{Bor}
+use borrow.Author.Tests.{leb-true, ne_eqb, eq-eqb, eqb-true, eqb-false}
+use lib.Dec.{eqb, leb}
+use lib.ListN.{length, get_or, get_or-map, length-map}
 use Rattle.nibl.specs.Bytes.{all}
 use Rattle.nibl.specs.found.Read.{choose}
-use Rattle.nibl.specs.found.Column.{Cases, factor, first_factor, target, statement, consequence, typed_line, rules, cases_of, case_in}
+use Rattle.nibl.specs.found.Column.{Cases, rules, cases_of, case_in}
 use Rattle.nibl.proofs.Words.{and_left, and_right}
-use Rattle.column.specs.Rules.{unpacked, most_after, afters, unpacked_rule, rule_in, RuleIs}
+use Rattle.column.specs.Rules.{cases, cases_if, Row, read, cases_from, rows_left, below, IsTable, most_after}
 
--- whose rules x has too, and its own: those before them
-abbrev also : ℕ → ℕ
-also x = choose ((first_factor, factor) ∷ (statement, target) ∷ (consequence, statement) ∷ (typed_line, statement) ∷ []) 0 x
-
-abbrev own : ℕ → Cases
-own x = take (length (cases_of x) - length (cases_of (also x))) (cases_of x)
-
--- the code's three tables: they are compared entry by entry where the code's proof cites the rule
-abbrev packed : ℕ → List ℕ → ℕ
-packed n [] = n
-packed n (x ∷ xs) = packed (n * 32 + x) xs
-
-abbrev packed_rule : ℕ × List ℕ → ℕ
-packed_rule c = c.0 * afters + packed 1 c.1
-
-abbrev rules_from : ℕ → ℕ → List ℕ
-rules_from x zero = []
-rules_from x (suc n) = map packed_rule (own x) ++ rules_from (suc x) n
-
-abbrev pub table : List ℕ
-table = rules_from 0 29
-
-abbrev firsts_from : ℕ → ℕ → ℕ → List ℕ
-firsts_from i x zero = []
-firsts_from i x (suc n) = i ∷ firsts_from (i + length (own x)) (suc x) n
-
-abbrev pub firsts : List ℕ
-firsts = firsts_from 0 0 30
-
-abbrev pub part : ℕ → List ℕ
-part x = slice (get_or firsts x 0) (get_or firsts (x + 1) 0) table
-
--- a function at 0, 1, ..: n values
-module _ {A : Type 0} where
-  abbrev values : (ℕ → A) → ℕ → ℕ → List A
-  values f i zero = []
-  values f i (suc n) = f i ∷ values f (suc i) n
-
-  at_value : (f : ℕ → A) (d : A) (i n k : ℕ) → k < n → get_or (values f i n) k d ≡ f (i + k)
-  at_value f d i zero k h = absurd (omega arith)
-  at_value f d i (suc n) zero h = rw add-zero
-  at_value f d i (suc n) (suc k) h = at_value f d (suc i) n k (omega arith) ∙ ap f (suc-add i k ∙ sym (add-suc i k))
-
-  -- two functions that have the same first n values
-  same-values : (f g : ℕ → A) (d : A) (n : ℕ) → values f 0 n ≡ values g 0 n → (k : ℕ) → k < n → f k ≡ g k
-  same-values f g d n e k h = ap f (sym (zero-add k)) ∙ sym (at_value f d 0 n k h) ∙ ap (λ (l : List A). get_or l k d) e ∙ at_value g d 0 n k h ∙ ap g (zero-add k)
-
-abbrev pub alsos : List ℕ
-alsos = values also 0 29
-
-part-read : (x : ℕ) → x < 29 → map unpacked_rule (part x) ++ cases_of (get_or alsos x 0) ≡ cases_of x
-part-read = same-values (λ x. map unpacked_rule (part x) ++ cases_of (get_or alsos x 0)) cases_of [] 29 refl
-
-pub also-less : (x : ℕ) → 0 < x → x < 29 → get_or alsos x 0 < x
-also-less zero p h = absurd (omega arith)
-also-less (suc y) p h =
-    ltb-true (get_or alsos (suc y) 0) (suc y) (same-values (λ z. ltb (get_or alsos (suc z) 0) (suc z)) (λ z. true) true 28 refl y (omega arith))
-
-abbrev some_after : ℕ → Bool
-some_after n = ltb 0 (n % afters)
-
-part-some : (x : ℕ) → x < 29 → all some_after (part x) ≡ true
-part-some = same-values (λ x. all some_after (part x)) (λ x. true) true 29 refl
-
-pub part-within : (x : ℕ) → x < 29 → (get_or firsts x 0 ≤ get_or firsts (x + 1) 0) × (get_or firsts (x + 1) 0 ≤ length table)
-part-within x h =
-    let a = leb (get_or firsts x 0) (get_or firsts (x + 1) 0) in
-    let b = leb (get_or firsts (x + 1) 0) (length table) in
-    let e : a && b ≡ true
-    = same-values (λ y. leb (get_or firsts y 0) (get_or firsts (y + 1) 0) && leb (get_or firsts (y + 1) 0) (length table)) (λ y. true) true 29 refl x h in
-    (leb-true (get_or firsts x 0) (get_or firsts (x + 1) 0) (and_left a b e), leb-true (get_or firsts (x + 1) 0) (length table) (and_right a b e))
-
--- a rule is found among numbers as among cases, and where it is not, among the cases behind them
-abbrev found_or : ℕ → Cases → ℕ → Option (List ℕ)
-found_or r ds k = if eqb r 0 then case_in ds k else some (unpacked most_after r [])
-
-rule_found : (ns : List ℕ) (ds : Cases) (k : ℕ) → all some_after ns ≡ true → found_or (rule_in ns k) ds k ≡ case_in (map unpacked_rule ns ++ ds) k
-rule_found [] ds k a = refl
-rule_found (n ∷ ns) ds k a = go (eqb k (n / afters)) (rule_found ns ds k (and_right (some_after n) (all some_after ns) a))
-  where
-    go : (t : Bool) → found_or (rule_in ns k) ds k ≡ case_in (map unpacked_rule ns ++ ds) k
-        → found_or (if t then n % afters else rule_in ns k) ds k ≡ (if t then some (unpacked_rule n).1 else case_in (map unpacked_rule ns ++ ds) k)
-    go true ih = rw (ne_eqb (n % afters) 0 (λ e. omega (arith, ltb-true 0 (n % afters) (and_left (some_after n) (all some_after ns) a))))
-    go false ih = ih
-
-rule-small : (ns : List ℕ) (k : ℕ) → rule_in ns k < afters
-rule-small [] k = omega arith
-rule-small (n ∷ ns) k = go (eqb k (n / afters)) (rule-small ns k)
-  where
-    go : (t : Bool) → rule_in ns k < afters → (if t then n % afters else rule_in ns k) < afters
-    go true ih = omega arith
-    go false ih = ih
-
-part-found : (x k : ℕ) → x < 29 → found_or (rule_in (part x) k) (cases_of (get_or alsos x 0)) k ≡ case_in (cases_of x) k
-part-found x k h = rule_found (part x) (cases_of (get_or alsos x 0)) k (part-some x h) ∙ ap (λ (cs : Cases). case_in cs k) (part-read x h)
-
--- Along what x has too: what y's rules give is what x's give
-pub record Looking (x k y : ℕ) : Type 0 where
-  pub inside : y < 29
-  pub same : case_in (cases_of y) k ≡ case_in (cases_of x) k
-
-pub looking-first : (x k : ℕ) → x < 29 → Looking x k x
-looking-first x k h = record { inside = h; same = refl }
-
-pub looking-on : {x k y : ℕ} → Looking x k y → 0 < y → rule_in (part y) k ≡ 0 → Looking x k (get_or alsos y 0)
-looking-on {x} {k} {y} l p e = record {
-  inside = omega (arith, also-less y p l.inside, l.inside);
-  same = (rw (eq-eqb (rule_in (part y) k) 0 e) at (part-found y k l.inside)) ∙ l.same;
-}
-
-pub looking-hit : {x k y : ℕ} → Looking x k y → (rule_in (part y) k ≡ 0 → ⊥) → RuleIs x k (rule_in (part y) k)
-looking-hit {x} {k} {y} l n = record {
-  same = rw (ne_eqb (rule_in (part y) k) 0 n) ((rw (ne_eqb (rule_in (part y) k) 0 n) at (part-found y k l.inside)) ∙ l.same);
-  small = rule-small (part y) k;
-}
-
-pub looking-none : {x k y : ℕ} → Looking x k y → y ≡ 0 → RuleIs x k 0
-looking-none l e = record { same = rw e at l.same; small = omega arith }
+abbrev pub Rule : Type 0
+Rule = ℕ × Bor (List ℕ)
 
 -- nothing else may come
 choose-none : (cs : List (ℕ × Cases)) (x : ℕ) → all (λ (c : ℕ × Cases). leb c.0 28) cs ≡ true → 28 < x → choose cs [] x ≡ []
@@ -143,5 +28,98 @@ choose-none (c ∷ cs) x a h =
     let l = leb-true c.0 28 (and_left (leb c.0 28) (all (λ (c : ℕ × Cases). leb c.0 28) cs) a) in
     rw (ne_eqb x c.0 (λ e. omega arith)) (choose-none cs x (and_right (leb c.0 28) (all (λ (c : ℕ × Cases). leb c.0 28) cs) a) h)
 
-pub rule-else : (x k : ℕ) → 28 < x → RuleIs x k 0
-rule-else x k h = record { same = rw (choose-none rules x refl h); small = omega arith }
+at_case : (x n k : ℕ) → k < n → get_or (cases_from x n) k [] ≡ cases_of (x + k)
+at_case x zero k h = absurd (omega arith)
+at_case x (suc n) zero h = rw add-zero
+at_case x (suc n) (suc k) h = at_case (suc x) n k (omega arith) ∙ ap cases_of (suc-add x k ∙ sym (add-suc x k))
+
+below-at : (d : Row) (x : ℕ) (rows : List Row) (k : ℕ) → k < length rows → below x rows ≡ true → rows_left (get_or rows k d).1 ≤ x + k
+below-at d x [] k h e = absurd (omega arith)
+below-at d x (row ∷ rows) zero h e = omega (arith, leb-true (rows_left row.1) x (and_left (leb (rows_left row.1) x) (below (suc x) rows) e))
+below-at d x (row ∷ rows) (suc k) h e = omega (arith, below-at d (suc x) rows k (omega arith) (and_right (leb (rows_left row.1) x) (below (suc x) rows) e))
+
+module _ (rows : List Row) (t : IsTable rows) (x : ℕ) where
+  has-rows : length rows ≡ 29
+  has-rows = sym (length-map rows read) ∙ ap length t.same
+
+  pub row-cases : (row : Row) → x < length rows → row ≡ get_or rows x row → read row ≡ cases_of x
+  row-cases row h e =
+      ap read e ∙ sym (get_or-map read rows x row) ∙ ap (λ (l : List Cases). get_or l x (read row)) t.same
+      ∙ get_or_default (cases_from 0 29) x (read row) [] (omega (arith, has-rows)) ∙ at_case 0 29 x (omega (arith, has-rows)) ∙ ap cases_of (zero-add x)
+
+  pub row-below : (row : Row) → x < length rows → row ≡ get_or rows x row → IfSome row.1 (λ y. y < x)
+  row-below row h e = go row.1 (omega (arith, below-at row 0 rows x h t.below, ap (λ (r : Row). rows_left r.1) e, zero-add x))
+    where
+      go : (y : Maybe ℕ) → rows_left y ≤ x → IfSome y (λ y. y < x)
+      go None h = tt
+      go (Some y) h = omega arith
+
+  pub row-none : length rows ≤ x → [] ≡ cases_of x
+  row-none h = sym (choose-none rules x refl (omega (arith, has-rows)))
+
+-- The first rule for a word
+eqb-flip : (a b : ℕ) → eqb a b ≡ eqb b a
+eqb-flip a b = go (eqb a b) refl
+  where
+    go : (t : Bool) → eqb a b ≡ t → t ≡ eqb b a
+    go true e = sym (eq-eqb b a (sym (eqb-true a b e)))
+    go false e = sym (ne_eqb b a (λ d. eqb-false a b e (sym d)))
+
+abbrev next_in : Maybe Rule → Option (List ℕ)
+next_in None = none
+next_in (Some rule) = some rule.1.now
+
+find-case : (rs : List Rule) (k : ℕ) → next_in (find (λ (r : Rule). eqb r.0 k) rs) ≡ case_in (cases rs) k
+find-case [] k = refl
+find-case (r ∷ rs) k = rw (eqb-flip k r.0) (go (eqb r.0 k) (find-case rs k))
+  where
+    go : (t : Bool) → next_in (find (λ (r : Rule). eqb r.0 k) rs) ≡ case_in (cases rs) k
+        → next_in (cond t (Some r) (find (λ (r : Rule). eqb r.0 k) rs)) ≡ (if t then some r.1.now else case_in (cases rs) k)
+    go true e = refl
+    go false e = e
+
+module _ (own : List Rule) (also : Maybe ℕ) (x k : ℕ) (o : Maybe (Bor Rule)) (e : cases own ++ cases_if also ≡ cases_of x)
+    (f : option_map (λ (r : Bor Rule). r.now) o ≡ find (λ (r : Rule). eqb r.0 k) own) where
+  own-case : next_in (option_map (λ (r : Bor Rule). r.now) o) ≡ case_in (cases own) k
+  own-case = ap next_in f ∙ find-case own k
+
+  either : (cs ds : Cases) → case_in (cs ++ ds) k ≡ elim (case_in cs k) [ some n ↦ some n | none ↦ case_in ds k ]
+  either [] ds = refl
+  either (c ∷ cs) ds = go (eqb k c.0) (either cs ds)
+    where
+      go : (t : Bool) → case_in (cs ++ ds) k ≡ elim (case_in cs k) [ some n ↦ some n | none ↦ case_in ds k ]
+          → (if t then some c.1 else case_in (cs ++ ds) k) ≡ elim (if t then some c.1 else case_in cs k) [ some n ↦ some n | none ↦ case_in ds k ]
+      go true i = refl
+      go false i = i
+
+  whole : (n : Option (List ℕ)) → n ≡ case_in (cases own) k → elim n [ some m ↦ some m | none ↦ case_in (cases_if also) k ] ≡ case_in (cases_of x) k
+  whole n i = rw i (sym (either (cases own) (cases_if also))) ∙ ap (λ (cs : Cases). case_in cs k) e
+
+  pub rule-hit : (r : Bor Rule) → o ≡ Some r → some r.now.1.now ≡ case_in (cases_of x) k
+  rule-hit r i = whole (some r.now.1.now) (sym (ap (λ (o : Maybe (Bor Rule)). next_in (option_map (λ (r : Bor Rule). r.now) o)) i) ∙ own-case)
+
+  pub rule-miss : o ≡ None → case_in (cases_if also) k ≡ case_in (cases_of x) k
+  rule-miss i = whole none (sym (ap (λ (o : Maybe (Bor Rule)). next_in (option_map (λ (r : Bor Rule). r.now) o)) i) ∙ own-case)
+
+-- No rule lets more come than `most_after`
+abbrev short : ℕ × List ℕ → Bool
+short c = leb (length c.1) most_after
+
+chosen-short : (cs : List (ℕ × Cases)) (x : ℕ) → all (λ (c : ℕ × Cases). all short c.1) cs ≡ true → all short (choose cs [] x) ≡ true
+chosen-short [] x a = refl
+chosen-short (c ∷ cs) x a = go (eqb x c.0) (chosen-short cs x (and_right (all short c.1) (all (λ (c : ℕ × Cases). all short c.1) cs) a))
+  where
+    go : (t : Bool) → all short (choose cs [] x) ≡ true → all short (if t then c.1 else choose cs [] x) ≡ true
+    go true i = and_left (all short c.1) (all (λ (c : ℕ × Cases). all short c.1) cs) a
+    go false i = i
+
+case-short : (cs : Cases) (k : ℕ) (n : List ℕ) → all short cs ≡ true → some n ≡ case_in cs k → length n ≤ most_after
+case-short [] k n a e = let z : ◌≡◌ {A = ℕ} 0 1 = cc in absurd (omega arith)
+case-short (c ∷ cs) k n a e = go (eqb k c.0) (case-short cs k n (and_right (short c) (all short cs) a)) e
+  where
+    go : (t : Bool) → (some n ≡ case_in cs k → length n ≤ most_after) → some n ≡ (if t then some c.1 else case_in cs k) → length n ≤ most_after
+    go true i e = let j : n ≡ c.1 = cc in omega (arith, ap (λ (l : List ℕ). length l) j, leb-true (length c.1) most_after (and_left (short c) (all short cs) a))
+    go false i e = i e
+
+pub next-short : (x k : ℕ) (n : List ℕ) → some n ≡ case_in (cases_of x) k → length n ≤ most_after
+next-short x k n e = case-short (cases_of x) k n (chosen-short rules x refl) e

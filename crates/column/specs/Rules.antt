@@ -1,45 +1,71 @@
 -- What the contracts of the rules' table say, beyond the definition of the column.
-use Rattle.std.specs.Prelude.{ℕ, zero, suc, ◌+◌, ◌/◌, ◌%◌, ◌≤◌, ◌<◌, ◌≡◌, List, [], ◌∷◌, eqb, leb, length, drop, if◌then◌else◌}
+use Rattle.std.specs.Prelude.{ℕ, zero, suc, ◌+◌, ◌≤◌, ◌<◌, ◌≡◌, Bool, true, ◌&&◌, leb, List, [], ◌∷◌, ◌++◌, map, length, drop, IfSome, Option as Maybe, None, Some}
 use Rattle.std.proofs.Math.Option.{Option, none, some}
-use Rattle.nibl.specs.found.Column.{cases_of, case_in, turn}
+use denote.Ref.{Bor}
+use Rattle.nibl.specs.found.Column.{Cases, cases_of, turn}
 use Rattle.column.specs.declared.rules.Turn.{Turn}
 
--- what may come after a word, from one number and before what may come already: at most n of its digits
-abbrev pub unpacked : ℕ → ℕ → List ℕ → List ℕ
-unpacked zero k xs = xs
-unpacked (suc n) k xs = if leb k 1 then xs else unpacked n (k / 32) (k % 32 ∷ xs)
+-- the code's rules as the definition's cases
+abbrev pub cases : List (ℕ × Bor (List ℕ)) → Cases
+cases rules = map (λ r. (r.0, r.1.now)) rules
+
+-- those of what may come, or of nothing
+abbrev pub cases_if : Maybe ℕ → Cases
+cases_if None = []
+cases_if (Some x) = cases_of x
+
+-- a row of the table: its own rules, and what else it has the rules of
+abbrev pub Row : Type 0
+Row = Bor (List (ℕ × Bor (List ℕ))) × Maybe ℕ
+
+-- all that it has
+abbrev pub read : Row → Cases
+read row = cases row.0.now ++ cases_if row.1
+
+-- the definition's, from x on
+abbrev pub cases_from : ℕ → ℕ → List Cases
+cases_from x zero = []
+cases_from x (suc n) = cases_of x ∷ cases_from (suc x) n
+
+-- each row has the rules too of one with a smaller number, or of none
+abbrev pub rows_left : Maybe ℕ → ℕ
+rows_left None = 0
+rows_left (Some x) = suc x
+
+abbrev pub below : ℕ → List Row → Bool
+below x [] = true
+below x (row ∷ rows) = leb (rows_left row.1) x && below (suc x) rows
+
+-- a table of the definition's cases, row by row
+pub record IsTable (rows : List Row) : Type 0 where
+  pub same : map read rows ≡ cases_from 0 29
+  pub below : below 0 rows ≡ true
+
+-- what may come after a word, if a rule is for it
+abbrev pub next_of : Maybe (Bor (List ℕ)) → Option (List ℕ)
+next_of None = none
+next_of (Some next) = some next.now
 
 -- the most that may come after a word
 abbrev pub most_after : ℕ
 most_after = 4
 
--- a rule is one number: the word, and what may come after it
-abbrev pub afters : ℕ
-afters = 2097152
+-- a turn of the stack from `top` on
+pub record At (stack : List ℕ) (top : ℕ) (t : Turn) : Type 0 where
+  pub low : top ≤ t.at
+  pub inside : t.at < length stack
+  pub short : length t.next.now ≤ most_after
 
-abbrev pub unpacked_rule : ℕ → ℕ × List ℕ
-unpacked_rule n = (n / afters, unpacked most_after (n % afters) [])
+-- what may come then
+abbrev pub after : List ℕ → Maybe Turn → Option (List ℕ)
+after stack None = none
+after stack (Some t) = some (t.next.now ++ drop (t.at + 1) stack)
 
-abbrev pub rule_in : List ℕ → ℕ → ℕ
-rule_in [] k = 0
-rule_in (n ∷ ns) k = if eqb k (n / afters) then n % afters else rule_in ns k
+pub record SeekIs (stack : List ℕ) (top k : ℕ) (r : Maybe Turn) : Type 0 where
+  pub same : after stack r ≡ turn k (drop top stack)
+  pub at : IfSome r (At stack top)
 
--- 0 for no rule
-abbrev pub through : ℕ → List ℕ → Option (List ℕ)
-through n xs = if eqb n 0 then none else some (unpacked most_after n xs)
-
-pub record RuleIs (x k r : ℕ) : Type 0 where
-  pub same : through r [] ≡ case_in (cases_of x) k
-  pub small : r < afters
-
-pub record SeekIs (stack : List ℕ) (top k : ℕ) (r : Turn) : Type 0 where
-  pub same : through r.after (drop (r.at + 1) stack) ≡ turn k (drop top stack)
-  pub small : r.after < afters
-  pub low : top ≤ r.at
-  pub inside : 0 < r.after → r.at < length stack
-
-pub record Pushed (stack : List ℕ) (top after : ℕ) (stack' : List ℕ) (r : ℕ) : Type 0 where
-  pub same : drop r stack' ≡ unpacked most_after after (drop top stack)
-  pub low : top ≤ r + most_after
-  pub high : r ≤ top
+pub record Pushed (stack : List ℕ) (top : ℕ) (next stack' : List ℕ) (r : ℕ) : Type 0 where
+  pub same : drop r stack' ≡ next ++ drop top stack
+  pub at : r + length next ≡ top
   pub size : length stack' ≡ length stack

@@ -1,26 +1,27 @@
 -- What the contracts of a run over a text's words say, beyond the definition of the column.
-use Rattle.std.specs.Prelude.{ℕ, suc, ◌+◌, ◌-◌, ◌*◌, ◌≤◌, ◌<◌, ◌≡◌, Bool, true, false, ◌&&◌, List, eqb, length, drop, if◌then◌else◌}
+use Rattle.std.specs.Prelude.{ℕ, suc, ◌+◌, ◌-◌, ◌*◌, ◌≤◌, ◌<◌, ◌≡◌, Bool, true, false, ◌&&◌, List, eqb, length, drop, if◌then◌else◌, Result, Ok, Err}
 use Rattle.std.proofs.Math.Option.{Option, none, some}
 use Rattle.nibl.specs.Bytes.{is_space, past, byte_quote}
 use Rattle.nibl.specs.found.Read.{FrontWord, at_end, wrong, got, step_in}
 use Rattle.nibl.specs.found.GaveUp.{gave_up}
 use Rattle.nibl.specs.found.Column.{sort_of, a_text, typed_line, typed_command, turn, is_some, is_remark, Verdict, alive, stuck, advance, remark_at, run_n}
 use Rattle.word.specs.Found.{first_of}
-use Rattle.column.specs.declared.run.Verdict.{Verdict as Answer}
-use Rattle.column.specs.declared.run.Verdict.TheVariants.{Alive, Stuck}
 use Rattle.column.specs.declared.run.Next.{Next}
 use Rattle.column.specs.declared.run.Next.TheVariants.{End, Wrong, Got}
 
 -- a verdict of the code, over a text of n bytes: it has the position at which the text could not go on
-abbrev pub verdict_of : ℕ → Answer → Verdict
-verdict_of n Alive = alive
-verdict_of n (Stuck at) = stuck (n - at)
+abbrev pub RunEnd : Type 0
+RunEnd = Result (Unit {0}) ℕ
 
-abbrev pub Within : ℕ → Answer → Type 0
-Within n Alive = Unit {0}
-Within n (Stuck at) = at ≤ n
+abbrev pub verdict_of : ℕ → RunEnd → Verdict
+verdict_of n (Ok u) = alive
+verdict_of n (Err at) = stuck (n - at)
 
-pub record VerdictIs (text : List ℕ) (v : Verdict) (r : Answer) : Type 0 where
+abbrev pub Within : ℕ → RunEnd → Type 0
+Within n (Ok u) = Unit {0}
+Within n (Err at) = at ≤ n
+
+pub record VerdictIs (text : List ℕ) (v : Verdict) (r : RunEnd) : Type 0 where
   pub same : verdict_of (length text) r ≡ v
   pub inside : Within (length text) r
 

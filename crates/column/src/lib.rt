@@ -1,8 +1,7 @@
 // The column of a line that was refused: the length of its longest front part with which a line that has a reading begins.
 #![tactic(auto)]
 
-ghost use Rattle.std.specs.Prelude.{◌+◌, ◌-◌, ◌*◌, ◌≤◌, ◌<◌, max, ◌≡◌, ◌&&◌, ◌++◌, length, take, drop};
-ghost use Rattle.std.proofs.Math.Seq.{paste};
+ghost use Rattle.std.specs.Prelude.{◌+◌, ◌-◌, ◌*◌, ◌≤◌, ◌<◌, ◌≡◌, ◌&&◌, ◌++◌, length, take, drop};
 ghost use Rattle.nibl.specs.found.Column.{line_run, is_alive, all_taken, ends_with, begun_by, begun_in, is_front, column_down, column_of};
 ghost use Rattle.nibl.specs.Typing.{limit};
 ghost use Rattle.word.specs.Found.{spellings_of, longest_keyword};
@@ -10,7 +9,7 @@ ghost use Rattle.column.specs.Runs.{line_symbol};
 ghost use Rattle.column.specs.Fronts.{spelled_all, most, Spare, Kept, ReachIs, last_tried};
 
 use nibl::LIMIT;
-use run::{Verdict, run};
+use run::run;
 
 mod rules;
 mod run;
@@ -50,11 +49,7 @@ fn is_taken(text: &[u8], commands: bool, stack: &mut [u8]) -> bool
     ensures answer { result ≡ is_alive (line_run (spellings_of commands) (line_symbol commands) text.now) }
     ensures size { length stack.new ≡ length stack.old }
 {
-    let v = run(text, commands, stack);
-    match v {
-        Verdict::Alive => true,
-        Verdict::Stuck(_) => false,
-    }
+    run(text, commands, stack).is_ok()
 }
 
 // As a line by the keywords, or by a command at its front.
@@ -63,44 +58,7 @@ fn all_taken(text: &[u8], stack: &mut [u8]) -> bool
     ensures answer { result ≡ all_taken text.now }
     ensures size { length stack.new ≡ length stack.old }
 {
-    if is_taken(text, false, stack) {
-        return true;
-    }
-    is_taken(text, true, stack)
-}
-
-// Whether the first n bytes of a text end with the first i of a spelling.
-fn ends_with(text: &[u8], n: usize, z: &[u8], i: usize) -> bool
-    requires { (n ≤ length text.now) × (i ≤ length z.now) }
-    ensures { result ≡ ends_with (take i z.now) (take n text.now) }
-{
-    if n < i {
-        return false;
-    }
-    let mut j = 0;
-    while j < i {
-        if text[n - i + j] != z[j] {
-            return false;
-        }
-        j += 1;
-    }
-    true
-}
-
-// The bytes of z from i on, in a text from n on; where they end there.
-fn lay(text: &mut [u8], n: usize, z: &[u8], i: usize) -> usize
-    requires { (i ≤ length z.now) × (n + (length z.now - i) ≤ length text.old) }
-    ensures end { result ≡ n + (length z.now - i) }
-    ensures text { text.new ≡ paste text.old n (drop i z.now) (length z.now - i) }
-{
-    let mut j = i;
-    let mut to = n;
-    while j < z.len() {
-        text[to] = z[j];
-        to += 1;
-        j += 1;
-    }
-    to
+    is_taken(text, false, stack) || is_taken(text, true, stack)
 }
 
 // Whether the first n bytes of a text end with the first i of a spelling, and with the others behind them all words are taken.
@@ -110,10 +68,12 @@ fn begun_at(text: &mut [u8], n: usize, z: &[u8], i: usize, stack: &mut [u8]) -> 
     ensures text { Kept text.old n text.new }
     ensures size { length stack.new ≡ length stack.old }
 {
-    if !ends_with(text, n, z, i) {
+    let (begun, rest) = z.split_at(i);
+    if !text[..n].ends_with(begun) {
         return false;
     }
-    let to = lay(text, n, z, i);
+    let to = n + rest.len();
+    text[n..to].copy_from_slice(rest);
     all_taken(&text[..to], stack)
 }
 
@@ -124,9 +84,7 @@ fn begun_by(text: &mut [u8], n: usize, z: &[u8], stack: &mut [u8]) -> bool
     ensures text { Kept text.old n text.new }
     ensures size { length stack.new ≡ length stack.old }
 {
-    let mut i = z.len();
-    while 1 < i {
-        i -= 1;
+    for i in (1..z.len()).rev() {
         if begun_at(text, n, z, i, stack) {
             return true;
         }
@@ -141,14 +99,12 @@ fn begun_in(text: &mut [u8], n: usize, keys: &[u64], stack: &mut [u8]) -> bool
     ensures text { Kept text.old n text.new }
     ensures size { length stack.new ≡ length stack.old }
 {
-    let mut i = 0;
-    while i < keys.len() {
+    for key in keys {
         let mut room = [0u8; COMPLETION + 1];
-        let to = word::spell(keys[i], &mut room);
+        let to = word::spell(*key, &mut room);
         if begun_by(text, n, &room[..to], stack) {
             return true;
         }
-        i += 1;
     }
     false
 }
@@ -160,20 +116,14 @@ fn is_front(text: &mut [u8], n: usize, stack: &mut [u8]) -> bool
     ensures text { Kept text.old n text.new }
     ensures size { length stack.new ≡ length stack.old }
 {
-    if all_taken(&text[..n], stack) {
-        return true;
-    }
-    if begun_in(text, n, &word::KEYWORDS, stack) {
-        return true;
-    }
-    if begun_in(text, n, &word::COMMANDS, stack) {
-        return true;
-    }
-    begun_in(text, n, &OTHERS, stack)
+    all_taken(&text[..n], stack)
+        || begun_in(text, n, &word::KEYWORDS, stack)
+        || begun_in(text, n, &word::COMMANDS, stack)
+        || begun_in(text, n, &OTHERS, stack)
 }
 
 // The longest front of at most so many bytes. A front part of a front is a front: so by halves, in a room into which the text is laid anew
-// for each, since the end of a word may have been written behind the one before.
+// for each, since the end of a word may have been written behind the one before. A loop by hand: what is halved is no slice.
 fn longest_front(text: &[u8], room: &mut [u8], from: usize, stack: &mut [u8]) -> usize
     requires { Spare room.old (length text.now) stack.old × (from ≤ length text.now) }
     ensures { result ≡ column_down from text.now }
@@ -182,7 +132,7 @@ fn longest_front(text: &[u8], room: &mut [u8], from: usize, stack: &mut [u8]) ->
     let mut hi = from;
     while lo < hi {
         let n = hi - (hi - lo) / 2;
-        lay(room, 0, text, 0);
+        room[..text.len()].copy_from_slice(text);
         if is_front(room, n, stack) {
             lo = n;
         } else {
@@ -198,20 +148,7 @@ fn reach(text: &[u8], commands: bool, stack: &mut [u8]) -> usize
     ensures answer { ReachIs text.now (line_run (spellings_of commands) (line_symbol commands) text.now) result }
     ensures size { length stack.new ≡ length stack.old }
 {
-    let v = run(text, commands, stack);
-    match v {
-        Verdict::Alive => text.len(),
-        Verdict::Stuck(at) => at,
-    }
-}
-
-fn larger(a: usize, b: usize) -> usize
-    ensures { result ≡ max a b }
-{
-    if a < b {
-        return b;
-    }
-    a
+    run(text, commands, stack).err().unwrap_or(text.len())
 }
 
 // The longest front part that need be tried: none is a front from the fifth byte on behind the one at which the line could not go on.
@@ -220,13 +157,8 @@ fn last_tried(text: &[u8], stack: &mut [u8]) -> usize
     ensures answer { result ≡ last_tried text.now }
     ensures size { length stack.new ≡ length stack.old }
 {
-    let a = reach(text, false, stack);
-    let b = reach(text, true, stack);
-    let far = larger(a, b);
-    if text.len() < far + 4 {
-        return text.len();
-    }
-    far + 4
+    let far = reach(text, false, stack).max(reach(text, true, stack));
+    text.len().min(far + 4)
 }
 
 // The column of any line that fits. It is looked for only when a line was refused.

@@ -1,7 +1,7 @@
 // What may come next in a line, by numbers, and the rules: which words may come, and what may come after each.
-ghost use Rattle.std.specs.Prelude.{◌≤◌, ◌<◌, ◌≡◌, length};
-ghost use Rattle.std.proofs.Math.Seq.{slice};
-ghost use Rattle.column.specs.Rules.{rule_in, RuleIs, SeekIs, Pushed};
+ghost use Rattle.std.specs.Prelude.{◌≤◌, ◌<◌, ◌≡◌, length, IfSome};
+ghost use Rattle.nibl.specs.found.Column.{cases_of, case_in};
+ghost use Rattle.column.specs.Rules.{read, IsTable, next_of, SeekIs, Pushed};
 
 use word::sign;
 
@@ -14,407 +14,306 @@ pub const HEX: u8 = 7;
 
 pub const TEXT: u8 = 8;
 
-// What may come.
-const FACTOR: u32 = 1;
+// What may come: numbers, since the definition of the column (nibl's found/Column, `turn`) has them too.
+const FACTOR: u8 = 1;
 
-const FIRST_FACTOR: u32 = 2;
+const FIRST_FACTOR: u8 = 2;
 
-const CLOSING: u32 = 3;
+const CLOSING: u8 = 3;
 
-const MOD_OPEN: u32 = 4;
+const MOD_OPEN: u8 = 4;
 
-const MOD_COMMA: u32 = 5;
+const MOD_COMMA: u8 = 5;
 
-const TARGET: u32 = 6;
+const TARGET: u8 = 6;
 
-const EQUALS: u32 = 7;
+const EQUALS: u8 = 7;
 
-const TEXT_EQUALS: u32 = 8;
+const TEXT_EQUALS: u8 = 8;
 
-const TEXT_VALUE: u32 = 9;
+const TEXT_VALUE: u8 = 9;
 
-const STATEMENT: u32 = 10;
+const STATEMENT: u8 = 10;
 
-const AFTER_GO: u32 = 11;
+const AFTER_GO: u8 = 11;
 
-const ITEM: u32 = 12;
+const ITEM: u8 = 12;
 
-const CONSEQUENCE: u32 = 13;
+const CONSEQUENCE: u8 = 13;
 
-const FOR_VARIABLE: u32 = 14;
+const FOR_VARIABLE: u8 = 14;
 
-const FOR_EQUALS: u32 = 15;
+const FOR_EQUALS: u8 = 15;
 
-const FOR_TO: u32 = 16;
+const FOR_TO: u8 = 16;
 
-const ONE_VARIABLE: u32 = 17;
+const ONE_VARIABLE: u8 = 17;
 
-const INPUT_TARGET: u32 = 18;
+const INPUT_TARGET: u8 = 18;
 
 pub const TYPED_LINE: u8 = 19;
 
 pub const TYPED_COMMAND: u8 = 20;
 
-const REMARK: u32 = 21;
+pub const REMARK: u8 = 21;
 
 // From here on: what may come, and need not.
-const MORE_OF_RELATION: u32 = 22;
+const MORE_OF_RELATION: u8 = 22;
 
-const MORE_OF_SUM: u32 = 23;
+const MORE_OF_SUM: u8 = 23;
 
-const MORE_ITEMS: u32 = 24;
+const MORE_ITEMS: u8 = 24;
 
-const FOR_STEP: u32 = 25;
+const FOR_STEP: u8 = 25;
 
-const MORE_VARIABLES: u32 = 26;
+const MORE_VARIABLES: u8 = 26;
 
-const MORE_MEMBERS: u32 = 27;
+const MORE_MEMBERS: u8 = 27;
 
-const LIST_NUMBER: u32 = 28;
+const LIST_NUMBER: u8 = 28;
 
-// As bytes of a stack: the rest of a remark, the last of all, and the first that need not come.
-pub const A_REMARK: u8 = REMARK as u8;
+// A word, and what may come after it.
+type Rule = (u8, &'static [u8]);
 
-const LAST: u8 = LIST_NUMBER as u8;
+// Where a relation may come.
+const A_RELATION: &[u8] = &[FIRST_FACTOR, MORE_OF_RELATION];
 
-const FIRST_OPTIONAL: u8 = MORE_OF_RELATION as u8;
+// The rules that what may come has of its own, and what else it has the rules of, behind those: always one with a smaller number.
+type Row = (&'static [Rule], Option<u8>);
 
-// What may come after a word is one number: a 1, and behind it a digit for each thing that may come, the first in the highest
-// place. So NOTHING is the 1 alone, and one thing is DIGIT and its number.
-const DIGIT: u32 = 32;
-
-const NOTHING: u32 = 1;
-
-const A_FACTOR: u32 = DIGIT + FACTOR;
-
-const A_RELATION: u32 = (DIGIT + FIRST_FACTOR) * DIGIT + MORE_OF_RELATION;
-
-// A rule is one number too: the word in the high places, what may come after it in the low ones. Each thing that may
-// come has its own here, and may have those of another too (ALSO).
-const WORD: u32 = 2097152;
-
-const RULES: [u32; LIST_NUMBER_END] = [
+static RULES: [Row; 29] = [
+    // nothing
+    (&[], None),
     // FACTOR
-    WORD * NAME as u32 + NOTHING,
-    WORD * DECIMAL as u32 + NOTHING,
-    WORD * HEX as u32 + NOTHING,
-    WORD * sign::STAT as u32 + NOTHING,
-    WORD * sign::TOP as u32 + NOTHING,
-    WORD * sign::OPEN as u32 + A_RELATION * DIGIT + CLOSING,
-    WORD * sign::AT as u32 + A_FACTOR,
-    WORD * sign::NOT as u32 + A_FACTOR,
-    WORD * sign::MOD as u32 + DIGIT + MOD_OPEN,
+    (
+        &[
+            (NAME, &[]),
+            (DECIMAL, &[]),
+            (HEX, &[]),
+            (sign::STAT, &[]),
+            (sign::TOP, &[]),
+            (sign::OPEN, &[FIRST_FACTOR, MORE_OF_RELATION, CLOSING]),
+            (sign::AT, &[FACTOR]),
+            (sign::NOT, &[FACTOR]),
+            (sign::MOD, &[MOD_OPEN]),
+        ],
+        None,
+    ),
     // FIRST_FACTOR
-    WORD * sign::PLUS as u32 + A_FACTOR,
-    WORD * sign::MINUS as u32 + A_FACTOR,
+    (
+        &[(sign::PLUS, &[FACTOR]), (sign::MINUS, &[FACTOR])],
+        Some(FACTOR),
+    ),
     // CLOSING
-    WORD * sign::CLOSE as u32 + NOTHING,
+    (&[(sign::CLOSE, &[])], None),
     // MOD_OPEN
-    WORD * sign::OPEN as u32 + A_RELATION * DIGIT + MOD_COMMA,
+    (
+        &[(sign::OPEN, &[FIRST_FACTOR, MORE_OF_RELATION, MOD_COMMA])],
+        None,
+    ),
     // MOD_COMMA
-    WORD * sign::COMMA as u32 + A_RELATION * DIGIT + CLOSING,
+    (
+        &[(sign::COMMA, &[FIRST_FACTOR, MORE_OF_RELATION, CLOSING])],
+        None,
+    ),
     // TARGET
-    WORD * NAME as u32 + DIGIT + EQUALS,
-    WORD * sign::STAT as u32 + DIGIT + EQUALS,
-    WORD * sign::AT as u32 + A_FACTOR * DIGIT + EQUALS,
-    WORD * sign::DOLLAR as u32 + A_FACTOR * DIGIT + TEXT_EQUALS,
+    (
+        &[
+            (NAME, &[EQUALS]),
+            (sign::STAT, &[EQUALS]),
+            (sign::AT, &[FACTOR, EQUALS]),
+            (sign::DOLLAR, &[FACTOR, TEXT_EQUALS]),
+        ],
+        None,
+    ),
     // EQUALS
-    WORD * sign::EQUAL as u32 + A_RELATION,
+    (&[(sign::EQUAL, A_RELATION)], None),
     // TEXT_EQUALS
-    WORD * sign::EQUAL as u32 + DIGIT + TEXT_VALUE,
+    (&[(sign::EQUAL, &[TEXT_VALUE])], None),
     // TEXT_VALUE
-    WORD * TEXT as u32 + NOTHING,
-    WORD * sign::DOLLAR as u32 + A_FACTOR,
+    (&[(TEXT, &[]), (sign::DOLLAR, &[FACTOR])], None),
     // STATEMENT
-    WORD * sign::LET as u32 + DIGIT + TARGET,
-    WORD * sign::GOTO as u32 + A_RELATION,
-    WORD * sign::GOSUB as u32 + A_RELATION,
-    WORD * sign::GO as u32 + DIGIT + AFTER_GO,
-    WORD * sign::RETURN as u32 + NOTHING,
-    WORD * sign::PR as u32 + (DIGIT + ITEM) * DIGIT + MORE_ITEMS,
-    WORD * sign::PRINT as u32 + (DIGIT + ITEM) * DIGIT + MORE_ITEMS,
-    WORD * sign::IF as u32 + A_RELATION * DIGIT + CONSEQUENCE,
-    WORD * sign::DO as u32 + NOTHING,
-    WORD * sign::UNTIL as u32 + A_RELATION,
-    WORD * sign::FOR as u32 + DIGIT + FOR_VARIABLE,
-    WORD * sign::NEXT as u32 + DIGIT + ONE_VARIABLE,
-    WORD * sign::INPUT as u32 + DIGIT + INPUT_TARGET,
-    WORD * sign::REM as u32 + DIGIT + REMARK,
-    WORD * sign::END as u32 + NOTHING,
+    (
+        &[
+            (sign::LET, &[TARGET]),
+            (sign::GOTO, A_RELATION),
+            (sign::GOSUB, A_RELATION),
+            (sign::GO, &[AFTER_GO]),
+            (sign::RETURN, &[]),
+            (sign::PR, &[ITEM, MORE_ITEMS]),
+            (sign::PRINT, &[ITEM, MORE_ITEMS]),
+            (sign::IF, &[FIRST_FACTOR, MORE_OF_RELATION, CONSEQUENCE]),
+            (sign::DO, &[]),
+            (sign::UNTIL, A_RELATION),
+            (sign::FOR, &[FOR_VARIABLE]),
+            (sign::NEXT, &[ONE_VARIABLE]),
+            (sign::INPUT, &[INPUT_TARGET]),
+            (sign::REM, &[REMARK]),
+            (sign::END, &[]),
+        ],
+        Some(TARGET),
+    ),
     // AFTER_GO
-    WORD * sign::TO as u32 + A_RELATION,
-    WORD * sign::SUB as u32 + A_RELATION,
+    (&[(sign::TO, A_RELATION), (sign::SUB, A_RELATION)], None),
     // ITEM
-    WORD * TEXT as u32 + NOTHING,
-    WORD * sign::DOLLAR as u32 + A_FACTOR,
-    WORD * sign::PLUS as u32 + A_FACTOR * DIGIT + MORE_OF_RELATION,
-    WORD * sign::MINUS as u32 + A_FACTOR * DIGIT + MORE_OF_RELATION,
-    WORD * NAME as u32 + DIGIT + MORE_OF_RELATION,
-    WORD * DECIMAL as u32 + DIGIT + MORE_OF_RELATION,
-    WORD * HEX as u32 + DIGIT + MORE_OF_RELATION,
-    WORD * sign::STAT as u32 + DIGIT + MORE_OF_RELATION,
-    WORD * sign::TOP as u32 + DIGIT + MORE_OF_RELATION,
-    WORD * sign::OPEN as u32 + (A_RELATION * DIGIT + CLOSING) * DIGIT + MORE_OF_RELATION,
-    WORD * sign::AT as u32 + A_FACTOR * DIGIT + MORE_OF_RELATION,
-    WORD * sign::NOT as u32 + A_FACTOR * DIGIT + MORE_OF_RELATION,
-    WORD * sign::MOD as u32 + (DIGIT + MOD_OPEN) * DIGIT + MORE_OF_RELATION,
+    (
+        &[
+            (TEXT, &[]),
+            (sign::DOLLAR, &[FACTOR]),
+            (sign::PLUS, &[FACTOR, MORE_OF_RELATION]),
+            (sign::MINUS, &[FACTOR, MORE_OF_RELATION]),
+            (NAME, &[MORE_OF_RELATION]),
+            (DECIMAL, &[MORE_OF_RELATION]),
+            (HEX, &[MORE_OF_RELATION]),
+            (sign::STAT, &[MORE_OF_RELATION]),
+            (sign::TOP, &[MORE_OF_RELATION]),
+            (
+                sign::OPEN,
+                &[FIRST_FACTOR, MORE_OF_RELATION, CLOSING, MORE_OF_RELATION],
+            ),
+            (sign::AT, &[FACTOR, MORE_OF_RELATION]),
+            (sign::NOT, &[FACTOR, MORE_OF_RELATION]),
+            (sign::MOD, &[MOD_OPEN, MORE_OF_RELATION]),
+        ],
+        None,
+    ),
     // CONSEQUENCE
-    WORD * sign::THEN as u32 + DIGIT + STATEMENT,
+    (&[(sign::THEN, &[STATEMENT])], Some(STATEMENT)),
     // FOR_VARIABLE
-    WORD * NAME as u32 + DIGIT + FOR_EQUALS,
+    (&[(NAME, &[FOR_EQUALS])], None),
     // FOR_EQUALS
-    WORD * sign::EQUAL as u32 + A_RELATION * DIGIT + FOR_TO,
+    (
+        &[(sign::EQUAL, &[FIRST_FACTOR, MORE_OF_RELATION, FOR_TO])],
+        None,
+    ),
     // FOR_TO
-    WORD * sign::TO as u32 + A_RELATION * DIGIT + FOR_STEP,
+    (
+        &[(sign::TO, &[FIRST_FACTOR, MORE_OF_RELATION, FOR_STEP])],
+        None,
+    ),
     // ONE_VARIABLE
-    WORD * NAME as u32 + NOTHING,
+    (&[(NAME, &[])], None),
     // INPUT_TARGET
-    WORD * sign::DOLLAR as u32 + A_FACTOR,
-    WORD * NAME as u32 + DIGIT + MORE_VARIABLES,
+    (
+        &[(sign::DOLLAR, &[FACTOR]), (NAME, &[MORE_VARIABLES])],
+        None,
+    ),
     // TYPED_LINE
-    WORD * DECIMAL as u32 + (DIGIT + STATEMENT) * DIGIT + MORE_MEMBERS,
+    (&[(DECIMAL, &[STATEMENT, MORE_MEMBERS])], Some(STATEMENT)),
     // TYPED_COMMAND
-    WORD * sign::NEW as u32 + NOTHING,
-    WORD * sign::CLEAR as u32 + NOTHING,
-    WORD * sign::RUN as u32 + NOTHING,
-    WORD * sign::LIST as u32 + DIGIT + LIST_NUMBER,
+    (
+        &[
+            (sign::NEW, &[]),
+            (sign::CLEAR, &[]),
+            (sign::RUN, &[]),
+            (sign::LIST, &[LIST_NUMBER]),
+        ],
+        None,
+    ),
+    // REMARK
+    (&[], None),
     // MORE_OF_RELATION
-    WORD * sign::TIMES as u32 + A_FACTOR * DIGIT + MORE_OF_RELATION,
-    WORD * sign::DIVIDE as u32 + A_FACTOR * DIGIT + MORE_OF_RELATION,
-    WORD * sign::AND as u32 + A_FACTOR * DIGIT + MORE_OF_RELATION,
-    WORD * sign::PLUS as u32 + A_FACTOR * DIGIT + MORE_OF_RELATION,
-    WORD * sign::MINUS as u32 + A_FACTOR * DIGIT + MORE_OF_RELATION,
-    WORD * sign::OR as u32 + A_FACTOR * DIGIT + MORE_OF_RELATION,
-    WORD * sign::EQUAL as u32 + (DIGIT + FIRST_FACTOR) * DIGIT + MORE_OF_SUM,
-    WORD * sign::LESS as u32 + (DIGIT + FIRST_FACTOR) * DIGIT + MORE_OF_SUM,
-    WORD * sign::GREATER as u32 + (DIGIT + FIRST_FACTOR) * DIGIT + MORE_OF_SUM,
-    WORD * sign::AT_MOST as u32 + (DIGIT + FIRST_FACTOR) * DIGIT + MORE_OF_SUM,
-    WORD * sign::AT_LEAST as u32 + (DIGIT + FIRST_FACTOR) * DIGIT + MORE_OF_SUM,
-    WORD * sign::UNEQUAL as u32 + (DIGIT + FIRST_FACTOR) * DIGIT + MORE_OF_SUM,
+    (
+        &[
+            (sign::TIMES, &[FACTOR, MORE_OF_RELATION]),
+            (sign::DIVIDE, &[FACTOR, MORE_OF_RELATION]),
+            (sign::AND, &[FACTOR, MORE_OF_RELATION]),
+            (sign::PLUS, &[FACTOR, MORE_OF_RELATION]),
+            (sign::MINUS, &[FACTOR, MORE_OF_RELATION]),
+            (sign::OR, &[FACTOR, MORE_OF_RELATION]),
+            (sign::EQUAL, &[FIRST_FACTOR, MORE_OF_SUM]),
+            (sign::LESS, &[FIRST_FACTOR, MORE_OF_SUM]),
+            (sign::GREATER, &[FIRST_FACTOR, MORE_OF_SUM]),
+            (sign::AT_MOST, &[FIRST_FACTOR, MORE_OF_SUM]),
+            (sign::AT_LEAST, &[FIRST_FACTOR, MORE_OF_SUM]),
+            (sign::UNEQUAL, &[FIRST_FACTOR, MORE_OF_SUM]),
+        ],
+        None,
+    ),
     // MORE_OF_SUM
-    WORD * sign::TIMES as u32 + A_FACTOR * DIGIT + MORE_OF_SUM,
-    WORD * sign::DIVIDE as u32 + A_FACTOR * DIGIT + MORE_OF_SUM,
-    WORD * sign::AND as u32 + A_FACTOR * DIGIT + MORE_OF_SUM,
-    WORD * sign::PLUS as u32 + A_FACTOR * DIGIT + MORE_OF_SUM,
-    WORD * sign::MINUS as u32 + A_FACTOR * DIGIT + MORE_OF_SUM,
-    WORD * sign::OR as u32 + A_FACTOR * DIGIT + MORE_OF_SUM,
+    (
+        &[
+            (sign::TIMES, &[FACTOR, MORE_OF_SUM]),
+            (sign::DIVIDE, &[FACTOR, MORE_OF_SUM]),
+            (sign::AND, &[FACTOR, MORE_OF_SUM]),
+            (sign::PLUS, &[FACTOR, MORE_OF_SUM]),
+            (sign::MINUS, &[FACTOR, MORE_OF_SUM]),
+            (sign::OR, &[FACTOR, MORE_OF_SUM]),
+        ],
+        None,
+    ),
     // MORE_ITEMS
-    WORD * sign::COMMA as u32 + (DIGIT + ITEM) * DIGIT + MORE_ITEMS,
-    WORD * sign::SEMICOLON as u32 + NOTHING,
+    (
+        &[(sign::COMMA, &[ITEM, MORE_ITEMS]), (sign::SEMICOLON, &[])],
+        None,
+    ),
     // FOR_STEP
-    WORD * sign::STEP as u32 + A_RELATION,
+    (&[(sign::STEP, A_RELATION)], None),
     // MORE_VARIABLES
-    WORD * sign::COMMA as u32 + (DIGIT + ONE_VARIABLE) * DIGIT + MORE_VARIABLES,
+    (&[(sign::COMMA, &[ONE_VARIABLE, MORE_VARIABLES])], None),
     // MORE_MEMBERS
-    WORD * sign::COLON as u32 + (DIGIT + STATEMENT) * DIGIT + MORE_MEMBERS,
+    (&[(sign::COLON, &[STATEMENT, MORE_MEMBERS])], None),
     // LIST_NUMBER
-    WORD * DECIMAL as u32 + NOTHING,
+    (&[(DECIMAL, &[])], None),
 ];
 
-// How many rules each thing that may come has, and where they end: behind those of the ones before it.
-const FACTOR_END: usize = 9;
-
-const FIRST_FACTOR_END: usize = FACTOR_END + 2;
-
-const CLOSING_END: usize = FIRST_FACTOR_END + 1;
-
-const MOD_OPEN_END: usize = CLOSING_END + 1;
-
-const MOD_COMMA_END: usize = MOD_OPEN_END + 1;
-
-const TARGET_END: usize = MOD_COMMA_END + 4;
-
-const EQUALS_END: usize = TARGET_END + 1;
-
-const TEXT_EQUALS_END: usize = EQUALS_END + 1;
-
-const TEXT_VALUE_END: usize = TEXT_EQUALS_END + 2;
-
-const STATEMENT_END: usize = TEXT_VALUE_END + 15;
-
-const AFTER_GO_END: usize = STATEMENT_END + 2;
-
-const ITEM_END: usize = AFTER_GO_END + 13;
-
-const CONSEQUENCE_END: usize = ITEM_END + 1;
-
-const FOR_VARIABLE_END: usize = CONSEQUENCE_END + 1;
-
-const FOR_EQUALS_END: usize = FOR_VARIABLE_END + 1;
-
-const FOR_TO_END: usize = FOR_EQUALS_END + 1;
-
-const ONE_VARIABLE_END: usize = FOR_TO_END + 1;
-
-const INPUT_TARGET_END: usize = ONE_VARIABLE_END + 2;
-
-const TYPED_LINE_END: usize = INPUT_TARGET_END + 1;
-
-const TYPED_COMMAND_END: usize = TYPED_LINE_END + 4;
-
-const REMARK_END: usize = TYPED_COMMAND_END;
-
-const MORE_OF_RELATION_END: usize = REMARK_END + 12;
-
-const MORE_OF_SUM_END: usize = MORE_OF_RELATION_END + 6;
-
-const MORE_ITEMS_END: usize = MORE_OF_SUM_END + 2;
-
-const FOR_STEP_END: usize = MORE_ITEMS_END + 1;
-
-const MORE_VARIABLES_END: usize = FOR_STEP_END + 1;
-
-const MORE_MEMBERS_END: usize = MORE_VARIABLES_END + 1;
-
-const LIST_NUMBER_END: usize = MORE_MEMBERS_END + 1;
-
-// Where the rules of each thing that may come begin, and the last one's end.
-const FIRST_RULE: [usize; 30] = [
-    0, // nothing
-    0, // FACTOR
-    FACTOR_END, // FIRST_FACTOR
-    FIRST_FACTOR_END, // CLOSING
-    CLOSING_END, // MOD_OPEN
-    MOD_OPEN_END, // MOD_COMMA
-    MOD_COMMA_END, // TARGET
-    TARGET_END, // EQUALS
-    EQUALS_END, // TEXT_EQUALS
-    TEXT_EQUALS_END, // TEXT_VALUE
-    TEXT_VALUE_END, // STATEMENT
-    STATEMENT_END, // AFTER_GO
-    AFTER_GO_END, // ITEM
-    ITEM_END, // CONSEQUENCE
-    CONSEQUENCE_END, // FOR_VARIABLE
-    FOR_VARIABLE_END, // FOR_EQUALS
-    FOR_EQUALS_END, // FOR_TO
-    FOR_TO_END, // ONE_VARIABLE
-    ONE_VARIABLE_END, // INPUT_TARGET
-    INPUT_TARGET_END, // TYPED_LINE
-    TYPED_LINE_END, // TYPED_COMMAND
-    TYPED_COMMAND_END, // REMARK
-    REMARK_END, // MORE_OF_RELATION
-    MORE_OF_RELATION_END, // MORE_OF_SUM
-    MORE_OF_SUM_END, // MORE_ITEMS
-    MORE_ITEMS_END, // FOR_STEP
-    FOR_STEP_END, // MORE_VARIABLES
-    MORE_VARIABLES_END, // MORE_MEMBERS
-    MORE_MEMBERS_END, // LIST_NUMBER
-    LIST_NUMBER_END, // the end
-];
-
-// Whose rules each thing that may come has too, behind its own; 0 for none. It is always one with a smaller number.
-const ALSO: [u8; 29] = [
-    0, // nothing
-    0, // FACTOR
-    FACTOR as u8, // FIRST_FACTOR
-    0, // CLOSING
-    0, // MOD_OPEN
-    0, // MOD_COMMA
-    0, // TARGET
-    0, // EQUALS
-    0, // TEXT_EQUALS
-    0, // TEXT_VALUE
-    TARGET as u8, // STATEMENT
-    0, // AFTER_GO
-    0, // ITEM
-    STATEMENT as u8, // CONSEQUENCE
-    0, // FOR_VARIABLE
-    0, // FOR_EQUALS
-    0, // FOR_TO
-    0, // ONE_VARIABLE
-    0, // INPUT_TARGET
-    STATEMENT as u8, // TYPED_LINE
-    0, // TYPED_COMMAND
-    0, // REMARK
-    0, // MORE_OF_RELATION
-    0, // MORE_OF_SUM
-    0, // MORE_ITEMS
-    0, // FOR_STEP
-    0, // MORE_VARIABLES
-    0, // MORE_MEMBERS
-    0, // LIST_NUMBER
-];
-
-// What may come after the word k by the rules from one on up to another; 0 where none of them is for it.
-fn rule_in(rules: &[u32], from: usize, to: usize, k: u8) -> u32
-    requires { (from ≤ to) × (to ≤ length rules.now) }
-    ensures { result ≡ rule_in (slice from to rules.now) k }
+// The table's row of x, if it has one.
+fn row(rows: &[Row], x: u8) -> Row
+    requires { IsTable rows.now }
+    ensures cases { read result ≡ cases_of x }
+    ensures below { IfSome result.1 (λ y. y < x) }
 {
-    let mut i = from;
-    while i < to {
-        let n = rules[i];
-        if n / WORD == k as u32 {
-            return n % WORD;
-        }
-        i += 1;
+    match rows.get(usize::from(x)) {
+        Some(row) => *row,
+        None => (&[], None),
     }
-    0
 }
 
-// What may come after the word k where x may come; 0 where x does not begin with that word.
-fn rule(x: u8, k: u8) -> u32
-    ensures { RuleIs x k result }
+// What may come after the word k where x may come, if x begins with that word.
+fn rule(x: u8, k: u8) -> Option<&'static [u8]>
+    ensures { next_of result ≡ case_in (cases_of x) k }
 {
-    if LAST < x {
-        return 0;
-    }
-    let mut y = x;
-    while 0 < y {
-        let i = y as usize;
-        let after = rule_in(&RULES, FIRST_RULE[i], FIRST_RULE[i + 1], k);
-        if after != 0 {
-            return after;
+    let mut y = Some(x);
+    while let Some(x) = y {
+        let (own, also) = row(&RULES, x);
+        if let Some((_, next)) = own.iter().find(|rule| rule.0 == k) {
+            return Some(next);
         }
-        y = ALSO[i];
+        y = also;
     }
-    0
+    None
 }
 
-// Of what may come: where the first stands that begins with a word, and what may come after that word; 0 where none does.
+// Of what may come: where the first stands that begins with a word, and what may come after that word.
 #[derive(Clone, Copy)]
 pub struct Turn {
     pub at: usize,
-    pub after: u32,
+    pub next: &'static [u8],
 }
 
 // What may come lies on a stack, from `top` on to its end.
-pub fn seek(stack: &[u8], top: usize, k: u8) -> Turn
+pub fn seek(stack: &[u8], top: usize, k: u8) -> Option<Turn>
     requires { top ≤ length stack.now }
     ensures { SeekIs stack.now top k result }
 {
-    let mut t = top;
-    while t < stack.len() {
-        let x = stack[t];
-        let after = rule(x, k);
-        if after != 0 {
-            return Turn { at: t, after };
+    for at in top..stack.len() {
+        let x = stack[at];
+        if let Some(next) = rule(x, k) {
+            return Some(Turn { at, next });
         }
-        if x < FIRST_OPTIONAL {
-            break;
+        if x < MORE_OF_RELATION {
+            return None;
         }
-        t += 1;
     }
-    Turn { at: t, after: 0 }
-}
-
-fn narrow(n: u32) -> u8
-    requires { n < 256 }
-    ensures { result ≡ n }
-{
-    n as u8
+    None
 }
 
 // What may come after a word, on the stack before `top`; where it begins there.
-pub fn push(stack: &mut [u8], top: usize, after: u32) -> usize
-    requires { (4 ≤ top) × (top ≤ length stack.old) × (after < 2097152) }
-    ensures { Pushed stack.old top after stack.new result }
+pub fn push(stack: &mut [u8], top: usize, next: &[u8]) -> usize
+    requires { (length next.now ≤ top) × (top ≤ length stack.old) }
+    ensures { Pushed stack.old top next.now stack.new result }
 {
-    let mut n = after;
-    let mut t = top;
-    while NOTHING < n {
-        t -= 1;
-        stack[t] = narrow(n % DIGIT);
-        n = n / DIGIT;
-    }
-    t
+    let to = top - next.len();
+    stack[to..top].copy_from_slice(next);
+    to
 }

@@ -1,20 +1,14 @@
 // A text is taken word by word, with a stack of what may come.
 ghost use Rattle.std.specs.Prelude.{◌+◌, ◌-◌, ◌*◌, ◌≤◌, ◌<◌, ◌≡◌, length, drop};
-ghost use Rattle.nibl.specs.Bytes.{is_text, front};
 ghost use Rattle.nibl.specs.found.Column.{is_remark, remark_at, line_run};
 ghost use Rattle.word.specs.Found.{WordIs, spellings_of};
 ghost use Rattle.column.specs.Runs.{VerdictIs, NextIs, wordless, run_by, line_symbol, Room};
 
-use crate::rules;
-use crate::rules::{push, seek};
+use crate::rules::{self, push, seek};
 use word::{Cursor, Word};
 
-// All of a text's words were taken; or where it could not go on.
-#[derive(Clone, Copy)]
-pub enum Verdict {
-    Alive,
-    Stuck(usize),
-}
+// `Ok` if all of a text's words were taken; else where it could not go on.
+pub type Verdict = Result<(), usize>;
 
 // What stands at a position: nothing but spaces; no word, and where none could go on; or a word, as the rules know it, and where
 // it ends.
@@ -29,16 +23,16 @@ fn word_in(text: &[u8], at: usize, commands: bool) -> Word
     ensures { WordIs (spellings_of commands) text.now at result }
 {
     if commands {
-        return word::command_at(text, Cursor { at });
+        word::command_at(text, Cursor { at })
+    } else {
+        word::word_at(text, Cursor { at })
     }
-    word::word_at(text, Cursor { at })
 }
 
 fn look(text: &[u8], at: usize, commands: bool) -> Next
     ensures { NextIs (spellings_of commands) text.now at result }
 {
-    let w = word_in(text, at, commands);
-    match w {
+    match word_in(text, at, commands) {
         Word::Variable(_, c) => Next::Got(rules::NAME, c.at),
         Word::Decimal(_, c) => Next::Got(rules::DECIMAL, c.at),
         Word::Hex(_, c) => Next::Got(rules::HEX, c.at),
@@ -49,39 +43,21 @@ fn look(text: &[u8], at: usize, commands: bool) -> Next
     }
 }
 
-// Where the text bytes from `from` on end.
-fn text_end(text: &[u8], from: usize) -> usize
-    ensures { result ≡ from + length (front is_text (drop from text.now)) }
-{
-    let mut i = from;
-    while i < text.len() {
-        if !letter::is_text(text[i]) {
-            break;
-        }
-        i += 1;
-    }
-    i
-}
-
 // What follows REM: the rest of the text.
 fn remark(text: &[u8], at: usize) -> Verdict
     requires { at ≤ length text.now }
     ensures { VerdictIs text.now (remark_at (drop at text.now)) result }
 {
-    let end = text_end(text, at);
-    if end < text.len() {
-        return Verdict::Stuck(end);
+    match text[at..].iter().position(|b| !letter::is_text(*b)) {
+        Some(n) => Err(at + n),
+        None => Ok(()),
     }
-    Verdict::Alive
 }
 
 fn is_remark(stack: &[u8], top: usize) -> bool
     ensures { result ≡ is_remark (drop top stack.now) }
 {
-    if top < stack.len() {
-        return stack[top] == rules::A_REMARK;
-    }
-    false
+    stack.get(top) == Some(&rules::REMARK)
 }
 
 // Where no word stands and none could go on at `end`: a string may be open there, if one may come.
@@ -89,17 +65,14 @@ fn without_word(text: &[u8], at: usize, end: usize, stack: &[u8], top: usize) ->
     requires { (end ≤ length text.now) × (top ≤ length stack.now) }
     ensures { VerdictIs text.now (wordless (length text.now - end) (drop top stack.now) (drop at text.now)) result }
 {
-    if end < text.len() {
-        return Verdict::Stuck(end);
+    if end == text.len()
+        && word::first_at(text, Cursor { at }) == nibl::QUOTE
+        && seek(stack, top, rules::TEXT).is_some()
+    {
+        Ok(())
+    } else {
+        Err(end)
     }
-    if word::first_at(text, Cursor { at }) != nibl::QUOTE {
-        return Verdict::Stuck(end);
-    }
-    let t = seek(stack, top, rules::TEXT);
-    if t.after == 0 {
-        return Verdict::Stuck(end);
-    }
-    Verdict::Alive
 }
 
 // The words of a text one after the other, from a position on. Only the first may be a command.
@@ -111,38 +84,31 @@ fn run_from(text: &[u8], from: usize, commands: bool, stack: &mut [u8], bottom: 
     let mut at = from;
     let mut by = commands;
     let mut top = bottom;
-    loop {
-        if is_remark(stack, top) {
-            return remark(text, at);
-        }
-        let n = look(text, at, by);
-        by = false;
-        match n {
-            Next::End => {
-                return Verdict::Alive;
-            }
-            Next::Wrong(end) => {
-                return without_word(text, at, end, stack, top);
-            }
+    while !is_remark(stack, top) {
+        match look(text, at, by) {
+            Next::End => return Ok(()),
+            Next::Wrong(end) => return without_word(text, at, end, stack, top),
             Next::Got(k, end) => {
-                let t = seek(stack, top, k);
-                if t.after == 0 {
-                    return Verdict::Stuck(end);
-                }
-                top = push(stack, t.at + 1, t.after);
+                let Some(turn) = seek(stack, top, k) else {
+                    return Err(end);
+                };
+                top = push(stack, turn.at + 1, turn.next);
                 at = end;
             }
         }
+        by = false;
     }
+    remark(text, at)
 }
 
 fn line_symbol(commands: bool) -> u8
     ensures { result ≡ line_symbol commands }
 {
     if commands {
-        return rules::TYPED_COMMAND;
+        rules::TYPED_COMMAND
+    } else {
+        rules::TYPED_LINE
     }
-    rules::TYPED_LINE
 }
 
 // The words of a whole text, as a line or as a command.

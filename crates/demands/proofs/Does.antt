@@ -1,6 +1,7 @@
 -- What one statement can do, as a coarse list of effects, for what holds of all of them alike: what holds of each effect holds of every statement
 -- (Effects.antt). Which statement has which effect, with which values, is in specs/Work.antt. Assumes nothing.
 use Prim.Native.Nat.{ℕ, suc, ◌+◌, ◌%◌, ◌≤◌}
+use Rattle.std.specs.Prelude.{Some, None}
 use mathlib.Core.Path.{◌≡◌}
 use mathlib.Core.Bool.{true, false}
 use mathlib.Core.List.{List, [], ◌∷◌}
@@ -15,8 +16,6 @@ use Rattle.nibl.specs.Meaning.{World, Env, on, skip, go, stop, Done, done, with_
 use Rattle.nibl.specs.Record.{with_var, with_flags, with_gosubs, with_dos, with_fors, place, position}
 use Rattle.nibl.specs.declared.Place.{Place}
 use Rattle.nibl.specs.declared.ForEntry.{ForEntry}
-use Rattle.nibl.specs.declared.Top.TheVariants as top
-use Rattle.nibl.specs.declared.TopFor.TheVariants as topf
 
 -- what a statement may be refused with, and END
 abbrev pub refusals : List ℕ
@@ -45,21 +44,21 @@ pub data Does (e : Env) (vs : List ℕ) (W : List ℕ → Type 0) : World → Do
   goes_to : {w : World} {q : ℕ} (n : ℕ) → find e.page n ≡ some q → Does e vs W w (done (go q) w)
   saves : {w : World} {q : ℕ} (n : ℕ) → find e.page n ≡ some q → (push_of w.session.gosubs (place e.here)).ok ≡ true
       → Does e vs W w (done (go q) (with_session w (with_gosubs w.session (push_of w.session.gosubs (place e.here)).stack)))
-  returns : {w : World} (p : Place) → (pop_of w.session.gosubs).top ≡ top.At p
+  returns : {w : World} (p : Place) → (pop_of w.session.gosubs).top ≡ Some p
       → Does e vs W w (done (after p) (with_session w (with_gosubs w.session (pop_of w.session.gosubs).stack)))
   loops : {w : World} → (push_of w.session.dos (place e.here)).ok ≡ true
       → Does e vs W w (done on (with_session w (with_dos w.session (push_of w.session.dos (place e.here)).stack)))
-  repeats : {w : World} (p : Place) → (pop_of w.session.dos).top ≡ top.At p → Does e vs W w (done (go (suc (position p))) w)
-  leaves : {w : World} (p : Place) → (pop_of w.session.dos).top ≡ top.At p
+  repeats : {w : World} (p : Place) → (pop_of w.session.dos).top ≡ Some p → Does e vs W w (done (go (suc (position p))) w)
+  leaves : {w : World} (p : Place) → (pop_of w.session.dos).top ≡ Some p
       → Does e vs W w (done on (with_session w (with_dos w.session (pop_of w.session.dos).stack)))
   begins : {w : World} (v first limit step : ℕ) → is_among vs v ≡ true
       → (push_for w.session.fors (record { var = v; limit = limit; step = step; place = place e.here })).ok ≡ true
       → Does e vs W w (done on (with_session w (with_var (with_fors w.session
       (push_for w.session.fors (record { var = v; limit = limit; step = step; place = place e.here })).stack) v first)))
-  again : {w : World} (v : ℕ) (f : ForEntry) → (pop_for w.session.fors).top ≡ topf.Entry f
+  again : {w : World} (v : ℕ) (f : ForEntry) → (pop_for w.session.fors).top ≡ Some f
       → goes_on f.step (add16 (get_or w.session.vars v 0) f.step) f.limit ≡ true
       → Does e vs W w (done (go (suc (position f.place))) (with_session w (with_var w.session v (add16 (get_or w.session.vars v 0) f.step))))
-  finishes : {w : World} (v : ℕ) (f : ForEntry) → (pop_for w.session.fors).top ≡ topf.Entry f
+  finishes : {w : World} (v : ℕ) (f : ForEntry) → (pop_for w.session.fors).top ≡ Some f
       → goes_on f.step (add16 (get_or w.session.vars v 0) f.step) f.limit ≡ false
       → Does e vs W w (done on (with_session w (with_fors (with_var w.session v (add16 (get_or w.session.vars v 0) f.step)) (pop_for w.session.fors).stack)))
   inputs : {w : World} {d : Done} → GivesVariables w d → Does e vs W w d

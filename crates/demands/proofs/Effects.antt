@@ -1,5 +1,8 @@
 -- A statement does nothing but what the list of effects has. Assumes nothing.
 use Rattle.std.specs.Prelude.{if◌then◌else◌}
+use Rattle.std.specs.Prelude.{Option as Opt, Some, None}
+use Rattle.nibl.specs.declared.ForEntry.{ForEntry}
+use Rattle.nibl.specs.declared.Place.{Place}
 use Prim.Native.Nat.{ℕ, suc, ◌+◌, ◌≤◌}
 use mathlib.Core.Path.{◌≡◌, refl, ap}
 use mathlib.Core.Bool.{Bool, true, false, not, ◌||◌}
@@ -25,10 +28,6 @@ use Rattle.nibl.specs.Record.{with_var, place}
 use Rattle.nibl.specs.Access.{may_read, may_write}
 use Rattle.nibl.specs.declared.access.Access.{Access}
 use Rattle.nibl.specs.Calls.{listed, list_from}
-use Rattle.nibl.specs.declared.Top.{Top}
-use Rattle.nibl.specs.declared.Top.TheVariants as top
-use Rattle.nibl.specs.declared.TopFor.{TopFor}
-use Rattle.nibl.specs.declared.TopFor.TheVariants as topf
 use Rattle.demands.specs.Items.{In, first, further, item_bytes, ItemOf, of_print, end_of_print, of_input, of_input_text, of_if, ListItem, of_record}
 use Rattle.record.specs.Fors.{for_vars}
 use Rattle.demands.proofs.Does.{refusals, GivesVariables, gave, refused, gives, Does, writes, takes, refuses, passes, skips, assigns, assigns_flags, stores, goes_to, saves, returns, loops, repeats, leaves, begins, again, finishes, inputs}
@@ -211,29 +210,29 @@ module _ (e : Env) (vs : List ℕ) (W : List ℕ → Type 0) where
   unfolding gosub_to
   gosub-does w n q h = choice-does (push_of w.session.gosubs (place e.here)).ok w _ _ (saves n h) (λ g. refuses refl)
 
-  return-does : (w : World) (t : Top) → (pop_of w.session.gosubs).top ≡ t → Does e vs W w (return_by w t)
+  return-does : (w : World) (t : Opt Place) → (pop_of w.session.gosubs).top ≡ t → Does e vs W w (return_by w t)
   unfolding return_by
-  return-does w top.Empty h = refuses refl
-  return-does w (top.At p) h = returns p h
+  return-does w None h = refuses refl
+  return-does w (Some p) h = returns p h
 
   do-does : (w : World) → Does e vs W w (do_here e w)
   unfolding do_here
   do-does w = choice-does (push_of w.session.dos (place e.here)).ok w _ _ loops (λ g. refuses refl)
 
-  until-does : (w : World) (x : ℕ) (t : Top) → (pop_of w.session.dos).top ≡ t → Does e vs W w (until_by w x t)
+  until-does : (w : World) (x : ℕ) (t : Opt Place) → (pop_of w.session.dos).top ≡ t → Does e vs W w (until_by w x t)
   unfolding until_by
-  until-does w x top.Empty h = refuses refl
-  until-does w x (top.At p) h = choice-does (eqb x 0) w _ _ (λ g. repeats p h) (λ g. leaves p h)
+  until-does w x None h = refuses refl
+  until-does w x (Some p) h = choice-does (eqb x 0) w _ _ (λ g. repeats p h) (λ g. leaves p h)
 
   for-does : (w : World) (v x y z : ℕ) → is_among vs v ≡ true → Does e vs W w (for_here e w v x y z)
   unfolding for_here
   for-does w v x y z l =
       choice-does (push_for w.session.fors (record { var = v; limit = y; step = z; place = place e.here })).ok w _ _ (begins v x y z l) (λ g. refuses refl)
 
-  next-does : (w : World) (v : ℕ) (t : TopFor) → (pop_for w.session.fors).top ≡ t → Does e vs W w (next_by w v t)
+  next-does : (w : World) (v : ℕ) (t : Opt ForEntry) → (pop_for w.session.fors).top ≡ t → Does e vs W w (next_by w v t)
   unfolding next_by
-  next-does w v topf.Empty h = refuses refl
-  next-does w v (topf.Entry f) h =
+  next-does w v None h = refuses refl
+  next-does w v (Some f) h =
       choice-does (not (eqb f.var v)) w _ _ (λ g. refuses refl) (λ g. choice-does (goes_on f.step _ f.limit) w _ _ (again v f h) (finishes v f h))
 
   -- a line is asked for, and taken unless there is none

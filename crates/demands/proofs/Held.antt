@@ -1,5 +1,6 @@
 -- "Fixed effects" of a statement: what a refusing one leaves, and that no stop clears the stacks. Assumes nothing.
 use Rattle.std.specs.Prelude.{if◌then◌else◌}
+use Rattle.std.specs.Prelude.{Some, None}
 use Prim.Native.Nat.{ℕ, suc, ◌+◌, ◌-◌, ◌≤◌}
 use mathlib.Core.Path.{◌≡◌, refl, sym, ap, subst, ◌∙◌}
 use mathlib.Core.Bool.{Bool, true, false, false≢true}
@@ -18,7 +19,6 @@ use Rattle.nibl.specs.Runs.{Ran, env_at, after_step, run_from}
 use Rattle.nibl.specs.Calls.{list_from}
 use Rattle.nibl.specs.declared.Place.{Place}
 use Rattle.nibl.specs.declared.Session.{Session}
-use Rattle.nibl.specs.declared.Top.TheVariants as top
 use Rattle.demands.proofs.Does.{refusals, GivesVariables, gave, refused, gives, Does, writes, takes, refuses, passes, skips, assigns, assigns_flags, stores, goes_to, saves, returns, loops, repeats, leaves, begins, again, finishes, inputs}
 use Rattle.demands.specs.Asks.{input_vars}
 use Rattle.demands.specs.Items.{ItemOf, ListItem}
@@ -62,7 +62,7 @@ module _ (e : Env) (W : List ℕ → Type 0) where
   gives-leave v k a (gives x y g) =
       gives-leave v (record { flags = k.flags; gosubs = k.gosubs; dos = k.dos; fors = k.fors; paused = k.paused }) (record { memory = a.memory; items = a.items; lines = a.lines }) g
 
-  return-leaves : (w : World) (p : Place) → (pop_of w.session.gosubs).top ≡ top.At p → (b : Bool) → eqb (position p) mark ≡ b
+  return-leaves : (w : World) (p : Place) → (pop_of w.session.gosubs).top ≡ Some p → (b : Bool) → eqb (position p) mark ≡ b
       → Leaves e W w (done (if b then stop 0 else go (suc (position p))) (with_session w (with_gosubs w.session (pop_of w.session.gosubs).stack)))
   return-leaves w p h true m = returned (record { place = p; top = h; mark = eqb-true (position p) mark m; rest = refl }) (record { memory = refl; items = no_item; lines = none_taken })
   return-leaves w p h false m = jumped

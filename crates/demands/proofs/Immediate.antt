@@ -1,5 +1,7 @@
 -- An immediate statement takes no input, and nor does LIST. Assumes nothing.
 use Prim.Native.Nat.{ℕ, ◌+◌}
+use Rattle.std.specs.Prelude.{Option, Some, None}
+use Rattle.nibl.specs.declared.Place.{Place}
 use mathlib.Core.Path.{◌≡◌, refl, ◌∙◌}
 use mathlib.Core.Bool.{Bool, true, false, true≢false}
 use mathlib.Core.List.{List, [], ◌∷◌}
@@ -13,8 +15,6 @@ use Rattle.nibl.specs.Page.{Stored, find}
 use Rattle.nibl.specs.Meaning.{World, Env, on, skip, go, stop, Done, done, bind, given, went, eval, string_at, line_there, put, put_item, put_items, put_end, keep_in, gosub_to, return_by, exec}
 use Rattle.nibl.specs.Record.{place}
 use Rattle.nibl.specs.Calls.{needs_program, listed, list_from}
-use Rattle.nibl.specs.declared.Top.{Top}
-use Rattle.nibl.specs.declared.Top.TheVariants as top
 use Rattle.nibl.proofs.Words.{if-split}
 use Rattle.demands.specs.Leaves.{world_after}
 
@@ -62,10 +62,10 @@ gosub-keeps : (e : Env) (w : World) (q : ℕ) → Keeps w (gosub_to e w q)
 unfolding gosub_to
 gosub-keeps e w q = if-split (Keeps w) (push_of w.session.gosubs (place e.here)).ok (λ _. kept refl) (λ _. kept refl)
 
-return-keeps : (w : World) (t : Top) → Keeps w (return_by w t)
+return-keeps : (w : World) (t : Option Place) → Keeps w (return_by w t)
 unfolding return_by
-return-keeps w top.Empty = kept refl
-return-keeps w (top.At p) = kept refl
+return-keeps w None = kept refl
+return-keeps w (Some p) = kept refl
 
 pub exec_keeps : (e : Env) (q : Stmt) (w : World) → needs_program q ≡ false → Keeps w (exec e q w)
 unfolding exec

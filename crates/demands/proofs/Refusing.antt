@@ -1,5 +1,8 @@
 -- What a refusing statement leaves of the variables, and what it may be refused with. Assumes nothing.
 use Rattle.std.specs.Prelude.{if◌then◌else◌}
+use Rattle.std.specs.Prelude.{Option as Opt, Some, None}
+use Rattle.nibl.specs.declared.ForEntry.{ForEntry}
+use Rattle.nibl.specs.declared.Place.{Place}
 use Prim.Native.Nat.{ℕ, suc, ◌+◌}
 use mathlib.Core.Path.{◌≡◌, refl, sym, ◌∙◌}
 use mathlib.Core.Bool.{Bool, true, false, not, true≢false}
@@ -20,10 +23,6 @@ use Rattle.nibl.specs.Page.{Stored, is_among, find}
 use Rattle.nibl.specs.Meaning.{World, Env, on, skip, go, stop, Done, done, with_session, with_inpos, with_output, bind, given, went, string_at, eval, put, put_item, put_items, put_end, keep_in, line_there, gosub_to, return_by, do_here, until_by, for_here, goes_on, next_by, gathered, asked, assign, assign_reply, exec}
 use Rattle.nibl.specs.Record.{mark, with_var, place, position}
 use Rattle.nibl.specs.Calls.{needs_program, listed, list_from}
-use Rattle.nibl.specs.declared.Top.{Top}
-use Rattle.nibl.specs.declared.Top.TheVariants as top
-use Rattle.nibl.specs.declared.TopFor.{TopFor}
-use Rattle.nibl.specs.declared.TopFor.TheVariants as topf
 use Rattle.demands.proofs.Does.{refusals}
 use Rattle.demands.specs.Asks.{asks, input_vars, GivenIn, stay, give}
 use Rattle.demands.proofs.Effects.{value_refusals, widen, GivesOrRefuses, refused', bind-known, string-known, store-known, line_known, eval-known, went-went, given-went}
@@ -120,29 +119,29 @@ module _ (us : List ℕ) (b : Bool) where
   after-refuses true q u vars = ends
   after-refuses false q u vars = jumps
 
-  return-refuses : (w : World) (t : Top) → R w.session.vars (return_by w t)
+  return-refuses : (w : World) (t : Opt Place) → R w.session.vars (return_by w t)
   unfolding return_by
-  return-refuses w top.Empty = refuse 9 w refl
-  return-refuses w (top.At p) = after-refuses (eqb (position p) mark) (suc (position p)) _ _
+  return-refuses w None = refuse 9 w refl
+  return-refuses w (Some p) = after-refuses (eqb (position p) mark) (suc (position p)) _ _
 
   do-refuses : (e : Env) (w : World) → R w.session.vars (do_here e w)
   unfolding do_here
   do-refuses e w = choice (push_of w.session.dos (place e.here)).ok _ _ _ goes (refuse 10 w refl)
 
-  until-refuses : (w : World) (x : ℕ) (t : Top) → R w.session.vars (until_by w x t)
+  until-refuses : (w : World) (x : ℕ) (t : Opt Place) → R w.session.vars (until_by w x t)
   unfolding until_by
-  until-refuses w x top.Empty = refuse 15 w refl
-  until-refuses w x (top.At p) = choice (eqb x 0) _ _ _ jumps goes
+  until-refuses w x None = refuse 15 w refl
+  until-refuses w x (Some p) = choice (eqb x 0) _ _ _ jumps goes
 
   for-refuses : (e : Env) (w : World) (v x y z : ℕ) → R w.session.vars (for_here e w v x y z)
   unfolding for_here
   for-refuses e w v x y z =
       choice (push_for w.session.fors (record { var = v; limit = y; step = z; place = place e.here })).ok _ _ _ goes (refuse 10 w refl)
 
-  next-refuses : (w : World) (v : ℕ) (t : TopFor) → R w.session.vars (next_by w v t)
+  next-refuses : (w : World) (v : ℕ) (t : Opt ForEntry) → R w.session.vars (next_by w v t)
   unfolding next_by
-  next-refuses w v topf.Empty = refuse 11 w refl
-  next-refuses w v (topf.Entry f) = choice (not (eqb f.var v)) _ _ _ (refuse 12 w refl) (choice (goes_on f.step _ f.limit) _ _ _ jumps goes)
+  next-refuses w v None = refuse 11 w refl
+  next-refuses w v (Some f) = choice (not (eqb f.var v)) _ _ _ (refuse 12 w refl) (choice (goes_on f.step _ f.limit) _ _ _ jumps goes)
 
   module _ (six : is_among (refusals_of b) 6 ≡ true) (seven : is_among (refusals_of b) 7 ≡ true) where
     gathered-refuses : (w : World) (o : Option Gathered) (k : World → List ℕ → Done)

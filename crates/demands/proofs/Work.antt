@@ -1,5 +1,6 @@
 -- A statement does what document 01's rules say, and nothing else: the definition and the rules are one. Assumes nothing.
 use Rattle.std.specs.Prelude.{if◌then◌else◌}
+use Rattle.std.specs.Prelude.{Option as Opt, Some, None}
 use Prim.Native.Nat.{ℕ, suc, ◌+◌, ◌-◌, ◌%◌, ◌≤◌}
 use mathlib.Core.Path.{◌≡◌, refl, sym, ap, subst, ◌∙◌}
 use mathlib.Core.Bool.{Bool, true, false, true≢false, false≢true}
@@ -28,10 +29,6 @@ use Rattle.nibl.specs.declared.Place.{Place}
 use Rattle.nibl.specs.declared.PlaceStack.{PlaceStack}
 use Rattle.nibl.specs.declared.ForEntry.{ForEntry}
 use Rattle.nibl.specs.declared.ForStack.{ForStack}
-use Rattle.nibl.specs.declared.Top.{Top}
-use Rattle.nibl.specs.declared.Top.TheVariants as top
-use Rattle.nibl.specs.declared.TopFor.{TopFor}
-use Rattle.nibl.specs.declared.TopFor.TheVariants as topf
 use Rattle.nibl.proofs.Words.{if-split}
 use Rattle.nibl.proofs.Lines.{replied-sound}
 use Rattle.nibl.proofs.Whole.{replied-complete}
@@ -75,13 +72,13 @@ line-none n at [] h = refl
 line-none n at (r ∷ rs) h = rw (ne_eqb r.line n (h r first)) (line-none n (at + size r) rs (λ q i. h q (further i)))
 
 -- Stacks
-top-of : (s : PlaceStack) (P : Top → Type 0) → (Bare 8 s.depth → P top.Empty) → ((p : Place) → TopPlace s p → P (top.At p)) → P (top_of s)
+top-of : (s : PlaceStack) (P : Opt Place → Type 0) → (Bare 8 s.depth → P None) → ((p : Place) → TopPlace s p → P (Some p)) → P (top_of s)
 top-of s P f g =
     if-split P (ltb s.depth 1) (λ h. f (empty (omega (arith, ltb-true s.depth 1 h))))
     (λ h. if-split P (ltb 8 s.depth) (λ l. f (misfit (ltb-true 8 s.depth l)))
     (λ l. g _ (record { some = ltb-false s.depth 1 h; within = ltb-false 8 s.depth l; top = refl })))
 
-topfor-of : (s : ForStack) (P : TopFor → Type 0) → (Bare 4 s.depth → P topf.Empty) → ((f : ForEntry) → TopEntry s f → P (topf.Entry f)) → P (top_for s)
+topfor-of : (s : ForStack) (P : Opt ForEntry → Type 0) → (Bare 4 s.depth → P None) → ((f : ForEntry) → TopEntry s f → P (Some f)) → P (top_for s)
 topfor-of s P f g =
     if-split P (ltb s.depth 1) (λ h. f (empty (omega (arith, ltb-true s.depth 1 h))))
     (λ h. if-split P (ltb 4 s.depth) (λ l. f (misfit (ltb-true 4 s.depth l)))
@@ -183,7 +180,7 @@ module _ (e : Env) (w : World) where
   return-works : P return (exec e return w)
   unfolding exec return_by
   return-works = top-of w.session.gosubs (λ t. P return (return_by w t)) (λ b. refuses (no_gosub b)) to where
-    to : (p : Place) → TopPlace w.session.gosubs p → P return (return_by w (top.At p))
+    to : (p : Place) → TopPlace w.session.gosubs p → P return (return_by w (Some p))
     to p t =
         rw (some-top 8 w.session.gosubs.depth w.session.gosubs.depth (w.session.gosubs.depth - 1) t.some t.within)
         (by_cases (eqb (position p) mark) (λ b. rw b (returns_to_mark t (eqb-true _ _ b))) (λ b. rw b (returns t (eqb-false _ _ b))))
@@ -193,7 +190,7 @@ module _ (e : Env) (w : World) where
   until-works a =
       given-of (P (until a)) a _ (λ x h. top-of w.session.dos (λ t. P (until a) (until_by w x t)) (λ b. refuses (no_do h b)) (to x h)) (λ n h. refuses (by_value (of_statement (at_first h))))
     where
-      to : (x : ℕ) → ValueOf e w a (is x) → (p : Place) → TopPlace w.session.dos p → P (until a) (until_by w x (top.At p))
+      to : (x : ℕ) → ValueOf e w a (is x) → (p : Place) → TopPlace w.session.dos p → P (until a) (until_by w x (Some p))
       to x h p t =
           rw (some-top 8 w.session.dos.depth w.session.dos.depth (w.session.dos.depth - 1) t.some t.within)
           (by_cases (eqb x 0) (λ b. rw b (repeats (subst (λ (y : ℕ). ValueOf e w a (is y)) (eqb-true x 0 b) h) t)) (λ b. rw b (leaves h (eqb-false x 0 b) t)))
@@ -222,7 +219,7 @@ module _ (e : Env) (w : World) where
   next-works : (v : ℕ) → P (next v) (exec e (next v) w)
   unfolding exec next_by
   next-works v = topfor-of w.session.fors (λ t. P (next v) (next_by w v t)) (λ b. refuses (no_for b)) to where
-    to : (f : ForEntry) → TopEntry w.session.fors f → P (next v) (next_by w v (topf.Entry f))
+    to : (f : ForEntry) → TopEntry w.session.fors f → P (next v) (next_by w v (Some f))
     to f t =
         rw (some-top 4 w.session.fors.depth w.session.fors.depth (w.session.fors.depth - 1) t.some t.within)
         (by_cases (eqb f.var v)
@@ -481,11 +478,11 @@ module _ (x : Access) (w : World) (m : List ℕ) (p : ℕ) (bs : List ℕ) where
   store-lacks (outlying h) = rw (lt-leb (p + length bs) (length m) h)
   store-lacks (not_all_own h f) = rw (le-leb (p + length bs) (length m) h, foreign-one x p (length bs) f)
 
-top_one : {s : PlaceStack} {p : Place} → TopPlace s p → top_of s ≡ top.At p
-top_one {s} t = some-top 8 s.depth top.Empty (top.At (get_or s.places (s.depth - 1) no_place)) t.some t.within ∙ ap top.At t.top
+top_one : {s : PlaceStack} {p : Place} → TopPlace s p → top_of s ≡ Some p
+top_one {s} t = some-top 8 s.depth None (Some (get_or s.places (s.depth - 1) no_place)) t.some t.within ∙ ap Some t.top
 
-topfor-one : {s : ForStack} {f : ForEntry} → TopEntry s f → top_for s ≡ topf.Entry f
-topfor-one {s} t = some-top 4 s.depth topf.Empty (topf.Entry (get_or s.entries (s.depth - 1) no_entry)) t.some t.within ∙ ap topf.Entry t.top
+topfor-one : {s : ForStack} {f : ForEntry} → TopEntry s f → top_for s ≡ Some f
+topfor-one {s} t = some-top 4 s.depth None (Some (get_or s.entries (s.depth - 1) no_entry)) t.some t.within ∙ ap Some t.top
 
 -- what a pop leaves of a depth
 depth-one : (room depth : ℕ) → 1 ≤ depth → depth ≤ room → on_top room depth depth (depth - 1) ≡ depth - 1
@@ -513,9 +510,9 @@ module _ (e : Env) (w : World) where
   refused-one (full_of_gosubs h l f) = line-there (gosub_to e w) h l ∙ rw (le-ltb w.session.gosubs.depth 8 f)
   refused-one (full_of_dos f) = rw (le-ltb w.session.dos.depth 8 f)
   refused-one (full_of_fors h g f l) = rw (value-one e w h, value-one e w g, value-one e w f) (rw (le-ltb w.session.fors.depth 4 l))
-  refused-one (no_gosub b) = rw (bare-top top.Empty (top.At (get_or w.session.gosubs.places (w.session.gosubs.depth - 1) no_place)) b)
-  refused-one (no_do h b) = rw (value-one e w h) (rw (bare-top top.Empty (top.At (get_or w.session.dos.places (w.session.dos.depth - 1) no_place)) b))
-  refused-one (no_for b) = rw (bare-top topf.Empty (topf.Entry (get_or w.session.fors.entries (w.session.fors.depth - 1) no_entry)) b)
+  refused-one (no_gosub b) = rw (bare-top None (Some (get_or w.session.gosubs.places (w.session.gosubs.depth - 1) no_place)) b)
+  refused-one (no_do h b) = rw (value-one e w h) (rw (bare-top None (Some (get_or w.session.dos.places (w.session.dos.depth - 1) no_place)) b))
+  refused-one (no_for b) = rw (bare-top None (Some (get_or w.session.fors.entries (w.session.fors.depth - 1) no_entry)) b)
   refused-one (other_for {v = v} {f = f} t h) = ap (next_by w v) (topfor-one t) ∙ rw (ne_eqb f.var v h)
   refused-one (by_memory (byte_not_stored {p = p} {x = x} h g l)) = rw (value-one e w h, value-one e w g) (store-lacks e.sight.access w w.memory p (x % 256 ∷ []) l)
   refused-one (by_memory (text_not_stored {p = p} {bs = bs} h l)) = rw (value-one e w h) (store-lacks e.sight.access w w.memory p (with_cr bs) l)

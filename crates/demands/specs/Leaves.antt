@@ -1,5 +1,6 @@
 -- What a call leaves, written out: the demands' sentences name these.
 use Rattle.std.specs.Prelude.{ℕ, ◌+◌, ◌≤◌, ◌≡◌, Bool, true, false, List, [], ◌∷◌, length, take, drop, eqb, if◌then◌else◌}
+use Rattle.std.specs.Prelude.{Some, None}
 use Rattle.std.proofs.Math.Option.{some}
 use Rattle.std.proofs.lemmas.List.Edits.{sets}
 use Rattle.nibl.specs.Typing.{Gathered, gather}
@@ -16,7 +17,6 @@ use Rattle.nibl.specs.Lent.{begun}
 use Rattle.nibl.specs.Calls.{take_line, continue_run, leaves}
 use Rattle.nibl.specs.declared.Session.{Session}
 use Rattle.nibl.specs.declared.Place.{Place}
-use Rattle.nibl.specs.declared.Top.TheVariants as top
 use Rattle.nibl.specs.declared.Answer.{Answer}
 use Rattle.page.specs.Tables.{Rising}
 use Rattle.demands.specs.Asks.{GivenIn}
@@ -131,7 +131,7 @@ pub record Refused (e : Env) (us : List ℕ) (W : List ℕ → Type 0) (w u : Wo
 -- "RETURN to the immediate mark" pops one place, the mark, and changes nothing else of the record
 pub record Returned (s t : Session) : Type 0 where
   pub place : Place
-  pub top : (pop_of s.gosubs).top ≡ top.At place
+  pub top : (pop_of s.gosubs).top ≡ Some place
   pub mark : position place ≡ mark
   pub rest : t ≡ with_gosubs s (pop_of s.gosubs).stack
 

@@ -1,5 +1,7 @@
 -- What an operation of each code leaves, by the answer that its function gave. Assumes nothing.
 use Rattle.std.specs.Prelude.{if◌then◌else◌}
+use Rattle.std.specs.Prelude.{Option, Result}
+use Rattle.nibl.specs.declared.stop.Stop.{Stop}
 use Prim.Native.Nat.{ℕ, ◌+◌, ◌%◌, ◌≤◌}
 use mathlib.Core.Path.{◌≡◌, refl, sym, ap, ◌∙◌}
 use mathlib.Core.List.{List, [], ◌∷◌, ◌++◌}
@@ -10,16 +12,15 @@ use Rattle.nibl.specs.Values.{printed}
 use Rattle.nibl.specs.Page.{find}
 use Rattle.nibl.specs.Meaning.{World, Env, on, skip, stop, Done, done, bind, string_at, store_at, asked, gosub_to, do_here, for_here}
 use Rattle.nibl.specs.declared.Place.{Place}
+use Rattle.nibl.specs.declared.PlaceStack.{PlaceStack}
+use Rattle.nibl.specs.declared.ForStack.{ForStack}
 use Rattle.nibl.specs.declared.access.Sight.{Sight}
 use Rattle.page.specs.Walk.{reached}
 use Rattle.value.specs.Writes.{Writes}
-use Rattle.value.specs.declared.Wrote.{Wrote}
 use Rattle.world.specs.Stores.{store_gave, store_leaves}
-use Rattle.world.specs.declared.memory.StoreEnd.{StoreEnd}
 use Rattle.world.specs.declared.jump.Way.{Way}
 use Rattle.world.specs.declared.jump.Way.TheVariants as way
 use Rattle.world.specs.declared.jump.Turn.{Turn}
-use Rattle.world.specs.declared.jump.ForTurn.{ForTurn}
 use Rattle.world.specs.Turns.{way_of, turned, turned_for, way_to, gosub_turn, return_turn, do_turn, until_turn, for_turn, next_turn, gosubs_in, dos_in, fors_in}
 use Rattle.world.proofs.jump.Worlds.{goto-called, gosub-called, return-in, do-in, until-in, for-in, next-in}
 use Rattle.world.proofs.input.Answers.{heard-in}
@@ -74,12 +75,12 @@ module _ (g : Given) where
   unfolding effect_by
   let-stat = refl
 
-  pub let-byte : (k : StoreEnd) {m : List ℕ} → store_gave k m ≡ store_leaves g.memory (store_at g.env.sight.access g.memory g.y (g.x % 256 ∷ []))
+  pub let-byte : (k : Result (Unit {0}) Stop) {m : List ℕ} → store_gave k m ≡ store_leaves g.memory (store_at g.env.sight.access g.memory g.y (g.x % 256 ∷ []))
       → did_in (did (stored_way k) g.parts) g.vars m g.output ≡ code code_set_byte
   unfolding effect_by
   let-byte k h = store_in g.parts g.vars g.memory g.output k (store_at g.env.sight.access g.memory g.y (g.x % 256 ∷ [])) h
 
-  pub let-copy : (k : StoreEnd) {m : List ℕ}
+  pub let-copy : (k : Result (Unit {0}) Stop) {m : List ℕ}
       → store_gave k m ≡ store_leaves g.memory (bind (string_at g.env.sight.access g.memory g.x) (λ bs. store_at g.env.sight.access g.memory g.y (bs ++ (13 ∷ []))))
       → did_in (did (stored_way k) g.parts) g.vars m g.output ≡ code code_copy_string
   unfolding effect_by
@@ -89,12 +90,12 @@ module _ (g : Given) where
   unfolding effect_by
   goto r h = ap (λ n. done n world) h ∙ sym (goto-called world g.env.page g.x g.short)
 
-  pub gosub : (t : Turn) → turned t ≡ gosub_turn (place g.env.here) g.parts.gosubs (reached (find g.env.page g.x))
+  pub gosub : (t : Turn PlaceStack) → turned t ≡ gosub_turn (place g.env.here) g.parts.gosubs (reached (find g.env.page g.x))
       → alone (did t.way (with_gosubs_in g.parts t.stack)) ≡ code code_gosub
   unfolding effect_by
   gosub t h = ap (gosubs_in world) h ∙ sym (gosub-called g.env world g.env.page g.x g.short)
 
-  pub return : (t : Turn) → turned t ≡ return_turn g.parts.gosubs → alone (did t.way (with_gosubs_in g.parts t.stack)) ≡ code code_return
+  pub return : (t : Turn PlaceStack) → turned t ≡ return_turn g.parts.gosubs → alone (did t.way (with_gosubs_in g.parts t.stack)) ≡ code code_return
   unfolding effect_by
   return t h = ap (gosubs_in world) h ∙ sym (return-in world)
 
@@ -102,7 +103,7 @@ module _ (g : Given) where
   unfolding effect_by
   room r h = ap (λ n. done n world) h ∙ done-if (leb (g.parts.outpos + g.arg) (length g.output)) on (stop 17) world
 
-  pub put_byte : {r : Wrote} {o : List ℕ} → Writes g.output g.parts.outpos (g.arg % 256 ∷ []) r o → did_in (wrote_in g.parts r) g.vars g.memory o ≡ code code_print_byte
+  pub put_byte : {r : (Option ℕ)} {o : List ℕ} → Writes g.output g.parts.outpos (g.arg % 256 ∷ []) r o → did_in (wrote_in g.parts r) g.vars g.memory o ≡ code code_print_byte
   unfolding effect_by
   put_byte {r} h = put_in g.parts g.vars g.memory g.output r h
 
@@ -110,11 +111,11 @@ module _ (g : Given) where
   unfolding effect_by
   put-stored h = h.done-in g.vars
 
-  pub put-number : {r : Wrote} {o : List ℕ} → Writes g.output g.parts.outpos (printed g.x) r o → did_in (wrote_in g.parts r) g.vars g.memory o ≡ code code_print_number
+  pub put-number : {r : (Option ℕ)} {o : List ℕ} → Writes g.output g.parts.outpos (printed g.x) r o → did_in (wrote_in g.parts r) g.vars g.memory o ≡ code code_print_number
   unfolding effect_by
   put-number {r} h = put_in g.parts g.vars g.memory g.output r h
 
-  pub put-line : {r : Wrote} {o : List ℕ} → Writes g.output g.parts.outpos (13 ∷ 10 ∷ []) r o → did_in (wrote_in g.parts r) g.vars g.memory o ≡ code code_print_end
+  pub put-line : {r : (Option ℕ)} {o : List ℕ} → Writes g.output g.parts.outpos (13 ∷ 10 ∷ []) r o → did_in (wrote_in g.parts r) g.vars g.memory o ≡ code code_print_end
   unfolding effect_by
   put-line {r} h = put_in g.parts g.vars g.memory g.output r h
 
@@ -122,21 +123,21 @@ module _ (g : Given) where
   unfolding effect_by
   if-then r h = ap (λ n. done n world) h ∙ done-if (eqb g.x 0) skip on world
 
-  pub do-here : (t : Turn) → turned t ≡ do_turn (place g.env.here) g.parts.dos → alone (did t.way (with_dos_in g.parts t.stack)) ≡ code code_do
+  pub do-here : (t : Turn PlaceStack) → turned t ≡ do_turn (place g.env.here) g.parts.dos → alone (did t.way (with_dos_in g.parts t.stack)) ≡ code code_do
   unfolding effect_by
   do-here t h = ap (dos_in world) h ∙ sym (do-in g.env world)
 
-  pub until : (t : Turn) → turned t ≡ until_turn g.x g.parts.dos → alone (did t.way (with_dos_in g.parts t.stack)) ≡ code code_until
+  pub until : (t : Turn PlaceStack) → turned t ≡ until_turn g.x g.parts.dos → alone (did t.way (with_dos_in g.parts t.stack)) ≡ code code_until
   unfolding effect_by
   until t h = ap (dos_in world) h ∙ sym (until-in world g.x)
 
-  pub for : (t : ForTurn) {vars : List ℕ}
+  pub for : (t : Turn ForStack) {vars : List ℕ}
       → turned_for t vars ≡ for_turn (place g.env.here) g.parts.fors g.vars (g.arg % 256) g.z g.y g.x
       → did_in (did t.way (with_fors_in g.parts t.stack)) vars g.memory g.output ≡ code code_for
   unfolding effect_by
   for t h = ap (fors_in world) h ∙ sym (for-in g.env world (g.arg % 256) g.z g.y g.x)
 
-  pub next : (t : ForTurn) {vars : List ℕ} → turned_for t vars ≡ next_turn g.parts.fors g.vars (g.arg % 256)
+  pub next : (t : Turn ForStack) {vars : List ℕ} → turned_for t vars ≡ next_turn g.parts.fors g.vars (g.arg % 256)
       → did_in (did t.way (with_fors_in g.parts t.stack)) vars g.memory g.output ≡ code code_next
   unfolding effect_by
   next t h = ap (fors_in world) h ∙ sym (next-in world (g.arg % 256))
@@ -147,7 +148,7 @@ module _ (g : Given) where
   input-text h = h.done-in g.vars ∙ sym (heard-in g.env world (keep_text g.env.sight.access g.x))
 
   -- any other code
-  pub end : (n : ℕ) → Unlike n (code_input_string ∷ code_next ∷ code_for ∷ code_until ∷ code_do ∷ code_if ∷ code_print_end ∷ code_print_number ∷ code_print_string ∷ code_print_byte ∷ code_print_room ∷ code_return ∷ code_gosub ∷ code_goto ∷ code_copy_string ∷ code_set_byte ∷ code_set_stat ∷ code_set_variable ∷ []) → alone (did (way.Stop 20) g.parts) ≡ code n
+  pub end : (n : ℕ) → Unlike n (code_input_string ∷ code_next ∷ code_for ∷ code_until ∷ code_do ∷ code_if ∷ code_print_end ∷ code_print_number ∷ code_print_string ∷ code_print_byte ∷ code_print_room ∷ code_return ∷ code_gosub ∷ code_goto ∷ code_copy_string ∷ code_set_byte ∷ code_set_stat ∷ code_set_variable ∷ []) → alone (did (way.Stop (record { 0 = 20 })) g.parts) ≡ code n
   unfolding effect_by
   end n ((((((((((((((((((t, a16), a17), a18), a21), a22), a23), a24), a25), a26), a27), a28), a29), a30), a31), a32), a33), a34), a37) =
       rw (

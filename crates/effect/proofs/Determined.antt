@@ -1,6 +1,8 @@
 -- One outcome: two answers that meet the promise of `effect`, of `act` or of one of the turns for the same arguments are equal, and
 -- so are the variables, the memory and the output; of the line's slots it says nothing. Assumes nothing.
 use Prim.Native.Nat.{ℕ}
+use Rattle.std.specs.Prelude.{Option as Opt, Some, None}
+use Rattle.world.specs.declared.jump.Way.{Way}
 use mathlib.Core.Path.{◌≡◌, refl, ap}
 use mathlib.Core.List.{List}
 use mathlib.Core.Option.{Option, none, some}
@@ -12,10 +14,7 @@ use Rattle.nibl.specs.declared.PlaceStack.{PlaceStack}
 use Rattle.nibl.specs.declared.ForStack.{ForStack}
 use Rattle.world.specs.Turns.{way_of, turned, turned_for}
 use Rattle.world.specs.declared.jump.Turn.{Turn}
-use Rattle.world.specs.declared.jump.ForTurn.{ForTurn}
 use Rattle.world.proofs.jump.Determined.{way-determined, turn-determined, for-turn-determined}
-use Rattle.effect.specs.declared.AtOnce.{AtOnce}
-use Rattle.effect.specs.declared.AtOnce.TheVariants as once
 use Rattle.effect.specs.Acts.{Acted, acted, way_at_once, call_turn, loop_turn, count_turn}
 use Rattle.effect.specs.declared.Did.{Did}
 use Rattle.effect.specs.Worlds.{did_in}
@@ -51,24 +50,24 @@ abbrev end_of : Option Next → Next → Next
 end_of none d = d
 end_of (some n) d = n
 
-at-once-same : (a b : AtOnce) → way_at_once a ≡ way_at_once b → a ≡ b
-at-once-same (once.Acts v) (once.Acts w) e = ap once.Acts (way-determined (way_of w) v w (ap (λ (o : Option Next). end_of o (way_of w)) e) refl)
-at-once-same once.Not once.Not e = refl
-at-once-same (once.Acts v) once.Not e = let z : ◌≡◌ {A = ℕ} 0 1 = cc in absurd (omega arith)
-at-once-same once.Not (once.Acts w) e = let z : ◌≡◌ {A = ℕ} 0 1 = cc in absurd (omega arith)
+at-once-same : (a b : Opt Way) → way_at_once a ≡ way_at_once b → a ≡ b
+at-once-same (Some v) (Some w) e = ap Some (way-determined (way_of w) v w (ap (λ (o : Option Next). end_of o (way_of w)) e) refl)
+at-once-same None None e = refl
+at-once-same (Some v) None e = let z : ◌≡◌ {A = ℕ} 0 1 = cc in absurd (omega arith)
+at-once-same None (Some w) e = let z : ◌≡◌ {A = ℕ} 0 1 = cc in absurd (omega arith)
 
-pub act-determined : (x : Acted) (a b : AtOnce) (vars vars' : List ℕ) → acted a vars ≡ x → acted b vars' ≡ x → (a ≡ b) × (vars ≡ vars')
+pub act-determined : (x : Acted) (a b : Opt Way) (vars vars' : List ℕ) → acted a vars ≡ x → acted b vars' ≡ x → (a ≡ b) × (vars ≡ vars')
 act-determined x a b vars vars' p q =
     let e = determined x (acted a vars) (acted b vars') p q in
     (at-once-same a b (λ i. (e i).next), λ i. (e i).vars)
 
-pub call-determined : (page : List ℕ) (here : Place) (s : PlaceStack) (code x : ℕ) (a b : Turn)
+pub call-determined : (page : List ℕ) (here : Place) (s : PlaceStack) (code x : ℕ) (a b : Turn PlaceStack)
     → turned a ≡ call_turn page here s code x → turned b ≡ call_turn page here s code x → a ≡ b
 call-determined page here s code x = turn-determined (call_turn page here s code x)
 
-pub loop-determined : (here : Place) (s : PlaceStack) (code x : ℕ) (a b : Turn) → turned a ≡ loop_turn here s code x → turned b ≡ loop_turn here s code x → a ≡ b
+pub loop-determined : (here : Place) (s : PlaceStack) (code x : ℕ) (a b : Turn PlaceStack) → turned a ≡ loop_turn here s code x → turned b ≡ loop_turn here s code x → a ≡ b
 loop-determined here s code x = turn-determined (loop_turn here s code x)
 
-pub count-determined : (here : Place) (s : ForStack) (vars : List ℕ) (code arg x y z : ℕ) (a b : ForTurn) (u u' : List ℕ)
+pub count-determined : (here : Place) (s : ForStack) (vars : List ℕ) (code arg x y z : ℕ) (a b : Turn ForStack) (u u' : List ℕ)
     → turned_for a u ≡ count_turn here s vars code arg x y z → turned_for b u' ≡ count_turn here s vars code arg x y z → (a ≡ b) × (u ≡ u')
 count-determined here s vars code arg x y z = for-turn-determined (count_turn here s vars code arg x y z)

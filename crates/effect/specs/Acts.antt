@@ -1,6 +1,8 @@
 -- The operations that act at once: what they do needs, besides the values, the page, the variables and a look at two stacks, and
 -- changes the variables alone. The turns change one stack besides, and no other part.
 use Rattle.std.specs.Prelude.{ℕ, suc, ◌%◌, List, eqb, set, if◌then◌else◌}
+use Rattle.std.specs.Prelude.{Option as Opt, Some, None}
+use Rattle.world.specs.declared.jump.Way.{Way}
 use Rattle.std.proofs.Math.Option.{Option, none, some}
 use Rattle.nibl.specs.Page.{find}
 use Rattle.nibl.specs.Meaning.{Next, on, skip, go}
@@ -9,10 +11,7 @@ use Rattle.nibl.specs.declared.PlaceStack.{PlaceStack}
 use Rattle.nibl.specs.declared.ForStack.{ForStack}
 use Rattle.page.specs.Walk.{reached}
 use Rattle.world.specs.Turns.{way_of, way_to, Turned, TurnedFor, gosub_turn, return_turn, do_turn, until_turn, for_turn, next_turn, back_of, Backed, next_back, until_back}
-use Rattle.world.specs.declared.jump.Back.{Back}
 use Rattle.codes.specs.Codes.{code_set_variable, code_if, code_goto, code_gosub, code_do, code_until, code_for, code_next}
-use Rattle.effect.specs.declared.AtOnce.{AtOnce}
-use Rattle.effect.specs.declared.AtOnce.TheVariants as once
 
 -- how such an operation ended, none where it is not done, and the variables then
 pub record Acted : Type 0 where
@@ -22,11 +21,11 @@ pub record Acted : Type 0 where
 abbrev pub acted_to : Option Next → List ℕ → Acted
 acted_to next vars = record { next = next; vars = vars }
 
-abbrev pub way_at_once : AtOnce → Option Next
-way_at_once (once.Acts w) = some (way_of w)
-way_at_once once.Not = none
+abbrev pub way_at_once : Opt Way → Option Next
+way_at_once (Some w) = some (way_of w)
+way_at_once None = none
 
-abbrev pub acted : AtOnce → List ℕ → Acted
+abbrev pub acted : Opt Way → List ℕ → Acted
 acted a vars = acted_to (way_at_once a) vars
 
 -- behind the place of a DO or a FOR
@@ -34,7 +33,7 @@ abbrev pub back_to : Option ℕ → Option Next
 back_to none = none
 back_to (some q) = some (go (suc q))
 
-abbrev pub goes_back : Back → Option Next
+abbrev pub goes_back : Opt Place → Option Next
 goes_back b = back_to (back_of b)
 
 abbrev pub back_acted : Backed → Acted

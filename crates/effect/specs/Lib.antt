@@ -1,2 +1,3 @@
 pub mod Worlds
 pub mod Acts
+pub mod Lines

@@ -1,5 +1,7 @@
 -- The world of the definition, from what the functions are lent and given, and what their answers say of it.
 use Rattle.std.specs.Prelude.{ℕ, List, [], ◌∷◌, ◌++◌, ◌≡◌}
+use Rattle.std.specs.Prelude.{Option, Some, None, Result, Ok, Err}
+use Rattle.nibl.specs.declared.stop.Stop.{Stop}
 use Rattle.nibl.specs.Bytes.{byte_cr}
 use Rattle.nibl.specs.Meaning.{World, Env, Done, done, given, put, string_at, store_at, keep_in}
 use Rattle.nibl.specs.Record.{position, nowhere, session_of, parts_at}
@@ -10,10 +12,6 @@ use Rattle.nibl.specs.declared.Parts.{Parts}
 use Rattle.world.specs.Turns.{way_of}
 use Rattle.world.specs.declared.jump.Way.{Way}
 use Rattle.world.specs.declared.jump.Way.TheVariants as way
-use Rattle.world.specs.declared.memory.StoreEnd.{StoreEnd}
-use Rattle.world.specs.declared.memory.StoreEnd.TheVariants as store_end
-use Rattle.value.specs.declared.Wrote.{Wrote}
-use Rattle.value.specs.declared.Wrote.TheVariants as wrote
 use Rattle.world.specs.Hearing.{hearing, heard_in}
 use Rattle.effect.specs.declared.Did.{Did}
 
@@ -36,13 +34,13 @@ abbrev pub did_in : Did → List ℕ → List ℕ → List ℕ → Done
 did_in d vars memory output = done (way_of d.way) (world_with vars d.parts memory output)
 
 -- how a store ended, and an output item: it is out whole, or 17
-abbrev pub stored_way : StoreEnd → Way
-stored_way store_end.Done = way.On
-stored_way (store_end.No n) = way.Stop n
+abbrev pub stored_way : Result (Unit {0}) Stop → Way
+stored_way (Ok u) = way.On
+stored_way (Err s) = way.Stop s
 
-abbrev pub wrote_in : Parts → Wrote → Did
-wrote_in p (wrote.To o) = did way.On (parts_at p p.inpos o)
-wrote_in p wrote.Full = did (way.Stop 17) p
+abbrev pub wrote_in : Parts → Option ℕ → Did
+wrote_in p (Some o) = did way.On (parts_at p p.inpos o)
+wrote_in p None = did (way.Stop (record { 0 = 17 })) p
 
 -- what a function did, in any world that has these parts: the variables are as they were
 pub record KeepsVars (p : Parts) (memory output : List ℕ) (f : World → Done) (r : Did) (memory' output' : List ℕ) : Type 0 where

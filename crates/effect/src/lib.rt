@@ -8,18 +8,25 @@ ghost use Rattle.nibl.specs.Meaning.{on, skip, stop};
 ghost use Rattle.world.specs.Turns.{way_of, turned, turned_for};
 ghost use Rattle.value.specs.Writes.{Writes};
 ghost use Rattle.table.specs.Index.{Indexed};
+ghost use Rattle.effect.specs.Lines.{indexed_prop};
 ghost use Rattle.operation.specs.Operations.{effect_by};
 ghost use Rattle.effect.specs.Worlds.{unsensing, env_with, world_with, did, did_in, stored_way, wrote_in, KeepsVars, put_stored, keep_reply};
 ghost use Rattle.nibl.specs.Record.{with_flags_in, with_gosubs_in, with_dos_in, with_fors_in, parts_at};
 ghost use Rattle.effect.specs.Acts.{acted, act_by, goes_back, way_at_once, call_turn, loop_turn, count_turn};
 
 use nibl::access::Access;
-use nibl::{ForStack, Onward, Parts, Place, PlaceStack, stop};
-use value::Wrote;
-use world::input::Reply;
-use world::jump::{Back, ForTurn, Turn, Way};
-use world::memory::{Extent, StoreEnd};
+use nibl::stop::Stop;
+use nibl::{ForStack, Onward, Parts, Place, PlaceStack};
+use world::jump::{Turn, Way};
 use world::{input, jump, memory};
+
+// A page, and the table of where its lines begin, which is empty where none is lent.
+#[derive(Clone, Copy)]
+pub struct Lines<'a> {
+    pub page: &'a [u8],
+    pub table: &'a [u16],
+    ghost indexed: { Indexed page.now table.now } by { indexed_prop page.now table.now },
+}
 
 // How a statement ended, and the parts then.
 #[derive(Clone, Copy)]
@@ -28,29 +35,18 @@ pub struct Did {
     pub parts: Parts,
 }
 
-// How an operation ended that acts at once; or that it needs the parts, and is not done.
-#[derive(Clone, Copy)]
-pub enum AtOnce {
-    Acts(Way),
-    Not,
-}
-
 pub fn ends(way: Way, parts: Parts) -> Did
     ensures { result ≡ did way parts }
 {
-    Did {
-        way: way,
-        parts: parts,
-    }
+    Did { way, parts }
 }
 
 // An assignment to STAT.
 fn set_stat(x: u16, parts: Parts) -> Did
     ensures { result ≡ did Way.On (with_flags_in parts (x % 8)) }
 {
-    let mut next = parts;
-    next.flags = (x % nibl::FLAGS) as u8;
-    ends(Way::On, next)
+    let flags = (x % nibl::FLAGS) as u8;
+    ends(Way::On, Parts { flags, ..parts })
 }
 
 // An assignment to a variable.
@@ -62,57 +58,44 @@ fn set_variable(vars: &mut [u16], v: u32, x: u16, parts: Parts) -> Did
     ends(Way::On, parts)
 }
 
-fn in_gosubs(t: Turn, parts: Parts) -> Did
+fn in_gosubs(t: Turn<PlaceStack>, parts: Parts) -> Did
     ensures { result ≡ did t.way (with_gosubs_in parts t.stack) }
 {
-    let way = t.way;
-    let stack = t.stack;
-    let mut next = parts;
-    next.gosubs = stack;
-    ends(way, next)
+    let gosubs = t.stack;
+    ends(t.way, Parts { gosubs, ..parts })
 }
 
-fn in_dos(t: Turn, parts: Parts) -> Did
+fn in_dos(t: Turn<PlaceStack>, parts: Parts) -> Did
     ensures { result ≡ did t.way (with_dos_in parts t.stack) }
 {
-    let way = t.way;
-    let stack = t.stack;
-    let mut next = parts;
-    next.dos = stack;
-    ends(way, next)
+    let dos = t.stack;
+    ends(t.way, Parts { dos, ..parts })
 }
 
-fn in_fors(t: ForTurn, parts: Parts) -> Did
+fn in_fors(t: Turn<ForStack>, parts: Parts) -> Did
     ensures { result ≡ did t.way (with_fors_in parts t.stack) }
 {
-    let way = t.way;
-    let stack = t.stack;
-    let mut next = parts;
-    next.fors = stack;
-    ends(way, next)
+    let fors = t.stack;
+    ends(t.way, Parts { fors, ..parts })
 }
 
 // A store's end.
-pub fn store_ends(k: StoreEnd, parts: Parts) -> Did
+pub fn store_ends(k: Result<(), Stop>, parts: Parts) -> Did
     ensures { result ≡ did (stored_way k) parts }
 {
     match k {
-        StoreEnd::Done => ends(Way::On, parts),
-        StoreEnd::No(n) => ends(Way::Stop(n), parts),
+        Ok(()) => ends(Way::On, parts),
+        Err(stop) => ends(Way::Stop(stop), parts),
     }
 }
 
 // An output item's end: it is out whole, or 17.
-fn item_ends(w: Wrote, parts: Parts) -> Did
+fn item_ends(w: Option<usize>, parts: Parts) -> Did
     ensures { result ≡ wrote_in parts w }
 {
     match w {
-        Wrote::To(p) => {
-            let mut next = parts;
-            next.outpos = p;
-            ends(Way::On, next)
-        }
-        Wrote::Full => ends(Way::Stop(stop::OUTPUT_FULL), parts),
+        Some(outpos) => ends(Way::On, Parts { outpos, ..parts }),
+        None => ends(Way::Stop(Stop::OUTPUT_FULL), parts),
     }
 }
 
@@ -120,39 +103,36 @@ fn item_ends(w: Wrote, parts: Parts) -> Did
 pub fn at_positions(parts: Parts, inpos: usize, outpos: usize) -> Parts
     ensures { result ≡ parts_at parts inpos outpos }
 {
-    let mut next = parts;
-    next.inpos = inpos;
-    next.outpos = outpos;
-    next
+    Parts {
+        inpos,
+        outpos,
+        ..parts
+    }
 }
 
 // Whether an item of n bytes fits.
 fn print_room(output: &[u8], at: usize, n: u32) -> Way
     ensures { way_of result ≡ (if leb (at + n) (length output.now) then on else stop 17) }
 {
-    if !value::has_room(output.len(), at, n as usize) {
-        return Way::Stop(stop::OUTPUT_FULL);
+    if value::has_room(output.len(), at, n as usize) {
+        Way::On
+    } else {
+        Way::Stop(Stop::OUTPUT_FULL)
     }
-    Way::On
 }
 
 // One byte of a string.
-fn print_byte(output: &mut [u8], at: usize, b: u8) -> Wrote
+fn print_byte(output: &mut [u8], at: usize, b: u8) -> Option<usize>
     ensures { Writes output.old at (b ∷ []) result output.new }
 {
-    if !value::has_room(output.len(), at, 1) {
-        return Wrote::Full;
-    }
-    output[at] = b;
-    Wrote::To(at + 1)
+    value::write_item(output, at, &[b])
 }
 
 // CR LF.
-fn print_end(output: &mut [u8], at: usize) -> Wrote
+fn print_end(output: &mut [u8], at: usize) -> Option<usize>
     ensures { Writes output.old at (byte_cr ∷ byte_lf ∷ []) result output.new }
 {
-    let end = [nibl::CR, nibl::LF];
-    value::write_item(output, at, &end)
+    value::write_item(output, at, &[nibl::CR, nibl::LF])
 }
 
 // PRINT of a stored string: 16 comes before 17.
@@ -160,14 +140,15 @@ fn print_string(access: Access, memory: &[u8], a: u16, output: &mut [u8], parts:
     ensures { KeepsVars parts memory.now output.old (put_stored access a) result memory.now output.new }
 {
     match memory::string_end(access, memory, a) {
-        Extent::No(n) => ends(Way::Stop(n), parts),
-        Extent::To(end) => item_ends(
+        Err(stop) => ends(Way::Stop(stop), parts),
+        Ok(end) => item_ends(
             value::write_item(output, parts.outpos, &memory[a as usize..end]),
             parts,
         ),
     }
 }
 
+// `u8::try_from` refuses what is wider; here the low byte is meant.
 fn low_byte(arg: u32) -> u8
     ensures { result ≡ arg % 256 }
 {
@@ -178,20 +159,14 @@ fn low_byte(arg: u32) -> u8
 fn if_way(x: u16) -> Way
     ensures { way_of result ≡ (if eqb x 0 then skip else on) }
 {
-    if x == 0 {
-        return Way::Skip;
-    }
-    Way::On
+    if x == 0 { Way::Skip } else { Way::On }
 }
 
 // A NEXT or an UNTIL that goes back ends so; any other needs the parts.
-fn back_ends(b: Back) -> AtOnce
+fn back_ends(b: Option<Place>) -> Option<Way>
     ensures { way_at_once result ≡ goes_back b }
 {
-    match b {
-        Back::To(p) => AtOnce::Acts(Way::Go(Onward::After(p))),
-        Back::Not => AtOnce::Not,
-    }
+    b.map(|p| Way::Go(Onward::After(p)))
 }
 
 // The operations that act at once, without the parts: an assignment to a variable, IF, GOTO, and UNTIL and NEXT where they go
@@ -200,25 +175,23 @@ pub fn act(
     code: u32,
     arg: u32,
     x: u16,
-    page: &[u8],
+    lines: Lines,
     vars: &mut [u16],
     dos: PlaceStack,
     fors: ForStack,
-    table: &[u16],
-) -> AtOnce
-    requires { Indexed page.now table.now }
-    ensures { acted result vars.new ≡ act_by page.now dos fors code arg x vars.old }
+) -> Option<Way>
+    ensures { acted result vars.new ≡ act_by lines.entry.page.now dos fors code arg x vars.old }
 {
     match code {
         codes::SET_VARIABLE => {
             jump::set_var(vars, arg, x);
-            AtOnce::Acts(Way::On)
+            Some(Way::On)
         }
-        codes::IF => AtOnce::Acts(if_way(x)),
-        codes::GOTO => AtOnce::Acts(jump::go_to(page, x, table)),
+        codes::IF => Some(if_way(x)),
+        codes::GOTO => Some(jump::go_to(lines.page, x, lines.table)),
         codes::UNTIL => back_ends(jump::until_back(dos, x)),
         codes::NEXT => back_ends(jump::next_back(fors, vars, low_byte(arg))),
-        _ => AtOnce::Not,
+        _ => None,
     }
 }
 
@@ -229,21 +202,19 @@ pub fn call_turn(
     code: u32,
     x: u16,
     here: Place,
-    page: &[u8],
+    lines: Lines,
     gosubs: PlaceStack,
-    table: &[u16],
-) -> Turn
-    requires { Indexed page.now table.now }
-    ensures { turned result ≡ call_turn page.now here gosubs code x }
+) -> Turn<PlaceStack>
+    ensures { turned result ≡ call_turn lines.entry.page.now here gosubs code x }
 {
     if code == codes::GOSUB {
-        return jump::go_sub(page, x, here, gosubs, table);
+        return jump::go_sub(lines.page, x, here, gosubs, lines.table);
     }
     jump::return_from(gosubs)
 }
 
 // DO, and UNTIL for any other code.
-pub fn loop_turn(code: u32, x: u16, here: Place, dos: PlaceStack) -> Turn
+pub fn loop_turn(code: u32, x: u16, here: Place, dos: PlaceStack) -> Turn<PlaceStack>
     ensures { turned result ≡ loop_turn here dos code x }
 {
     if code == codes::DO {
@@ -262,7 +233,7 @@ pub fn count_turn(
     here: Place,
     vars: &mut [u16],
     fors: ForStack,
-) -> ForTurn
+) -> Turn<ForStack>
     ensures { turned_for result vars.new ≡ count_turn here fors vars.old code arg x y z }
 {
     if code == codes::FOR {
@@ -284,12 +255,10 @@ fn input_string(
     ensures { KeepsVars parts memory.old output.old (keep_reply access (length reply.old) input.now x) result memory.new output.new }
 {
     let r = input::ask(input, parts.inpos, output, parts.outpos, reply);
-    match r {
-        Reply::No(n, i, o) => ends(Way::Stop(n), at_positions(parts, i, o)),
-        Reply::Line(n, i, o) => store_ends(
-            memory::store_text(access, memory, x, &reply[..n]),
-            at_positions(parts, i, o),
-        ),
+    let then = at_positions(parts, r.inpos, r.outpos);
+    match r.said {
+        Ok(n) => store_ends(memory::store_text(access, memory, x, &reply[..n]), then),
+        Err(stop) => ends(Way::Stop(stop), then),
     }
 }
 
@@ -302,7 +271,7 @@ pub fn effect(
     y: u16,
     z: u16,
     here: Place,
-    page: &[u8],
+    lines: Lines,
     input: &[u8],
     access: Access,
     vars: &mut [u16],
@@ -310,19 +279,21 @@ pub fn effect(
     output: &mut [u8],
     reply: &mut [u8],
     parts: Parts,
-    table: &[u16],
 ) -> Did
-    requires { (length page.now ≤ 65535) × Indexed page.now table.now }
+    requires { length lines.page.now ≤ 65535 }
     ensures { did_in result vars.new memory.new output.new
-        ≡ effect_by (env_with (length reply.old) page.now input.now (unsensing access) here) code arg x y z (world_with vars.old parts memory.old output.old) }
+        ≡ effect_by (env_with (length reply.old) lines.entry.page.now input.now (unsensing access) here) code arg x y z (world_with vars.old parts memory.old output.old) }
 {
     match code {
         codes::SET_VARIABLE => set_variable(vars, arg, x, parts),
         codes::SET_STAT => set_stat(x, parts),
         codes::SET_BYTE => store_ends(memory::store_byte(access, memory, y, x), parts),
         codes::COPY_STRING => store_ends(memory::copy_string(access, memory, y, x), parts),
-        codes::GOTO => ends(jump::go_to(page, x, table), parts),
-        codes::GOSUB => in_gosubs(jump::go_sub(page, x, here, parts.gosubs, table), parts),
+        codes::GOTO => ends(jump::go_to(lines.page, x, lines.table), parts),
+        codes::GOSUB => in_gosubs(
+            jump::go_sub(lines.page, x, here, parts.gosubs, lines.table),
+            parts,
+        ),
         codes::RETURN => in_gosubs(jump::return_from(parts.gosubs), parts),
         codes::PRINT_ROOM => ends(print_room(output, parts.outpos, arg), parts),
         codes::PRINT_BYTE => item_ends(print_byte(output, parts.outpos, low_byte(arg)), parts),
@@ -338,6 +309,6 @@ pub fn effect(
         ),
         codes::NEXT => in_fors(jump::next_of(parts.fors, vars, low_byte(arg)), parts),
         codes::INPUT_STRING => input_string(x, input, access, memory, output, reply, parts),
-        _ => ends(Way::Stop(stop::END), parts),
+        _ => ends(Way::Stop(Stop::END), parts),
     }
 }

@@ -4,6 +4,7 @@ use mathlib.Core.Bool.{true, false}
 use mathlib.Core.List.{List, ◌∷◌, ◌++◌}
 use mathlib.Core.Option.{none, some}
 use Prim.Native.Nat.{ℕ, suc, ◌+◌, ◌-◌, ◌<◌, ◌≤◌}
+use native.Mathlib.Nat.{sub-zero}
 use native.Mathlib.Numerals.{add-one}
 use native.Mathlib.Omega.{arith}
 use lib.ListN.{length, take, drop, get_or, replicate, drop_of_length-le}
@@ -13,6 +14,7 @@ use Rattle.nibl.specs.Bytes.{class_of}
 use Rattle.nibl.specs.Typing.{Kept, keep, Gathered, gather_from, gather}
 use Rattle.letter.specs.declared.Gathering.TheVariants.{Line, TooLong, NoCr}
 use Rattle.letter.specs.declared.Tally.{Tally}
+use Rattle.letter.proofs.Keeping.{zeros_behind}
 use Rattle.letter.specs.Slots.{answer, padded, held, kept_in}
 
 -- the next byte is a CR, or another one
@@ -57,9 +59,9 @@ module _ {input : List ℕ} {at : ℕ} {slots : List ℕ} {t : Tally} {i : ℕ} 
     unfolding answer
     gone-answer = rw gone
 
-    pub gone_held : replicate (length slots - 0) 0 ≡ held (length slots) (gather (length slots) (drop at input))
+    pub gone_held : replicate (length slots) 0 ≡ held (length slots) (gather (length slots) (drop at input))
     unfolding held padded
-    gone_held = rw gone
+    gone_held = rw (gone, sub-zero)
 
   -- a CR is met
   module _ (h : i < length input) (e : class_of (get_or input i 0) ≡ 1) where
@@ -84,3 +86,6 @@ module _ {input : List ℕ} {at : ℕ} {slots : List ℕ} {t : Tally} {i : ℕ} 
     pub met-held : take t.count slots ++ replicate (length slots - t.count) 0 ≡ held (length slots) (gather (length slots) (drop at input))
     unfolding held padded kept_in
     met-held = rw (met, length-take-le t.count slots g.fits)
+
+-- how gathering goes on, and what is answered and what the slots hold where it ends
+pub ruleset gathers = (going_start, going_on, gone-answer, gone_held, met-long, met-line, met-held, zeros_behind)

@@ -1,12 +1,13 @@
 -- One byte of a typed line, by its class: on what is kept, and on the slots that hold it. Assumes nothing.
 use mathlib.Core.Path.{◌≡◌, sym}
 use mathlib.Core.Bool.{true, false}
-use mathlib.Core.List.{List, [], ◌∷◌, ◌++◌, append_assoc}
+use mathlib.Core.List.{List, [], ◌∷◌, ◌++◌, append-nil}
 use Prim.Native.Nat.{ℕ, ◌+◌, ◌-◌, ◌<◌, ◌≤◌}
 use native.Mathlib.Numerals.{add-one}
 use native.Mathlib.Omega.{arith}
-use lib.ListN.{length, take, set, replicate, replicate-append-replicate}
+use lib.ListN.{length, take, drop, set, replicate, length-drop, drop_of_length-le}
 use lib.Seq.{length-take-le, take-take, take-suc-set}
+use borrow.Rule.Slice.PartMut.{put_mid, mid_of}
 use borrow.Author.Tests.{lt-ltb, le-ltb, ne_eqb}
 use Rattle.nibl.specs.Bytes.{class_of}
 use Rattle.nibl.specs.Typing.{Kept, kept, keep}
@@ -70,8 +71,14 @@ module _ (slots : List ℕ) (t : Tally) (fits : t.count ≤ length slots) (b : �
       let l : length slots ≤ length (take t.count slots) = omega (arith, long) in
       sym (overflows (length slots) (kept_in slots t) b o l)
 
--- zeros from the n-th slot on, one more at i
-pub zero_more : (n i : ℕ) (before slots : List ℕ) → n ≤ i → i < length slots → take i slots ≡ before ++ replicate (i - n) 0 → take (i + 1) (set slots i 0) ≡ before ++ replicate (i + 1 - n) 0
-zero_more n i before slots h l e =
-    let s : i + 1 - n ≡ i - n + 1 = omega arith in
-    rw (s, add-one i, take-suc-set slots i 0 l, e, append_assoc before (replicate (i - n) 0) (0 ∷ []), replicate-append-replicate {A = ℕ} (i - n) 1 0)
+-- zeros in the part behind the first n slots
+pub zeros_behind : (n : ℕ) (slots part : List ℕ) → n ≤ length slots → part ≡ replicate (length (mid_of n (length slots - n) slots)) 0
+    → put_mid n (length slots - n) slots part ≡ take n slots ++ replicate (length slots - n) 0
+zeros_behind n slots part h e =
+    let l = length-drop n slots in
+    let none : drop (length slots - n) (drop n slots) ≡ [] = drop_of_length-le (drop n slots) (omega arith) in
+    let size : length (mid_of n (length slots - n) slots) ≡ length slots - n = length-take-le (length slots - n) (drop n slots) (omega arith) in
+    rw (e, size, none, append-nil)
+
+-- what a byte does to the slots, by its class
+pub ruleset by_class = (drops, slot-erases, slot-discards, slot-keeps, slot-overflows)

@@ -5,15 +5,16 @@
 --     all-text           text is plain
 -- Assumes nothing.
 use mathlib.Core.Path.{◌≡◌, ◌∙◌, refl, ap, sym}
-use mathlib.Core.Logic.{◌⊎◌, inl, inr, ⊎_elim}
+use mathlib.Core.Logic.{⊎_elim}
 use mathlib.Core.Bool.{Bool, true, false, not}
 use mathlib.Core.List.{List, [], ◌∷◌, ◌++◌, append_assoc, append-nil}
 use mathlib.Core.Option.{none, some}
 use Prim.Native.Nat.{ℕ, zero, suc, ◌+◌, ◌-◌, ◌<◌, ◌≤◌}
 use native.Mathlib.Omega.{arith}
-use lib.Dec.{eqb, ltb}
+use Rattle.std.proofs.lemmas.Bool.{cases_eq, cases_lt}
+use lib.Dec.{eqb}
 use lib.ListN.{length, take, length-append, length-take}
-use borrow.Author.Tests.{lt-ltb, ltb-true, ltb-false, eqb-true, eqb-false, ne_eqb, not-true}
+use borrow.Author.Tests.{lt-ltb, ltb-true, eqb-false, ne_eqb, not-true}
 use Rattle.nibl.specs.Bytes.{class_of, All, none as every-none, each, is_text, not_cr}
 use Rattle.nibl.specs.Typing.{Kept, kept, keep, Gathered, gather_from, gather}
 use Rattle.letter.proofs.Classes.{is_plain, text-plain, plain-not, cr}
@@ -83,18 +84,6 @@ all_take zero a = every-none
 all_take (suc n) every-none = every-none
 all_take (suc n) (each e a) = each e (all_take n a)
 
-equal? : (x y : ℕ) → (x ≡ y) ⊎ (x ≡ y → ⊥)
-equal? x y = go (eqb x y) refl where
-  go : (t : Bool) → eqb x y ≡ t → (x ≡ y) ⊎ (x ≡ y → ⊥)
-  go true e = inl (eqb-true x y e)
-  go false e = inr (eqb-false x y e)
-
-less? : (x y : ℕ) → (x < y) ⊎ (y ≤ x)
-less? x y = go (ltb x y) refl where
-  go : (t : Bool) → ltb x y ≡ t → (x < y) ⊎ (y ≤ x)
-  go true e = inl (ltb-true x y e)
-  go false e = inr (ltb-false x y e)
-
 module _ (lim : ℕ) (k : Kept) (b : ℕ) (f : Fine lim k) where
   shorter : Fine lim (kept (take (length k.bytes - 1) k.bytes) k.long)
   shorter =
@@ -111,8 +100,8 @@ module _ (lim : ℕ) (k : Kept) (b : ℕ) (f : Fine lim k) where
       (λ z. ⊎_elim (λ e. rw (erases lim k b e) shorter)
       (λ y. ⊎_elim (λ e. rw (discards lim k b e) (nothing lim))
       (λ x. let c : Keepable b = record { drop = z; erase = y; discard = x } in
-      ⊎_elim (λ r. rw (keeps lim k b c r) (longer o c r)) (λ r. rw (overflows lim k b c r) (record { plain = f.plain; fits = f.fits })) (less? (length k.bytes) lim))
-      (equal? (class_of b) 3)) (equal? (class_of b) 2)) (equal? (class_of b) 0)
+      ⊎_elim (λ r. rw (keeps lim k b c r) (longer o c r)) (λ r. rw (overflows lim k b c r) (record { plain = f.plain; fits = f.fits })) (cases_lt (length k.bytes) lim))
+      (cases_eq (class_of b) 3)) (cases_eq (class_of b) 2)) (cases_eq (class_of b) 0)
 
 -- a gathered line is fine, and its bytes were taken from those that were there
 pub record Taken (lim n room : ℕ) (g : Gathered) : Type 0 where
@@ -129,7 +118,7 @@ taken-from lim k n (b ∷ s) g f e =
     let p : record { line = k; taken = suc n } ≡ g = cc in
     rw (← p) (record { fine = f; some_byte = omega arith; there = omega arith }))
     (λ c. let t = taken-from lim (keep lim k b) (suc n) s g (keep-fine lim k b f c) (sym (other-first lim k n b s c) ∙ e) in record { fine = t.fine; some_byte = omega arith; there = omega arith })
-    (equal? (class_of b) 1)
+    (cases_eq (class_of b) 1)
 
 pub taken : (lim : ℕ) (s : List ℕ) (g : Gathered) → gather lim s ≡ some g → Taken lim 0 (length s) g
 unfolding gather
@@ -153,7 +142,7 @@ all_from lim k n (b ∷ s) e =
     let z : ◌≡◌ {A = ℕ} 0 1 = cc in
     absurd (omega arith))
     (λ c. each (ap not (sym (cr b) ∙ ne_eqb (class_of b) 1 c)) (all_from lim (keep lim k b) (suc n) s (sym (other-first lim k n b s c) ∙ e)))
-    (equal? (class_of b) 1)
+    (cases_eq (class_of b) 1)
 
 pub no-cr-left : (lim : ℕ) (s : List ℕ) → gather lim s ≡ none → All not_cr s
 unfolding gather

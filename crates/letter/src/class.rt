@@ -1,4 +1,4 @@
-// The classes of a byte, by number.
+// The classes of a byte, by number: numbers and no enum, since the table is to be one of 256 class numbers (docs/DECISIONS.md, Forms).
 pub const DROPPED: u8 = 0;
 
 pub const CR: u8 = 1;

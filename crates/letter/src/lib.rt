@@ -9,308 +9,42 @@ ghost use Rattle.letter.specs.Slots.{answer, held, kept_in};
 
 pub mod class;
 
-// The class of each byte value, a comment before every sixteenth.
+// One letter for each class, so that the table is read by rows.
+use class::{
+    CAPITAL as C, CR as R, DIGIT as N, DISCARD as X, DROPPED as D, ERASE as E, OTHER as O,
+    QUOTE as Q, SPACE as S,
+};
+
+// The class of each byte value, sixteen in a row.
+#[rattlefmt::skip]
 const CLASS: [u8; 256] = [
-    // 0
-    class::DROPPED,
-    class::OTHER,
-    class::OTHER,
-    class::OTHER,
-    class::OTHER,
-    class::OTHER,
-    class::OTHER,
-    class::OTHER,
-    class::OTHER,
-    class::OTHER,
-    class::DROPPED,
-    class::OTHER,
-    class::OTHER,
-    class::CR,
-    class::OTHER,
-    class::OTHER,
-    // 16
-    class::OTHER,
-    class::OTHER,
-    class::OTHER,
-    class::OTHER,
-    class::OTHER,
-    class::DISCARD,
-    class::OTHER,
-    class::OTHER,
-    class::OTHER,
-    class::OTHER,
-    class::OTHER,
-    class::OTHER,
-    class::OTHER,
-    class::OTHER,
-    class::OTHER,
-    class::OTHER,
-    // 32
-    class::SPACE,
-    class::OTHER,
-    class::QUOTE,
-    class::OTHER,
-    class::OTHER,
-    class::OTHER,
-    class::OTHER,
-    class::OTHER,
-    class::OTHER,
-    class::OTHER,
-    class::OTHER,
-    class::OTHER,
-    class::OTHER,
-    class::OTHER,
-    class::OTHER,
-    class::OTHER,
-    // 48
-    class::DIGIT,
-    class::DIGIT,
-    class::DIGIT,
-    class::DIGIT,
-    class::DIGIT,
-    class::DIGIT,
-    class::DIGIT,
-    class::DIGIT,
-    class::DIGIT,
-    class::DIGIT,
-    class::OTHER,
-    class::OTHER,
-    class::OTHER,
-    class::OTHER,
-    class::OTHER,
-    class::OTHER,
-    // 64
-    class::OTHER,
-    class::CAPITAL,
-    class::CAPITAL,
-    class::CAPITAL,
-    class::CAPITAL,
-    class::CAPITAL,
-    class::CAPITAL,
-    class::CAPITAL,
-    class::CAPITAL,
-    class::CAPITAL,
-    class::CAPITAL,
-    class::CAPITAL,
-    class::CAPITAL,
-    class::CAPITAL,
-    class::CAPITAL,
-    class::CAPITAL,
-    // 80
-    class::CAPITAL,
-    class::CAPITAL,
-    class::CAPITAL,
-    class::CAPITAL,
-    class::CAPITAL,
-    class::CAPITAL,
-    class::CAPITAL,
-    class::CAPITAL,
-    class::CAPITAL,
-    class::CAPITAL,
-    class::CAPITAL,
-    class::OTHER,
-    class::OTHER,
-    class::OTHER,
-    class::OTHER,
-    class::ERASE,
-    // 96
-    class::OTHER,
-    class::OTHER,
-    class::OTHER,
-    class::OTHER,
-    class::OTHER,
-    class::OTHER,
-    class::OTHER,
-    class::OTHER,
-    class::OTHER,
-    class::OTHER,
-    class::OTHER,
-    class::OTHER,
-    class::OTHER,
-    class::OTHER,
-    class::OTHER,
-    class::OTHER,
-    // 112
-    class::OTHER,
-    class::OTHER,
-    class::OTHER,
-    class::OTHER,
-    class::OTHER,
-    class::OTHER,
-    class::OTHER,
-    class::OTHER,
-    class::OTHER,
-    class::OTHER,
-    class::OTHER,
-    class::OTHER,
-    class::OTHER,
-    class::OTHER,
-    class::OTHER,
-    class::OTHER,
-    // 128
-    class::OTHER,
-    class::OTHER,
-    class::OTHER,
-    class::OTHER,
-    class::OTHER,
-    class::OTHER,
-    class::OTHER,
-    class::OTHER,
-    class::OTHER,
-    class::OTHER,
-    class::OTHER,
-    class::OTHER,
-    class::OTHER,
-    class::OTHER,
-    class::OTHER,
-    class::OTHER,
-    // 144
-    class::OTHER,
-    class::OTHER,
-    class::OTHER,
-    class::OTHER,
-    class::OTHER,
-    class::OTHER,
-    class::OTHER,
-    class::OTHER,
-    class::OTHER,
-    class::OTHER,
-    class::OTHER,
-    class::OTHER,
-    class::OTHER,
-    class::OTHER,
-    class::OTHER,
-    class::OTHER,
-    // 160
-    class::OTHER,
-    class::OTHER,
-    class::OTHER,
-    class::OTHER,
-    class::OTHER,
-    class::OTHER,
-    class::OTHER,
-    class::OTHER,
-    class::OTHER,
-    class::OTHER,
-    class::OTHER,
-    class::OTHER,
-    class::OTHER,
-    class::OTHER,
-    class::OTHER,
-    class::OTHER,
-    // 176
-    class::OTHER,
-    class::OTHER,
-    class::OTHER,
-    class::OTHER,
-    class::OTHER,
-    class::OTHER,
-    class::OTHER,
-    class::OTHER,
-    class::OTHER,
-    class::OTHER,
-    class::OTHER,
-    class::OTHER,
-    class::OTHER,
-    class::OTHER,
-    class::OTHER,
-    class::OTHER,
-    // 192
-    class::OTHER,
-    class::OTHER,
-    class::OTHER,
-    class::OTHER,
-    class::OTHER,
-    class::OTHER,
-    class::OTHER,
-    class::OTHER,
-    class::OTHER,
-    class::OTHER,
-    class::OTHER,
-    class::OTHER,
-    class::OTHER,
-    class::OTHER,
-    class::OTHER,
-    class::OTHER,
-    // 208
-    class::OTHER,
-    class::OTHER,
-    class::OTHER,
-    class::OTHER,
-    class::OTHER,
-    class::OTHER,
-    class::OTHER,
-    class::OTHER,
-    class::OTHER,
-    class::OTHER,
-    class::OTHER,
-    class::OTHER,
-    class::OTHER,
-    class::OTHER,
-    class::OTHER,
-    class::OTHER,
-    // 224
-    class::OTHER,
-    class::OTHER,
-    class::OTHER,
-    class::OTHER,
-    class::OTHER,
-    class::OTHER,
-    class::OTHER,
-    class::OTHER,
-    class::OTHER,
-    class::OTHER,
-    class::OTHER,
-    class::OTHER,
-    class::OTHER,
-    class::OTHER,
-    class::OTHER,
-    class::OTHER,
-    // 240
-    class::OTHER,
-    class::OTHER,
-    class::OTHER,
-    class::OTHER,
-    class::OTHER,
-    class::OTHER,
-    class::OTHER,
-    class::OTHER,
-    class::OTHER,
-    class::OTHER,
-    class::OTHER,
-    class::OTHER,
-    class::OTHER,
-    class::OTHER,
-    class::OTHER,
-    class::OTHER,
+    D, O, O, O, O, O, O, O, O, O, D, O, O, R, O, O,
+    O, O, O, O, O, X, O, O, O, O, O, O, O, O, O, O,
+    S, O, Q, O, O, O, O, O, O, O, O, O, O, O, O, O,
+    N, N, N, N, N, N, N, N, N, N, O, O, O, O, O, O,
+    O, C, C, C, C, C, C, C, C, C, C, C, C, C, C, C,
+    C, C, C, C, C, C, C, C, C, C, C, O, O, O, O, E,
+    O, O, O, O, O, O, O, O, O, O, O, O, O, O, O, O,
+    O, O, O, O, O, O, O, O, O, O, O, O, O, O, O, O,
+    O, O, O, O, O, O, O, O, O, O, O, O, O, O, O, O,
+    O, O, O, O, O, O, O, O, O, O, O, O, O, O, O, O,
+    O, O, O, O, O, O, O, O, O, O, O, O, O, O, O, O,
+    O, O, O, O, O, O, O, O, O, O, O, O, O, O, O, O,
+    O, O, O, O, O, O, O, O, O, O, O, O, O, O, O, O,
+    O, O, O, O, O, O, O, O, O, O, O, O, O, O, O, O,
+    O, O, O, O, O, O, O, O, O, O, O, O, O, O, O, O,
+    O, O, O, O, O, O, O, O, O, O, O, O, O, O, O, O,
 ];
 
-// Where the digits end, the capitals begin and end, the last capital that is a hex digit, and the range of the text bytes.
-const NINE: u8 = 57;
-
-pub const A: u8 = 65;
-
-const F: u8 = 70;
-
-const Z: u8 = 90;
-
-const FIRST_TEXT: u8 = 32;
-
-const LAST_TEXT: u8 = 126;
-
-// More bytes that have a class of their own.
-const NUL: u8 = 0;
-
-const DISCARD: u8 = 21;
-
-const ERASE: u8 = 95;
+// The first capital.
+pub const A: u8 = b'A';
 
 // The class of a byte, read from the table. A constant array is laid out anew at each use: who gathers a line does that once.
 fn class_in(table: &[u8; 256], b: u8) -> u8
     requires { Classifies table.now }
     ensures { result ≡ class_of b }
 {
-    table[b as usize]
+    table[usize::from(b)]
 }
 
 // The class of a byte below the digits, by comparisons.
@@ -318,47 +52,29 @@ fn low_class(b: u8) -> u8
     requires { b < 48 }
     ensures { (result ≡ class_of b) × (result ≤ class_other) }
 {
-    if b == nibl::SPACE {
-        return class::SPACE;
+    match b {
+        nibl::SPACE => class::SPACE,
+        nibl::QUOTE => class::QUOTE,
+        nibl::CR => class::CR,
+        0 | nibl::LF => class::DROPPED,
+        21 => class::DISCARD,
+        _ => class::OTHER,
     }
-    if b == nibl::QUOTE {
-        return class::QUOTE;
-    }
-    if b == nibl::CR {
-        return class::CR;
-    }
-    if b == NUL {
-        return class::DROPPED;
-    }
-    if b == nibl::LF {
-        return class::DROPPED;
-    }
-    if b == DISCARD {
-        return class::DISCARD;
-    }
-    class::OTHER
 }
 
-// The same class by comparisons, for readers: they look at every byte of a page, one word at a time.
+// The same class by comparisons, for readers: they look at every byte of a page, one word at a time. The ranges go upward: in one
+// match with the digits first and each other byte by itself the words of a text took 1.2 times as long.
 pub fn class_by_range(b: u8) -> u8
     ensures { (result ≡ class_of b) × (result ≤ class_other) }
 {
-    if b < nibl::ZERO {
-        return low_class(b);
+    match b {
+        ..b'0' => low_class(b),
+        ..=b'9' => class::DIGIT,
+        ..b'A' => class::OTHER,
+        ..=b'Z' => class::CAPITAL,
+        b'_' => class::ERASE,
+        _ => class::OTHER,
     }
-    if b <= NINE {
-        return class::DIGIT;
-    }
-    if b < A {
-        return class::OTHER;
-    }
-    if b <= Z {
-        return class::CAPITAL;
-    }
-    if b == ERASE {
-        return class::ERASE;
-    }
-    class::OTHER
 }
 
 pub fn is_space(b: u8) -> bool
@@ -388,30 +104,21 @@ pub fn is_quote(b: u8) -> bool
 pub fn is_hex_digit(b: u8) -> bool
     ensures { result ≡ is_hex_digit b }
 {
-    if is_digit(b) {
-        return true;
-    }
-    A <= b && b <= F
+    is_digit(b) || matches!(b, A..=b'F')
 }
 
 // A byte that may stand in a page's text.
 pub fn is_text(b: u8) -> bool
     ensures { result ≡ is_text b }
 {
-    if class_by_range(b) == class::ERASE {
-        return false;
-    }
-    FIRST_TEXT <= b && b <= LAST_TEXT
+    class_by_range(b) != class::ERASE && matches!(b, b' '..=b'~')
 }
 
 // A byte that may stand between quotes.
 pub fn is_quotable(b: u8) -> bool
     ensures { result ≡ is_quotable b }
 {
-    if is_quote(b) {
-        return false;
-    }
-    is_text(b)
+    !is_quote(b) && is_text(b)
 }
 
 // What gathering found. Positions are those of the input.
@@ -425,93 +132,69 @@ pub enum Gathering {
     NoCr,
 }
 
-// How many of the slots hold kept bytes, and whether one more than there are slots would have been kept.
+// How many of the slots hold kept bytes, and whether one more than there are slots would have been kept. Both hold at once, since a line that
+// is too long goes on being gathered: no Option would be plainer.
 #[derive(Clone, Copy)]
 struct Tally {
     count: usize,
     long: bool,
 }
 
+// Nothing is kept.
+const EMPTY: Tally = Tally {
+    count: 0,
+    long: false,
+};
+
 // One byte of the line, of the class k, that is no CR.
+#[tactic(auto, using(crate::proofs::Keeping::by_class))]
 fn keep_byte(line: &mut [u8], t: Tally, b: u8, k: u8) -> Tally
     requires { (t.count ≤ length line.old) × (k ≡ class_of b) }
     ensures size { length line.new ≡ length line.old }
     ensures room { result.count ≤ length line.old }
     ensures kept { kept_in line.new result ≡ keep (length line.old) (kept_in line.old t) b }
 {
-    let n = t.count;
-    let long = t.long;
-    if k == class::DROPPED {
-        return t;
-    }
-    if k == class::ERASE {
-        if n < 1 {
-            return t;
+    match k {
+        class::DROPPED => t,
+        class::ERASE => Tally {
+            count: t.count.saturating_sub(1),
+            ..t
+        },
+        class::DISCARD => EMPTY,
+        _ if t.count < line.len() => {
+            line[t.count] = b;
+            Tally {
+                count: t.count + 1,
+                ..t
+            }
         }
-        let less = n - 1;
-        return Tally {
-            count: less,
-            long: long,
-        };
-    }
-    if k == class::DISCARD {
-        return Tally {
-            count: 0,
-            long: false,
-        };
-    }
-    if n < line.len() {
-        line[n] = b;
-        let more = n + 1;
-        return Tally {
-            count: more,
-            long: long,
-        };
-    }
-    Tally {
-        count: n,
-        long: true,
-    }
-}
-
-// Zeros from a slot on, so that nothing is left of bytes that were erased.
-fn clear_from(line: &mut [u8], n: usize)
-    requires { n ≤ length line.old }
-    ensures { line.new ≡ take n line.old ++ replicate (length line.old - n) 0 }
-{
-    let mut i = n;
-    while i < line.len() {
-        line[i] = 0;
-        i += 1;
+        _ => Tally { long: true, ..t },
     }
 }
 
 // Gathers a line from a position of the input into the slots, of which there are as many as the limit says. A
 // position past the input's end has no CR after it.
+#[tactic(auto, using(crate::proofs::Gathers::gathers))]
 pub fn gather(input: &[u8], at: usize, line: &mut [u8]) -> Gathering
     ensures answer { result ≡ answer at (gathered (length line.old) (drop at input.now)) }
     ensures slots { line.new ≡ held (length line.old) (gathered (length line.old) (drop at input.now)) }
 {
     let classes = CLASS;
-    let mut t = Tally {
-        count: 0,
-        long: false,
-    };
-    let mut i = at;
-    while i < input.len() {
+    let mut t = EMPTY;
+    for i in at..input.len() {
         let b = input[i];
-        i += 1;
         let k = class_in(&classes, b);
         if k == class::CR {
-            let n = t.count;
-            clear_from(line, n);
-            if t.long {
-                return Gathering::TooLong(i);
-            }
-            return Gathering::Line(i, n);
+            // so that nothing is left of bytes that were erased
+            line[t.count..].fill(0);
+            return if t.long {
+                Gathering::TooLong(i + 1)
+            } else {
+                Gathering::Line(i + 1, t.count)
+            };
         }
         t = keep_byte(line, t, b, k);
     }
-    clear_from(line, 0);
+    line.fill(0);
     Gathering::NoCr
 }

@@ -1,13 +1,12 @@
 -- Which operations belong to a statement that only a program may have: their codes tell. Assumes nothing.
-use Prim.Native.Nat.{ℕ, zero, suc, ◌+◌, ◌≤◌, ◌<◌}
-use mathlib.Core.Path.{◌≡◌, refl, ap, sym, ◌∙◌}
+use Prim.Native.Nat.{ℕ, ◌+◌, ◌≤◌, ◌<◌}
+use mathlib.Core.Path.{◌≡◌, refl, ap, ◌∙◌}
 use mathlib.Core.Bool.{Bool, true, false, ◌||◌}
 use mathlib.Core.List.{List, [], ◌∷◌, ◌++◌}
-use native.Mathlib.Numerals.{add-one}
 use native.Mathlib.Omega.{arith}
 use borrow.Author.Tests.{le-leb, lt-leb}
-use lib.ListN.{length, take, drop, get_or}
-use lib.Seq.{sets, sets-eq, take_at, take-suc}
+use lib.ListN.{length, take, drop}
+use lib.Seq.{sets, sets-eq, take_at}
 use Rattle.nibl.specs.Tree.{Expr, var, const, stat, top, byte_at, invert, negate, modulo, two, Item, text, stored, value}
 use Rattle.nibl.specs.Tree.{Stmt, let_var, let_stat, let_byte, let_copy, let_text, goto, gosub, until, return, do_loop, remark, end, print, if_then, for, next, input, input_text}
 use Rattle.nibl.specs.Calls.{needs_program}
@@ -100,17 +99,3 @@ needs-exact (input_text a) = behind (values a) _ (values_low a)
 -- as they stand in the list
 pub written-front : (ops w : List ℕ) (n : ℕ) → length w ≡ n → n ≤ length ops → take n (sets ops 0 w) ≡ w
 written-front ops w n e h = ap (take n) (sets-eq w ops 0 (omega arith)) ∙ take_at w (drop (0 + length w) ops) n e
-
--- Looked for one by one
-or_right : (a : Bool) {b : Bool} → b ≡ true → (a || b) ≡ true
-or_right true e = refl
-or_right false e = e
-
-pub need-here : (ops : List ℕ) (n i : ℕ) → i < n → n ≤ length ops → needing (get_or ops i 0) ≡ true → true ≡ some_need (take n ops)
-need-here [] n i h l e = absurd (omega arith)
-need-here (v ∷ ops) zero i h l e = absurd (omega arith)
-need-here (v ∷ ops) (suc n) zero h l e = rw e refl
-need-here (v ∷ ops) (suc n) (suc i) h l e = sym (or_right (needing v) (sym (need-here ops n i (omega arith) (omega arith) e)))
-
-pub need-none : (ops : List ℕ) (i : ℕ) → i < length ops → some_need (take i ops) ≡ false → needing (get_or ops i 0) ≡ false → some_need (take (i + 1) ops) ≡ false
-need-none ops i h e d = rw (add-one i, take-suc ops i 0, some-append (take i ops) (get_or ops i 0 ∷ []), e, d)

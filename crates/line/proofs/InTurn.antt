@@ -1,13 +1,14 @@
 -- A reply's relations in turn: the first of them is what one reading gives, and the rest of the text holds the others. Assumes nothing.
 use Rattle.std.specs.Prelude.{if◌then◌else◌}
+use Rattle.std.specs.Prelude.{Result, Ok, Err, is_ok}
+use Rattle.reader.specs.declared.Unread.{Unread}
+use Rattle.reader.specs.declared.Unread.TheVariants as unread
 use Prim.Native.Nat.{ℕ, zero, suc, ◌+◌, ◌-◌, ◌≤◌}
-use mathlib.Core.Path.{◌≡◌, refl, sym, ap, subst, ◌∙◌}
-use mathlib.Core.Bool.{true}
-use mathlib.Core.List.{List, [], ◌∷◌}
+use mathlib.Core.Path.{◌≡◌, refl, sym, ap, ◌∙◌}
+use mathlib.Core.Bool.{true, false, false≢true}
+use mathlib.Core.List.{List, []}
 use mathlib.Core.Option.{Option, none, some}
 use native.Mathlib.Omega.{arith}
-use denote.Enum.Declared.{tag_of}
-use types.Run.{OneOf, miss}
 use lib.ListN.{length, take, drop, length-drop}
 use lib.Seq.{drop-drop}
 use Rattle.nibl.specs.Tree.{Expr}
@@ -24,10 +25,6 @@ use Rattle.word.specs.declared.Cursor.{Cursor}
 use Rattle.relation.specs.Code.{values}
 use Rattle.reader.specs.Answers.{has_room}
 use Rattle.line.specs.Answers.{list_of, replying, relation_of, relation_ops}
-use Rattle.line.specs.declared.ListRead.TheVariants as lists
-use Rattle.line.specs.declared.RelationRead.{RelationRead}
-use Rattle.line.specs.declared.RelationRead.TheVariants as one
-use Rattle.line.specs.contracts.RelationRead.{the_type}
 use Rattle.line.proofs.Codes.{written-front}
 use Rattle.line.proofs.Lists.{room_for}
 use Rattle.line.proofs.Short.{relation-short}
@@ -42,7 +39,7 @@ unfolding left_of
 none_left s = refl
 
 -- at first they are the reply's
-pub all_left : (n : ℕ) (s : List ℕ) → list_of (replied n s) ≡ lists.Reads → left_of n s ≡ replied n s
+pub all_left : (n : ℕ) (s : List ℕ) → list_of (replied n s) ≡ Ok tt → left_of n s ≡ replied n s
 unfolding left_of replied
 all_left zero s h = let z : ◌≡◌ {A = ℕ} 0 1 = cc in absurd (omega arith)
 all_left (suc k) s h = refl
@@ -82,7 +79,7 @@ first_of (more_reply {u} {a} r k es) =
       goes = replied-complete (more_reply r k es) ∙ sym (ap (cons_some a) (replied-complete es));
     }
 
-first-left : (k : ℕ) (s : List ℕ) (o : Option (List Expr)) → replied (suc k) s ≡ o → list_of o ≡ lists.Reads → First k s
+first-left : (k : ℕ) (s : List ℕ) (o : Option (List Expr)) → replied (suc k) s ≡ o → list_of o ≡ Ok tt → First k s
 first-left k s none e h = let z : ◌≡◌ {A = ℕ} 0 1 = cc in absurd (omega arith)
 first-left k s (some es) e h = first_of (replied-sound (suc k) s es e)
 
@@ -94,18 +91,18 @@ pub record InTurn (k : ℕ) (text : List ℕ) (at : ℕ) (ops : List ℕ) (n : �
   pub goes : left_of (suc k) (drop at text) ≡ cons_some tree (left_of k (drop c.at text))
 
 -- What the promise of `reply_relation` says where relations are left
-module _ (text ops : List ℕ) (at k : ℕ) (r : RelationRead) (h : has_room text ops ≡ true) (left : list_of (left_of (suc k) (drop at text)) ≡ lists.Reads)
-    (e : r ≡ (if has_room text ops then relation_of (length text) (replying (drop at text)) else one.NoRoom)) where
+module _ (text ops : List ℕ) (at k : ℕ) (r : Result (ℕ × Cursor) Unread) (h : has_room text ops ≡ true) (left : list_of (left_of (suc k) (drop at text)) ≡ Ok tt)
+    (e : r ≡ (if has_room text ops then relation_of (length text) (replying (drop at text)) else (Err unread.NoRoom))) where
   first : First k (drop at text)
   unfolding left_of
   first = first-left k (drop at text) (replied (suc k) (drop at text)) refl left
 
-  answered : r ≡ one.Relation (length (values first.tree)) (record { at = length text - length first.rest })
+  answered : r ≡ Ok ((length (values first.tree)), (record { at = length text - length first.rest }))
   answered = e ∙ rw h (ap (relation_of (length text)) first.reads)
 
   -- one is read
-  pub one-read : OneOf (1 ∷ 2 ∷ []) (tag_of the_type r) → ⊥
-  one-read t = miss (1 ∷ 2 ∷ []) 0 tt (subst (λ (q : RelationRead). OneOf (1 ∷ 2 ∷ []) (tag_of the_type q)) answered t)
+  pub one-read : is_ok r ≡ false → ⊥
+  one-read t = false≢true (sym t ∙ ap is_ok answered)
 
   rest_at : first.rest ≡ drop (length text - length first.rest) text
   rest_at =
@@ -117,14 +114,15 @@ module _ (text ops : List ℕ) (at k : ℕ) (r : RelationRead) (h : has_room tex
       sym (passed-rest (outside-passed o.out)) ∙ drop-drop (length s - length t) at text ∙ ap (λ (j : ℕ). drop j text) i
 
   pub in-turn : {ops' : List ℕ} {n : ℕ} {c : Cursor} → ops' ≡ (if has_room text ops then relation_ops ops (replying (drop at text)) else ops)
-      → r ≡ one.Relation n c → InTurn k text at ops' n c
+      → r ≡ Ok (n, c) → InTurn k text at ops' n c
   in-turn {ops'} {n} {c} w d =
       let f = first in
-      let m : length (values f.tree) ≡ n = cc answered in
-      let p : length text - length f.rest ≡ c.at = cc answered in
+      let q : ◌≡◌ {A = ℕ × Cursor} (length (values f.tree), record { at = length text - length f.rest }) (n, c) = cc answered in
+      let m : length (values f.tree) ≡ n = ap (λ (x : ℕ × Cursor). x.0) q in
+      let p : length text - length f.rest ≡ c.at = ap (λ (x : ℕ × Cursor). x.1.at) q in
       let b = f.few in
       let l = length-drop at text in
-      let q = room_for text ops h in
+      let room = room_for text ops h in
       record {
         tree = f.tree;
         few = omega arith;

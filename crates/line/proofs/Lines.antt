@@ -1,5 +1,7 @@
 -- Typed lines: one law for each answer. Assumes nothing.
 use Rattle.std.specs.Prelude.{if◌then◌else◌}
+use Rattle.std.specs.Prelude.{Ok as Done, Err}
+use Rattle.reader.specs.declared.Unread.TheVariants as unread
 use Prim.Native.Nat.{ℕ, zero, suc, ◌-◌, ◌≤◌}
 use mathlib.Core.Path.{◌≡◌, refl, sym, ap, subst, ◌∙◌}
 use mathlib.Core.Bool.{Bool, true, false, false≢true}
@@ -33,7 +35,6 @@ use Rattle.reader.specs.Answers.{has_room, zeros, member_ops}
 use Rattle.line.specs.Answers.{list_of, is_command, some_need, kind_of, line_ops, plain}
 use Rattle.line.specs.declared.LineRead.{LineRead}
 use Rattle.line.specs.declared.LineRead.TheVariants as line
-use Rattle.line.specs.declared.ListRead.TheVariants as lists
 use Rattle.line.proofs.Short.{member-short}
 use Rattle.line.proofs.Codes.{needs-exact, written-front}
 use Rattle.line.proofs.Lists.{First}
@@ -273,18 +274,18 @@ module _ (m n : ℕ) (s : List ℕ) (e : all is_space s ≡ false) where
   storing-of : kind_of m (storing n s (reading s)) ≡ kind_of m (numbered n s)
   storing-of = ap (λ (b : Bool). kind_of m (elim b [ true ↦ some (delete n) | false ↦ storing n s (reading s) ])) (sym e)
 
-  stored : (o : Option (List Member)) → lists.Reads ≡ list_of o → line.Store (record { 0 = n }) (record { at = m - length s }) ≡ kind_of m (storing n s o)
+  stored : (o : Option (List Member)) → Done tt ≡ list_of o → line.Store (record { 0 = n }) (record { at = m - length s }) ≡ kind_of m (storing n s o)
   stored none d = let z : ◌≡◌ {A = ℕ} 0 1 = cc in absurd (omega arith)
   stored (some ms) d = refl
 
-  pub numbered-reads : {at : ℕ} → at ≡ m - length s → lists.Reads ≡ list_of (reading s) → line.Store (record { 0 = n }) (record { at = at }) ≡ kind_of m (numbered n s)
+  pub numbered-reads : {at : ℕ} → at ≡ m - length s → Done tt ≡ list_of (reading s) → line.Store (record { 0 = n }) (record { at = at }) ≡ kind_of m (numbered n s)
   numbered-reads a d = ap (λ (p : ℕ). line.Store (record { 0 = n }) (record { at = p })) a ∙ stored (reading s) d ∙ storing-of
 
-  unstored : (o : Option (List Member)) → lists.NoReading ≡ list_of o → line.NoReading ≡ kind_of m (storing n s o)
+  unstored : (o : Option (List Member)) → (Err unread.NoReading) ≡ list_of o → line.NoReading ≡ kind_of m (storing n s o)
   unstored none d = refl
   unstored (some ms) d = let z : ◌≡◌ {A = ℕ} 0 1 = cc in absurd (omega arith)
 
-  pub numbered-none : lists.NoReading ≡ list_of (reading s) → line.NoReading ≡ kind_of m (numbered n s)
+  pub numbered-none : (Err unread.NoReading) ≡ list_of (reading s) → line.NoReading ≡ kind_of m (numbered n s)
   numbered-none d = unstored (reading s) d ∙ storing-of
 
 -- A line that is no command

@@ -1,14 +1,17 @@
 -- What a caller learns of the first member of a text, and a list by its first member. Assumes nothing.
 use Rattle.std.specs.Prelude.{if◌then◌else◌}
+use Rattle.std.specs.Prelude.{Option as Opt, Some, None, Result, Ok, Err, is_ok}
+use Rattle.std.specs.Option.{unwrap_or}
+use Rattle.std.specs.Result.{result_ok}
+use Rattle.reader.specs.declared.Unread.{Unread}
+use Rattle.reader.specs.declared.Unread.TheVariants as unread
 use Prim.Native.Nat.{ℕ, zero, suc, ◌+◌, ◌-◌, ◌≤◌, ◌<◌}
-use mathlib.Core.Path.{◌≡◌, refl, sym, ap, subst, ◌∙◌}
-use mathlib.Core.Bool.{Bool, true, false, ◌||◌}
+use mathlib.Core.Path.{◌≡◌, refl, sym, ap, ◌∙◌}
+use mathlib.Core.Bool.{Bool, true, false, ◌||◌, false≢true}
 use mathlib.Core.List.{List, [], ◌∷◌}
 use mathlib.Core.Option.{Option, none, some}
 use native.Mathlib.Omega.{arith}
-use borrow.Author.Tests.{leb-true, le-leb, eq-eqb, ne_eqb}
-use denote.Enum.Declared.{tag_of}
-use types.Run.{OneOf, miss}
+use borrow.Author.Tests.{leb-true, le-leb}
 use lib.ListN.{length, take, drop, replicate, length-drop}
 use lib.Seq.{take_all, drop-drop}
 use lib.Dec.{leb, eqb}
@@ -23,13 +26,7 @@ use Rattle.nibl.proofs.Lines.{AMember, at_end, at_colon, member-same, from, read
 use Rattle.nibl.proofs.Ends.{member-rest}
 use Rattle.reader.specs.Code.{compile}
 use Rattle.reader.specs.Answers.{has_room, zeros, member_of}
-use Rattle.reader.specs.declared.MemberRead.{MemberRead}
-use Rattle.reader.specs.declared.MemberRead.TheVariants as member
-use Rattle.reader.specs.contracts.MemberRead.{the_type}
 use Rattle.line.specs.Answers.{list_of, members_of}
-use Rattle.line.specs.declared.Ends.TheVariants as ends
-use Rattle.line.specs.declared.ListRead.TheVariants as lists
-use Rattle.line.specs.declared.EndRead.TheVariants as is
 
 -- Room
 pub room_for : (text ops : List ℕ) → has_room text ops ≡ true → (length text ≤ length ops) × (length text ≤ 65535)
@@ -62,26 +59,33 @@ pub record First (s : List ℕ) (n left : ℕ) : Type 0 where
   pub count : length (compile one.statement) ≡ n
   pub ends : one.left ≡ left
 
-none_of : (f : Found Member) (r : MemberRead) → r ≡ member_of f → OneOf (1 ∷ 2 ∷ []) (tag_of the_type r) → f ≡ nothing
+none_of : (f : Found Member) (r : Result (ℕ × ℕ) Unread) → r ≡ member_of f → is_ok r ≡ false → f ≡ nothing
 none_of nothing r e k = refl
-none_of (found m t) r e k = absurd (miss (1 ∷ 2 ∷ []) 0 tt (subst (λ (q : MemberRead). OneOf (1 ∷ 2 ∷ []) (tag_of the_type q)) e k))
+none_of (found m t) r e k = absurd (false≢true (sym k ∙ ap is_ok e))
 
-first_of : (s : List ℕ) (f : Found Member) {n left : ℕ} → member s ≡ f → member.Member n left ≡ member_of f → First s n left
+first_of : (s : List ℕ) (f : Found Member) {n left : ℕ} → member s ≡ f → Ok (n, left) ≡ member_of f → First s n left
 first_of s nothing e h = let z : ◌≡◌ {A = ℕ} 0 1 = cc in absurd (omega arith)
-first_of s (found m t) e h = record { one = m; rest = t; reads = e; count = cc; ends = cc }
+first_of s (found m t) {n} {left} e h =
+    let q : ◌≡◌ {A = ℕ × ℕ} (n, left) (length (compile m.statement), m.left) = cc in
+    record { one = m; rest = t; reads = e; count = sym (ap (λ (p : ℕ × ℕ). p.0) q); ends = sym (ap (λ (p : ℕ × ℕ). p.1) q) }
+
+-- an answer by what `ok` makes of it
+pub was-ok : {p : ℕ × ℕ} {o : Opt (ℕ × ℕ)} (r : Result (ℕ × ℕ) Unread) → o ≡ result_ok r → o ≡ Some p → r ≡ Ok p
+was-ok {p} (Ok q) e f = let d : ◌≡◌ {A = ℕ × ℕ} q p = cc in ap Ok d
+was-ok (Err u) e f = let z : ◌≡◌ {A = ℕ} 0 1 = cc in absurd (omega arith)
 
 -- what the promise of `read_member` says of its answer
-abbrev Answered : List ℕ → List ℕ → MemberRead → Type 0
-Answered s ops r = r ≡ (if has_room s ops then member_of (member s) else member.NoRoom)
+abbrev Answered : List ℕ → List ℕ → Result (ℕ × ℕ) Unread → Type 0
+Answered s ops r = r ≡ (if has_room s ops then member_of (member s) else (Err unread.NoRoom))
 
-module _ (s ops : List ℕ) (r : MemberRead) (h : has_room s ops ≡ true) (e : Answered s ops r) where
+module _ (s ops : List ℕ) (r : Result (ℕ × ℕ) Unread) (h : has_room s ops ≡ true) (e : Answered s ops r) where
   answered : r ≡ member_of (member s)
   answered = e ∙ rw h refl
 
-  pub no-first : OneOf (1 ∷ 2 ∷ []) (tag_of the_type r) → member s ≡ nothing
+  pub no-first : is_ok r ≡ false → member s ≡ nothing
   no-first k = none_of (member s) r answered k
 
-  pub first : {n left : ℕ} → r ≡ member.Member n left → First s n left
+  pub first : {n left : ℕ} → r ≡ Ok (n, left) → First s n left
   first d = first_of s (member s) refl (sym d ∙ answered)
 
 -- of a part of a text, the rest of it
@@ -91,17 +95,17 @@ part text at = take (length text - at) (drop at text)
 pub part-rest : (text : List ℕ) (at : ℕ) → part text at ≡ drop at text
 part-rest text at = take_all (length text - at) (drop at text) (omega (arith, length-drop at text))
 
-module _ (text ops ops₀ : List ℕ) (at : ℕ) (r : MemberRead) (h : has_room text ops₀ ≡ true) (l : length ops ≡ length ops₀) (e : Answered (part text at) ops r) where
+module _ (text ops ops₀ : List ℕ) (at : ℕ) (r : Result (ℕ × ℕ) Unread) (h : has_room text ops₀ ≡ true) (l : length ops ≡ length ops₀) (e : Answered (part text at) ops r) where
   there : Answered (drop at text) ops r
   there = rw (part-rest text at) at e
 
   room : has_room (drop at text) ops ≡ true
   room = room-less text ops₀ (drop at text) ops h (omega (arith, length-drop at text)) l
 
-  pub no-first-at : OneOf (1 ∷ 2 ∷ []) (tag_of the_type r) → member (drop at text) ≡ nothing
+  pub no-first-at : is_ok r ≡ false → member (drop at text) ≡ nothing
   no-first-at = no-first (drop at text) ops r room there
 
-  pub first-at : {n left : ℕ} → r ≡ member.Member n left → First (drop at text) n left
+  pub first-at : {n left : ℕ} → r ≡ Ok (n, left) → First (drop at text) n left
   first-at = first (drop at text) ops r room there
 
 -- where it ends: with the text, or before a ":" and the rest
@@ -124,16 +128,12 @@ pub left-fits : {s : List ℕ} {n left : ℕ} → First s n left → left ≤ le
 left-fits {s} f = let g = fits-of (sized s f.rest f.one f.reads) in let e = f.ends in omega arith
 
 -- The list
-pub list-none : (met : Bool) (n p : ℕ) (s : List ℕ) → member s ≡ nothing → members_of met n p (reading s) ≡ ends.NoReading
+pub list-none : (met : Bool) (n p : ℕ) (s : List ℕ) → member s ≡ nothing → members_of met n p (reading s) ≡ None
 list-none met n p s e = ap (members_of met n p) (reading-eq s ∙ ap (λ (f : Found Member). or_else f (from reading) unread s) e)
 
 or_assoc : (a b d : Bool) → (a || (b || d)) ≡ ((a || b) || d)
 or_assoc true b d = refl
 or_assoc false b d = refl
-
-or-true : (a : Bool) → (a || true) ≡ true
-or-true true = refl
-or-true false = refl
 
 or-false : (a : Bool) → (a || false) ≡ a
 or-false true = refl
@@ -142,7 +142,7 @@ or-false false = refl
 met-more : (met : Bool) (n p : ℕ) (m : Member) (o : Option (List Member))
     → members_of met n p (cons_some m o) ≡ members_of (met || eqb p (0 + (n - m.left))) n p o
 met-more met n p m none = refl
-met-more met n p m (some ms) = ap ends.Met (or_assoc met (eqb p (0 + (n - m.left))) (is_among (ends_from 0 n ms) p))
+met-more met n p m (some ms) = ap Some (or_assoc met (eqb p (0 + (n - m.left))) (is_among (ends_from 0 n ms) p))
 
 one_more : {s : List ℕ} {k left : ℕ} (f : First s k left) (t : List ℕ) → Sized s t f.one → (left ≡ 0 → ⊥) → f.one.left ≡ suc (length t)
 one_more f t (last e) z = absurd (z (sym f.ends ∙ e))
@@ -153,10 +153,10 @@ module _ (met : Bool) (n p : ℕ) {s : List ℕ} {k left : ℕ} (f : First s k l
   by_first e = reading-eq s ∙ ap (λ (g : Found Member). or_else g (from reading) unread s) f.reads
       ∙ ap (λ (l : ℕ). elim l [ zero ↦ some (f.one ∷ []) | suc n ↦ cons_some f.one (reading f.rest) ]) e
 
-  list-last : left ≡ 0 → members_of met n p (reading s) ≡ ends.Met (met || eqb p (0 + (n - left)))
+  list-last : left ≡ 0 → members_of met n p (reading s) ≡ Some (met || eqb p (0 + (n - left)))
   list-last z =
-      ap (members_of met n p) (by_first (f.ends ∙ z)) ∙ ap (λ (b : Bool). ends.Met (met || b)) (or-false (eqb p (0 + (n - f.one.left))))
-      ∙ ap (λ (l : ℕ). ends.Met (met || eqb p (0 + (n - l)))) f.ends
+      ap (members_of met n p) (by_first (f.ends ∙ z)) ∙ ap (λ (b : Bool). Some (met || b)) (or-false (eqb p (0 + (n - f.one.left))))
+      ∙ ap (λ (l : ℕ). Some (met || eqb p (0 + (n - l)))) f.ends
 
   list-more : (left ≡ 0 → ⊥) → members_of met n p (reading s) ≡ members_of (met || eqb p (0 + (n - left))) n p (reading f.rest)
   list-more z =
@@ -164,16 +164,13 @@ module _ (met : Bool) (n p : ℕ) {s : List ℕ} {k left : ℕ} (f : First s k l
       ∙ ap (λ (l : ℕ). members_of (met || eqb p (0 + (n - l))) n p (reading f.rest)) f.ends
 
 -- whether its end is the one asked for
-pub met-here : (met : Bool) (n p left : ℕ) → n - left ≡ p → (met || eqb p (0 + (n - left))) ≡ true
-met-here met n p left e = rw (eq-eqb p (0 + (n - left)) (omega arith)) (or-true met)
-
-pub met-not : (met : Bool) (n p left : ℕ) → (n - left ≡ p → ⊥) → (met || eqb p (0 + (n - left))) ≡ met
-met-not met n p left e = rw (ne_eqb p (0 + (n - left)) (λ d. e (omega arith))) (or-false met)
+pub met-now : (met : Bool) (n p left : ℕ) → (met || eqb p (0 + (n - left))) ≡ (met || eqb p (n - left))
+met-now met n p left = ap (λ (j : ℕ). met || eqb p j) (omega arith)
 
 -- The turns of the loop over the members, each in the rest of the text
 module _ (text : List ℕ) (at p : ℕ) (met met' : Bool) {k left : ℕ} (f : First (drop at text) k left) (hit : (met || eqb p (0 + (length text - left))) ≡ met') where
-  pub list-ends : left ≡ 0 → members_of met (length text) p (reading (drop at text)) ≡ ends.Met met'
-  list-ends z = list-last met (length text) p f z ∙ ap ends.Met hit
+  pub list-ends : left ≡ 0 → members_of met (length text) p (reading (drop at text)) ≡ Some met'
+  list-ends z = list-last met (length text) p f z ∙ ap Some hit
 
   -- what follows the ":"
   rest_at : at ≤ length text → (left ≡ 0 → ⊥) → f.rest ≡ drop (length text - left + 1) text
@@ -195,21 +192,17 @@ module _ (text : List ℕ) (at p : ℕ) (met met' : Bool) {k left : ℕ} (f : Fi
 
 -- What the loop's answer says of the list
 module _ (n p : ℕ) where
-  pub list-reads : (o : Option (List Member)) {b : Bool} → ends.Met b ≡ members_of false n p o → lists.Reads ≡ list_of o
+  pub list-reads : (o : Option (List Member)) {b : Bool} → Some b ≡ members_of false n p o → Ok tt ≡ list_of o
   list-reads none e = let z : ◌≡◌ {A = ℕ} 0 1 = cc in absurd (omega arith)
   list-reads (some ms) e = refl
 
-  pub list-fails : (o : Option (List Member)) → ends.NoReading ≡ members_of false n p o → lists.NoReading ≡ list_of o
+  pub list-fails : (o : Option (List Member)) → None ≡ members_of false n p o → (Err unread.NoReading) ≡ list_of o
   list-fails none e = refl
   list-fails (some ms) e = let z : ◌≡◌ {A = ℕ} 0 1 = cc in absurd (omega arith)
 
-  pub end_is : (o : Option (List Member)) {b : Bool} → ends.Met b ≡ members_of false n p o → is.Is b ≡ is.Is (is_among (ends_of 0 n o) p)
-  end_is none e = let z : ◌≡◌ {A = ℕ} 0 1 = cc in absurd (omega arith)
-  end_is (some ms) e = ap is.Is cc
-
-  pub end_none : (o : Option (List Member)) → ends.NoReading ≡ members_of false n p o → is.Is false ≡ is.Is (is_among (ends_of 0 n o) p)
-  end_none none e = refl
-  end_none (some ms) e = let z : ◌≡◌ {A = ℕ} 0 1 = cc in absurd (omega arith)
+  pub among-ends : (o : Option (List Member)) {m : Opt Bool} → m ≡ members_of false n p o → unwrap_or m false ≡ is_among (ends_of 0 n o) p
+  among-ends none e = rw e refl
+  among-ends (some ms) e = rw e refl
 
 -- of a part
 module _ (text : List ℕ) (at : ℕ) where
@@ -219,8 +212,8 @@ module _ (text : List ℕ) (at : ℕ) where
   part_same : list_of (reading (part text at)) ≡ list_of (reading (drop at text))
   part_same = ap (λ (s : List ℕ). list_of (reading s)) (part-rest text at)
 
-  pub part-reads : {b : Bool} → ends.Met b ≡ members_of false (length (part text at)) 0 (reading (part text at)) → lists.Reads ≡ list_of (reading (drop at text))
+  pub part-reads : {b : Bool} → Some b ≡ members_of false (length (part text at)) 0 (reading (part text at)) → Ok tt ≡ list_of (reading (drop at text))
   part-reads e = list-reads (length (part text at)) 0 (reading (part text at)) e ∙ part_same
 
-  pub part-fails : ends.NoReading ≡ members_of false (length (part text at)) 0 (reading (part text at)) → lists.NoReading ≡ list_of (reading (drop at text))
+  pub part-fails : None ≡ members_of false (length (part text at)) 0 (reading (part text at)) → (Err unread.NoReading) ≡ list_of (reading (drop at text))
   part-fails e = list-fails (length (part text at)) 0 (reading (part text at)) e ∙ part_same

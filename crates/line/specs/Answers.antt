@@ -1,5 +1,9 @@
 -- What the readers of lists, lines and replies answer, and what they leave in the lent list of operations.
 use Rattle.std.specs.Prelude.{ℕ, ◌-◌, Bool, true, false, ◌&&◌, ◌||◌, List, [], ◌∷◌, length, drop, leb}
+use Rattle.std.specs.Prelude.{Option as Opt, Some, None, Result, Ok, Err}
+use Rattle.word.specs.declared.Cursor.{Cursor}
+use Rattle.reader.specs.declared.Unread.{Unread}
+use Rattle.reader.specs.declared.Unread.TheVariants as unread
 use Rattle.std.proofs.Math.Option.{Option, none, some}
 use Rattle.std.proofs.lemmas.List.Edits.{sets}
 use Rattle.nibl.specs.Tree.{Expr, Member, Typed, blank, new, clear, run, delete, list, store, immediate}
@@ -12,26 +16,18 @@ use Rattle.nibl.specs.Calls.{needs_program}
 use Rattle.relation.specs.Code.{values}
 use Rattle.reader.specs.Code.{compile}
 use Rattle.reader.specs.Answers.{zeros}
-use Rattle.line.specs.declared.ListRead.{ListRead}
-use Rattle.line.specs.declared.ListRead.TheVariants as list
-use Rattle.line.specs.declared.Ends.{Ends}
-use Rattle.line.specs.declared.Ends.TheVariants as ends
 use Rattle.line.specs.declared.LineRead.{LineRead}
 use Rattle.line.specs.declared.LineRead.TheVariants as line
-use Rattle.line.specs.declared.LineFront.{LineFront}
-use Rattle.line.specs.declared.LineFront.TheVariants as front
-use Rattle.line.specs.declared.RelationRead.{RelationRead}
-use Rattle.line.specs.declared.RelationRead.TheVariants as one
 
 -- a statement list, or a reply
-abbrev pub list_of : {A : Type 0} → Option A → ListRead
-list_of none = list.NoReading
-list_of (some a) = list.Reads
+abbrev pub list_of : {A : Type 0} → Option A → Result (Unit {0}) Unread
+list_of none = Err unread.NoReading
+list_of (some a) = Ok tt
 
 -- the members of a list, to the end of a text of n bytes, and whether p is the end of one of them, or else one was met before
-abbrev pub members_of : Bool → ℕ → ℕ → Option (List Member) → Ends
-members_of met n p none = ends.NoReading
-members_of met n p (some ms) = ends.Met (met || is_among (ends_from 0 n ms) p)
+abbrev pub members_of : Bool → ℕ → ℕ → Option (List Member) → Opt Bool
+members_of met n p none = None
+members_of met n p (some ms) = Some (met || is_among (ends_from 0 n ms) p)
 
 -- NEW, CLEAR, LIST and RUN
 abbrev pub is_command : ℕ → Bool
@@ -73,17 +69,17 @@ line_ops ops (some (immediate q)) = sets ops 0 (compile q)
 abbrev pub plain : List ℕ → Option Typed
 plain s = elim (all is_space s) [ true ↦ some blank | false ↦ or_else (a_decimal s) numbered alone_statement s ]
 
-abbrev pub by_front : List ℕ → LineFront → Option Typed
-by_front s (front.Command k c) = choose command_cases unread k (drop c.at s)
-by_front s front.Other = plain s
+abbrev pub by_front : List ℕ → Opt (ℕ × Cursor) → Option Typed
+by_front s (Some (k, c)) = choose command_cases unread k (drop c.at s)
+by_front s None = plain s
 
 -- one relation of a reply, and the comma behind it, if one stands there
 abbrev pub replying : Reader Expr
 replying = read relation >>= (λ a. may "," (give a))
 
-abbrev pub relation_of : ℕ → Found Expr → RelationRead
-relation_of n nothing = one.NoReading
-relation_of n (found a t) = one.Relation (length (values a)) (record { at = n - length t })
+abbrev pub relation_of : ℕ → Found Expr → Result (ℕ × Cursor) Unread
+relation_of n nothing = Err unread.NoReading
+relation_of n (found a t) = Ok ((length (values a)), (record { at = n - length t }))
 
 abbrev pub relation_ops : List ℕ → Found Expr → List ℕ
 relation_ops ops nothing = zeros ops

@@ -2,34 +2,20 @@
 // reader of a member and that of a relation, in a lent list of operations that has room for one to each byte.
 #![tactic(auto)]
 
-ghost use Rattle.std.specs.Prelude.{◌≤◌, ◌≡◌, true, false, length, take, drop, if◌then◌else◌};
+ghost use Rattle.std.specs.Prelude.{Ok, Err, ◌≤◌, ◌≡◌, true, false, length, take, drop, if◌then◌else◌};
+ghost use Rattle.std.specs.List.{list_any};
+ghost use Rattle.std.specs.Result.{result_ok};
 ghost use Rattle.nibl.specs.Bytes.{is_space, all};
 ghost use Rattle.nibl.specs.found.Read.{a_decimal, or_else, unread, choose, reading, replied, numbered, alone_statement, command_cases, typed};
 ghost use Rattle.nibl.specs.found.Read.{alone as alone_at};
 ghost use Rattle.nibl.specs.Tree.{list};
 ghost use Rattle.nibl.specs.Page.{ends_of, is_among};
 ghost use Rattle.reader.specs.Answers.{has_room, zeros};
-ghost use Rattle.line.specs.Answers.{list_of, members_of, is_command, needing, some_need, kind_of, line_ops, plain, by_front, replying, relation_of, relation_ops};
+ghost use Rattle.line.specs.Answers.{list_of, members_of, is_command, needing, kind_of, line_ops, plain, by_front, replying, relation_of, relation_ops};
 
 use nibl::LineNumber;
-use reader::MemberRead;
-use relation::Made;
+use reader::Unread;
 use word::{Cursor, Word, sign};
-
-// A statement list, or the relations of a reply.
-#[derive(Clone, Copy)]
-pub enum ListRead {
-    Reads,
-    NoReading,
-    NoRoom,
-}
-
-// Whether a position is the end of a member.
-#[derive(Clone, Copy)]
-pub enum EndRead {
-    Is(bool),
-    NoRoom,
-}
 
 // A typed line. A stored text begins at its cursor. Of an immediate statement: the number of its operations, and
 // whether it is one that only a program may have.
@@ -47,82 +33,53 @@ pub enum LineRead {
     NoRoom,
 }
 
-// A relation of a reply: the number of its operations, and the cursor past it and the comma behind it.
-#[derive(Clone, Copy)]
-pub enum RelationRead {
-    Relation(usize, Cursor),
-    NoReading,
-    NoRoom,
-}
-
-// What stands at the front of a typed line: a command, by its number, with the cursor past it, or something else.
-#[derive(Clone, Copy)]
-pub enum LineFront {
-    Command(u8, Cursor),
-    Other,
-}
-
-// The members of a list, and whether one ends at the position asked for.
-#[derive(Clone, Copy)]
-pub enum Ends {
-    Met(bool),
-    NoReading,
-}
-
-// The members of a list, one after the other, each in the part behind the ":" of the last.
-fn members(text: &[u8], p: usize, ops: &mut [u32]) -> Ends
+// The members of a list, one after the other, each in the part behind the ":" of the last, and whether one of them ends
+// at p.
+fn members(text: &[u8], p: usize, ops: &mut [u32]) -> Option<bool>
     requires { has_room text.now ops.old ≡ true }
     ensures { result ≡ members_of false (length text.now) p (reading text.now) }
 {
     let mut at = 0;
     let mut met = false;
     loop {
-        let m = reader::read_member(&text[at..], ops);
-        let MemberRead::Member(_, left) = m else {
-            return Ends::NoReading;
-        };
+        let (_, left) = reader::read_member(&text[at..], ops).ok()?;
         let end = text.len() - left;
-        if end == p {
-            met = true;
-        }
+        met |= p == end;
         let last = left == 0;
         if last {
-            return Ends::Met(met);
+            return Some(met);
         }
         at = end + 1;
     }
 }
 
 // Whether a text is a statement list.
-pub fn read_list(text: &[u8], ops: &mut [u32]) -> ListRead
-    ensures value { result ≡ (if has_room text.now ops.old then list_of (reading text.now) else ListRead.NoRoom) }
+pub fn read_list(text: &[u8], ops: &mut [u32]) -> Result<(), Unread>
+    ensures value { result ≡ (if has_room text.now ops.old then list_of (reading text.now) else Err Unread.NoRoom) }
     ensures ops_after { ops.new ≡ (if has_room text.now ops.old then zeros ops.old else ops.old) }
 {
     if !reader::has_room(text, ops) {
-        return ListRead::NoRoom;
+        return Err(Unread::NoRoom);
     }
     let m = members(text, 0, ops);
     reader::clear(ops);
     match m {
-        Ends::Met(_) => ListRead::Reads,
-        Ends::NoReading => ListRead::NoReading,
+        Some(_) => Ok(()),
+        None => Err(Unread::NoReading),
     }
 }
 
 // Whether p is the end of one of the members of a text. A text that is no statement list has none.
-pub fn ends_member(text: &[u8], p: usize, ops: &mut [u32]) -> EndRead
-    ensures value { result ≡ (if has_room text.now ops.old then EndRead.Is (is_among (ends_of 0 (length text.now) (reading text.now)) p) else EndRead.NoRoom) }
+pub fn ends_member(text: &[u8], p: usize, ops: &mut [u32]) -> Result<bool, Unread>
+    ensures value { result ≡ (if has_room text.now ops.old then Ok (is_among (ends_of 0 (length text.now) (reading text.now)) p) else Err Unread.NoRoom) }
     ensures ops_after { ops.new ≡ (if has_room text.now ops.old then zeros ops.old else ops.old) }
 {
     if !reader::has_room(text, ops) {
-        return EndRead::NoRoom;
+        return Err(Unread::NoRoom);
     }
     let m = members(text, p, ops);
     reader::clear(ops);
-    match m {
-        Ends::Met(met) => EndRead::Is(met),
-        Ends::NoReading => EndRead::Is(false),
-    }
+    Ok(m.unwrap_or(false))
 }
 
 // What a line is, if nothing but spaces follows.
@@ -130,17 +87,17 @@ fn alone(text: &[u8], c: Cursor, r: LineRead) -> LineRead
     ensures { result ≡ (if all is_space (drop c.at text.now) then r else LineRead.NoReading) }
 {
     if word::is_blank(text, c) {
-        return r;
+        r
+    } else {
+        LineRead::NoReading
     }
-    LineRead::NoReading
 }
 
 // What follows LIST: a decimal constant, or nothing.
 fn list_from(text: &[u8], c: Cursor) -> LineRead
     ensures { result ≡ kind_of (length text.now) (or_else (a_decimal (drop c.at text.now)) (λ n. alone_at (list n)) (alone_at (list 0)) (drop c.at text.now)) }
 {
-    let w = word::word_at(text, c);
-    match w {
+    match word::word_at(text, c) {
         Word::Decimal(n, d) => alone(text, d, LineRead::List(LineNumber(n))),
         _ => alone(text, c, LineRead::List(LineNumber(0))),
     }
@@ -150,7 +107,7 @@ fn list_from(text: &[u8], c: Cursor) -> LineRead
 fn is_command(k: u8) -> bool
     ensures { result ≡ is_command k }
 {
-    sign::NEW <= k && k <= sign::RUN
+    matches!(k, sign::NEW..=sign::RUN)
 }
 
 // A line past its command, by the command's number.
@@ -170,23 +127,15 @@ fn command(text: &[u8], k: u8, c: Cursor) -> LineRead
 fn program_only(v: u32) -> bool
     ensures { result ≡ needing v }
 {
-    let code = v % codes::CODES;
-    codes::DO <= code && code <= codes::INPUT_STRING
+    matches!(v % codes::CODES, codes::DO..=codes::INPUT_STRING)
 }
 
 // Whether one of the first n operations is of a statement that only a program may have.
 fn needs_program(ops: &[u32], n: usize) -> bool
     requires { n ≤ length ops.now }
-    ensures { result ≡ some_need (take n ops.now) }
+    ensures { result ≡ list_any needing (take n ops.now) }
 {
-    let mut i = 0;
-    while i < n {
-        if program_only(ops[i]) {
-            return true;
-        }
-        i += 1;
-    }
-    false
+    ops[..n].iter().any(|v| program_only(*v))
 }
 
 // One statement, with its operations.
@@ -195,8 +144,7 @@ fn immediate(text: &[u8], ops: &mut [u32]) -> LineRead
     ensures value { result ≡ kind_of (length text.now) (alone_statement text.now) }
     ensures ops_after { ops.new ≡ line_ops ops.old (alone_statement text.now) }
 {
-    let m = reader::read_member(text, ops);
-    let MemberRead::Member(n, left) = m else {
+    let Ok((n, left)) = reader::read_member(text, ops) else {
         return LineRead::NoReading;
     };
     if left != 0 {
@@ -220,8 +168,8 @@ fn numbered_line(text: &[u8], n: LineNumber, c: Cursor, ops: &mut [u32]) -> Line
     let m = members(&text[at..], 0, ops);
     reader::clear(ops);
     match m {
-        Ends::Met(_) => LineRead::Store(n, c),
-        _ => LineRead::NoReading,
+        Some(_) => LineRead::Store(n, c),
+        None => LineRead::NoReading,
     }
 }
 
@@ -231,8 +179,7 @@ fn plain_line(text: &[u8], ops: &mut [u32]) -> LineRead
     ensures value { result ≡ kind_of (length text.now) (plain text.now) }
     ensures ops_after { ops.new ≡ line_ops ops.old (plain text.now) }
 {
-    let w = word::word_at(text, Cursor { at: 0 });
-    match w {
+    match word::word_at(text, Cursor { at: 0 }) {
         Word::End => {
             reader::clear(ops);
             LineRead::Blank
@@ -244,20 +191,19 @@ fn plain_line(text: &[u8], ops: &mut [u32]) -> LineRead
 
 // The command at the front of a line, if one stands there. It is asked for first: where one stands no keyword begins, and
 // to find that none does costs more than all the rest. A look at three letters keeps other lines from asking.
-fn at_front(text: &[u8]) -> LineFront
+fn at_front(text: &[u8]) -> Option<(u8, Cursor)>
     ensures { typed text.now ≡ by_front text.now result }
 {
     if !word::may_command(text, Cursor { at: 0 }) {
-        return LineFront::Other;
+        return None;
     }
-    let w = word::command_at(text, Cursor { at: 0 });
-    let Word::Sign(k, c) = w else {
-        return LineFront::Other;
+    let Word::Sign(k, c) = word::command_at(text, Cursor { at: 0 }) else {
+        return None;
     };
     if is_command(k) {
-        return LineFront::Command(k, c);
+        return Some((k, c));
     }
-    LineFront::Other
+    None
 }
 
 // What a typed line is. The operations of an immediate statement stand from 0 on, with zeros for any other line.
@@ -268,8 +214,7 @@ pub fn read_line(text: &[u8], ops: &mut [u32]) -> LineRead
     if !reader::has_room(text, ops) {
         return LineRead::NoRoom;
     }
-    let f = at_front(text);
-    let LineFront::Command(k, c) = f else {
+    let Some((k, c)) = at_front(text) else {
         return plain_line(text, ops);
     };
     reader::clear(ops);
@@ -277,75 +222,65 @@ pub fn read_line(text: &[u8], ops: &mut [u32]) -> LineRead
 }
 
 // The last relation of a reply: what stands behind a comma after it is ignored.
-fn last_relation(text: &[u8], at: usize, ops: &mut [u32]) -> ListRead
+fn last_relation(text: &[u8], at: usize, ops: &mut [u32]) -> Option<()>
     requires { has_room text.now ops.old ≡ true }
-    ensures { result ≡ list_of (replied 1 (drop at text.now)) }
+    ensures { result ≡ result_ok (list_of (replied 1 (drop at text.now))) }
 {
-    let r = relation::read_relation(text, Made::Next(Cursor { at: at }, 0), ops);
-    let Made::Next(c, _) = r else {
-        return ListRead::NoReading;
-    };
+    let r = relation::read_relation(text, Some((Cursor { at }, 0)), ops);
+    let (c, _) = r?;
     if word::is_blank(text, c) {
-        return ListRead::Reads;
+        return Some(());
     }
-    let s = relation::past_sign(text, r, sign::COMMA);
-    match s {
-        Made::Next(_, _) => ListRead::Reads,
-        Made::NoReading => ListRead::NoReading,
-    }
+    relation::past_sign(text, r, sign::COMMA)?;
+    Some(())
 }
 
 // The relations of a reply, one after the other, with a comma between them.
-fn relations(text: &[u8], n: usize, ops: &mut [u32]) -> ListRead
+fn relations(text: &[u8], n: usize, ops: &mut [u32]) -> Option<()>
     requires { has_room text.now ops.old ≡ true }
-    ensures { result ≡ list_of (replied n text.now) }
+    ensures { result ≡ result_ok (list_of (replied n text.now)) }
 {
-    let mut at = 0;
-    let mut k = n;
-    while 1 < k {
-        let r = relation::read_relation(text, Made::Next(Cursor { at: at }, 0), ops);
-        let s = relation::past_sign(text, r, sign::COMMA);
-        let Made::Next(c, _) = s else {
-            return ListRead::NoReading;
-        };
-        at = c.at;
-        k -= 1;
+    if n == 0 {
+        return None;
     }
-    if k == 0 {
-        return ListRead::NoReading;
+    let mut at = 0;
+    for _ in 1..n {
+        let r = relation::read_relation(text, Some((Cursor { at }, 0)), ops);
+        let (c, _) = relation::past_sign(text, r, sign::COMMA)?;
+        at = c.at;
     }
     last_relation(text, at, ops)
 }
 
 // Whether a text is a reply for n variables.
-pub fn read_reply(text: &[u8], n: usize, ops: &mut [u32]) -> ListRead
-    ensures value { result ≡ (if has_room text.now ops.old then list_of (replied n text.now) else ListRead.NoRoom) }
+pub fn read_reply(text: &[u8], n: usize, ops: &mut [u32]) -> Result<(), Unread>
+    ensures value { result ≡ (if has_room text.now ops.old then list_of (replied n text.now) else Err Unread.NoRoom) }
     ensures ops_after { ops.new ≡ (if has_room text.now ops.old then zeros ops.old else ops.old) }
 {
     if !reader::has_room(text, ops) {
-        return ListRead::NoRoom;
+        return Err(Unread::NoRoom);
     }
     let r = relations(text, n, ops);
     reader::clear(ops);
-    r
+    r.ok_or(Unread::NoReading)
 }
 
-// The relation of a reply that stands at a cursor, with its operations from 0 on. Where there is none they are zeros.
-pub fn reply_relation(text: &[u8], c: Cursor, ops: &mut [u32]) -> RelationRead
-    ensures value { result ≡ (if has_room text.now ops.old then relation_of (length text.now) (replying (drop c.at text.now)) else RelationRead.NoRoom) }
+// The relation of a reply that stands at a cursor, with its operations from 0 on: their number, and the cursor past it
+// and the comma behind it. Where there is none they are zeros.
+pub fn reply_relation(text: &[u8], c: Cursor, ops: &mut [u32]) -> Result<(usize, Cursor), Unread>
+    ensures value { result ≡ (if has_room text.now ops.old then relation_of (length text.now) (replying (drop c.at text.now)) else Err Unread.NoRoom) }
     ensures ops_after { ops.new ≡ (if has_room text.now ops.old then relation_ops ops.old (replying (drop c.at text.now)) else ops.old) }
 {
     if !reader::has_room(text, ops) {
-        return RelationRead::NoRoom;
+        return Err(Unread::NoRoom);
     }
-    let r = relation::read_relation(text, Made::Next(c, 0), ops);
-    let Made::Next(d, n) = r else {
+    let r = relation::read_relation(text, Some((c, 0)), ops);
+    let Some((d, n)) = r else {
         reader::clear(ops);
-        return RelationRead::NoReading;
+        return Err(Unread::NoReading);
     };
-    let s = relation::past_sign(text, r, sign::COMMA);
-    match s {
-        Made::Next(e, _) => RelationRead::Relation(n, e),
-        Made::NoReading => RelationRead::Relation(n, d),
+    match relation::past_sign(text, r, sign::COMMA) {
+        Some((e, _)) => Ok((n, e)),
+        None => Ok((n, d)),
     }
 }

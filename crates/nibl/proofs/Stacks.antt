@@ -10,7 +10,7 @@ use lib.Seq.{take-suc-set, get_or-set_same}
 use borrow.Author.Tests.{lt-ltb, le-ltb}
 use Rattle.nibl.specs.declared.Place.{Place}
 use Rattle.nibl.specs.declared.PlaceStack.{PlaceStack}
-use Rattle.nibl.specs.declared.Top.TheVariants as top
+use Rattle.std.specs.Prelude.{Some, None}
 use Rattle.nibl.specs.Stack.{no_place, push_of, pop_of}
 
 -- the list that a stack stands for, the oldest first
@@ -28,11 +28,11 @@ pub push-full : (s : PlaceStack) (p : Place) → 8 ≤ s.depth → push_of s p �
 push-full s p h = rw (le-ltb s.depth 8 h)
 
 -- a pop of an empty stack changes nothing and says so
-pub pop-empty : (s : PlaceStack) → s.depth < 1 → pop_of s ≡ record { stack = s; top = top.Empty }
+pub pop-empty : (s : PlaceStack) → s.depth < 1 → pop_of s ≡ record { stack = s; top = None }
 pop-empty s h = rw (lt-ltb s.depth 1 h)
 
 -- a pop after a push gives back the place
-pub pop-push : (s : PlaceStack) (p : Place) → length s.places ≡ 8 → s.depth < 8 → (pop_of (push_of s p).stack).top ≡ top.At p
+pub pop-push : (s : PlaceStack) (p : Place) → length s.places ≡ 8 → s.depth < 8 → (pop_of (push_of s p).stack).top ≡ Some p
 pop-push s p l h =
     let hl : s.depth < length s.places = omega arith in
     let a : 1 ≤ s.depth + 1 = omega arith in

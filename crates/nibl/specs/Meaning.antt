@@ -1,5 +1,7 @@
 -- What a statement does to the world, by its reading.
 use Rattle.std.specs.Prelude.{ℕ, suc, ◌+◌, ◌*◌, ◌/◌, ◌%◌, Bool, true, false, not, List, [], ◌∷◌, ◌++◌, length, get_or, drop, ltb, leb, eqb, if◌then◌else◌}
+use Rattle.std.specs.Prelude.{Option as Opt, Some, None}
+use Rattle.nibl.specs.declared.ForEntry.{ForEntry}
 use Rattle.std.proofs.Math.Option.{Option, none, some}
 use Rattle.std.proofs.lemmas.List.Edits.{sets}
 use Rattle.nibl.specs.Bytes.{bytes, byte_cr, byte_lf}
@@ -14,10 +16,6 @@ use Rattle.nibl.specs.Record.{place, position, mark, with_var, with_flags, with_
 use Rattle.nibl.specs.Page.{find, used}
 use Rattle.nibl.specs.Access.{may_read, may_write}
 use Rattle.nibl.specs.declared.Place.{Place}
-use Rattle.nibl.specs.declared.Top.{Top}
-use Rattle.nibl.specs.declared.Top.TheVariants as top
-use Rattle.nibl.specs.declared.TopFor.{TopFor}
-use Rattle.nibl.specs.declared.TopFor.TheVariants as topf
 use Rattle.nibl.specs.declared.Session.{Session}
 use Rattle.nibl.specs.declared.access.Access.{Access}
 use Rattle.nibl.specs.declared.access.Sight.{Sight}
@@ -159,9 +157,9 @@ gosub_to e w q =
     let g = push_of w.session.gosubs (place e.here) in
     if g.ok then done (go q) (with_session w (with_gosubs w.session g.stack)) else done (stop 10) w
 
-unfoldable pub return_by : World → Top → Done
-return_by w top.Empty = done (stop 9) w
-return_by w (top.At p) = done (after p) (with_session w (with_gosubs w.session (pop_of w.session.gosubs).stack))
+unfoldable pub return_by : World → Opt Place → Done
+return_by w None = done (stop 9) w
+return_by w (Some p) = done (after p) (with_session w (with_gosubs w.session (pop_of w.session.gosubs).stack))
 
 unfoldable pub do_here : Env → World → Done
 do_here e w =
@@ -169,9 +167,9 @@ do_here e w =
     if d.ok then done on (with_session w (with_dos w.session d.stack)) else done (stop 10) w
 
 -- "UNTIL returns to its DO's place on 0 and pops otherwise"
-unfoldable pub until_by : World → ℕ → Top → Done
-until_by w x top.Empty = done (stop 15) w
-until_by w x (top.At p) =
+unfoldable pub until_by : World → ℕ → Opt Place → Done
+until_by w x None = done (stop 15) w
+until_by w x (Some p) =
     if eqb x 0 then done (go (suc (position p))) w else done on (with_session w (with_dos w.session (pop_of w.session.dos).stack))
 
 unfoldable pub for_here : Env → World → ℕ → ℕ → ℕ → ℕ → Done
@@ -184,9 +182,9 @@ abbrev pub goes_on : ℕ → ℕ → ℕ → Bool
 goes_on step x limit = if is_negative step then not (less16 x limit) else not (less16 limit x)
 
 -- "NEXT adds the step, then returns"; otherwise "it pops and runs on"
-unfoldable pub next_by : World → ℕ → TopFor → Done
-next_by w v topf.Empty = done (stop 11) w
-next_by w v (topf.Entry f) =
+unfoldable pub next_by : World → ℕ → Opt ForEntry → Done
+next_by w v None = done (stop 11) w
+next_by w v (Some f) =
     let x = add16 (get_or w.session.vars v 0) f.step in
     let s = with_var w.session v x in
     if not (eqb f.var v) then done (stop 12) w

@@ -1,14 +1,12 @@
 -- Places, where a run goes on, and the session record: fresh, and with a part changed. antt has no record update, so every
 -- change of the record is written here, once.
-use Rattle.std.specs.Prelude.{ℕ, suc, ◌%◌, List, set, replicate}
+use Rattle.std.specs.Prelude.{ℕ, suc, ◌%◌, List, set, replicate, Option, Some, None}
 use Rattle.nibl.specs.Stack.{no_place, no_entry}
 use Rattle.nibl.specs.declared.Place.{Place}
 use Rattle.nibl.specs.declared.PlaceStack.{PlaceStack}
 use Rattle.nibl.specs.declared.ForStack.{ForStack}
 use Rattle.nibl.specs.declared.Onward.{Onward}
 use Rattle.nibl.specs.declared.Onward.TheVariants.{Start, After}
-use Rattle.nibl.specs.declared.Paused.{Paused}
-use Rattle.nibl.specs.declared.Paused.TheVariants.{Nowhere, At}
 use Rattle.nibl.specs.declared.Session.{Session}
 use Rattle.nibl.specs.declared.Parts.{Parts}
 
@@ -36,9 +34,9 @@ nowhere = 0
 abbrev pub paused_at : ℕ → ℕ
 paused_at q = suc q
 
-abbrev pub pause_number : Paused → ℕ
-pause_number Nowhere = nowhere
-pause_number (At o) = paused_at (position_of o)
+abbrev pub pause_number : Option Onward → ℕ
+pause_number None = nowhere
+pause_number (Some o) = paused_at (position_of o)
 
 -- The record with a part changed
 abbrev pub with_vars : Session → List ℕ → Session

@@ -29,11 +29,9 @@ impl Access {
     pub fn whole() -> Access
         ensures { result ≡ every_address }
     {
-        let own = Range { from: 0, to: 65535 };
-        let shared = Range { from: 0, to: 0 };
         Access {
-            own: own,
-            shared: shared,
+            own: Range { from: 0, to: 65535 },
+            shared: Range { from: 0, to: 0 },
         }
     }
 }

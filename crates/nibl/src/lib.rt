@@ -2,8 +2,8 @@
 // whose push and pop take it and hand it back with the answer.
 #![tactic(auto)]
 
-ghost use Rattle.std.specs.Prelude.{◌-◌, ◌≤◌, ◌≡◌, eqb};
-ghost use Rattle.nibl.specs.Stack.{on_top, push_of, top_of, pop_of, push_for, top_for, pop_for};
+ghost use Rattle.std.specs.Prelude.{◌+◌, ◌-◌, ◌≤◌, ◌≡◌, eqb, ltb, set, if◌then◌else◌};
+ghost use Rattle.nibl.specs.Stack.{on_top, top_in, pushed_of, push_of, top_of, pop_of, push_for, top_for, pop_for};
 ghost use Rattle.nibl.specs.Record.{place, position, mark, position_of, nowhere, paused_at, pause_number, fresh_places, fresh_fors, fresh, unpaused, stackless, cleared, loaded_session, parts_of, session_of, with_flags};
 ghost use Rattle.nibl.specs.Lent.{answer_of, with_positions, sight_of};
 
@@ -12,6 +12,7 @@ pub mod range;
 pub mod stop;
 
 use access::{Access, Sight};
+use stop::Stop;
 
 // Bytes that the rules name: what ends a typed line, a record's text and a string; what follows it in the output; what stands
 // between two statements; what a number is written with; what stands around a string; and the end mark, which is two of these.
@@ -104,7 +105,8 @@ impl Place {
 #[derive(Clone, Copy)]
 pub struct LineNumber(pub u16);
 
-// Where a run goes on: at the program's start, or after a place.
+// Where a run goes on: at the program's start, or after a place. It is no Option of a place: it is itself answered where none is, and an
+// Option in an Option would be no plainer.
 #[derive(Clone, Copy)]
 pub enum Onward {
     Start,
@@ -123,101 +125,6 @@ impl Onward {
     }
 }
 
-// The stack of GOSUB and that of DO: the slots below the depth are live, the oldest first.
-#[repr(C)]
-#[derive(Clone, Copy)]
-pub struct PlaceStack {
-    pub depth: usize,
-    pub places: [Place; GOSUBS],
-}
-
-// What is on top of a stack of places.
-#[derive(Clone, Copy)]
-pub enum Top {
-    Empty,
-    At(Place),
-}
-
-// A stack after a push; not ok: it was full and is as before.
-#[derive(Clone, Copy)]
-pub struct Pushed {
-    pub stack: PlaceStack,
-    pub ok: bool,
-}
-
-// A stack after a pop, and what was on top.
-#[derive(Clone, Copy)]
-pub struct Popped {
-    pub stack: PlaceStack,
-    pub top: Top,
-}
-
-// The depth after a pop, of a stack that has room for so many.
-fn lowered(room: usize, depth: usize) -> usize
-    ensures { result ≡ on_top room depth depth (depth - 1) }
-{
-    if depth < 1 {
-        return 0;
-    }
-    if room < depth {
-        return depth;
-    }
-    depth - 1
-}
-
-impl PlaceStack {
-    // One slot is written. A depth of 8, or one that no stack has, is full.
-    pub fn push(self, p: Place) -> Pushed
-        ensures { result ≡ push_of self p }
-    {
-        let d = self.depth;
-        if d < GOSUBS {
-            let mut next = self;
-            next.places[d] = p;
-            next.depth = d + 1;
-            Pushed {
-                stack: next,
-                ok: true,
-            }
-        } else {
-            Pushed {
-                stack: self,
-                ok: false,
-            }
-        }
-    }
-
-    // A depth that no stack has counts as empty.
-    pub fn top(self) -> Top
-        ensures { result ≡ top_of self }
-    {
-        let d = self.depth;
-        if d < 1 {
-            return Top::Empty;
-        }
-        if GOSUBS < d {
-            return Top::Empty;
-        }
-        let at = d - 1;
-        let p = self.places[at];
-        Top::At(p)
-    }
-
-    // Only the depth is lowered: the slot keeps what it held.
-    pub fn pop(self) -> Popped
-        ensures { result ≡ pop_of self }
-    {
-        let top = self.top();
-        let d = lowered(GOSUBS, self.depth);
-        let mut next = self;
-        next.depth = d;
-        Popped {
-            stack: next,
-            top: top,
-        }
-    }
-}
-
 // A FOR under way: its variable (0 is A, 25 is Z), its limit and step, and the place that ends the FOR.
 #[repr(C)]
 #[derive(Clone, Copy)]
@@ -228,6 +135,15 @@ pub struct ForEntry {
     pub place: Place,
 }
 
+// The stack of GOSUB and that of DO: the slots below the depth are live, the oldest first. It and the stack of FOR are two structs, since no
+// struct with a type for an argument may cross to C; what they do with their slots is one function for both.
+#[repr(C)]
+#[derive(Clone, Copy)]
+pub struct PlaceStack {
+    pub depth: usize,
+    pub places: [Place; GOSUBS],
+}
+
 #[repr(C)]
 #[derive(Clone, Copy)]
 pub struct ForStack {
@@ -235,94 +151,119 @@ pub struct ForStack {
     pub entries: [ForEntry; FORS],
 }
 
-// What is on top of the FOR stack.
+// A stack after a pop, and what was on top.
 #[derive(Clone, Copy)]
-pub enum TopFor {
-    Empty,
-    Entry(ForEntry),
+pub struct Popped<S, T> {
+    pub stack: S,
+    pub top: Option<T>,
 }
 
-#[derive(Clone, Copy)]
-pub struct PushedFor {
-    pub stack: ForStack,
-    pub ok: bool,
+// An item goes on top of so many live slots: one slot is written. A depth of as many as there is room for, or one that no stack has, is full.
+fn push_slot<T: Copy, const N: usize>(depth: &mut usize, slots: &mut [T; N], x: T) -> bool
+    ensures fits { result ≡ ltb depth.old N }
+    ensures depth_after { depth.new ≡ (if ltb depth.old N then depth.old + 1 else depth.old) }
+    ensures slots_after { slots.new ≡ (if ltb depth.old N then set slots.old depth.old x else slots.old) }
+{
+    let d = *depth;
+    if N <= d {
+        return false;
+    }
+    slots[d] = x;
+    *depth = d + 1;
+    true
 }
 
-#[derive(Clone, Copy)]
-pub struct PoppedFor {
-    pub stack: ForStack,
-    pub top: TopFor,
+// The item on top. A depth that no stack has counts as empty.
+fn top_slot<T: Copy, const N: usize>(depth: usize, slots: &[T; N]) -> Option<T>
+    ensures { (x : T) → result ≡ top_in N x depth slots.now }
+{
+    if depth < 1 || N < depth {
+        return None;
+    }
+    Some(slots[depth - 1])
+}
+
+// The depth after a pop: the slot keeps what it held.
+fn lowered<const N: usize>(depth: usize) -> usize
+    ensures { result ≡ on_top N depth depth (depth - 1) }
+{
+    if depth < 1 || N < depth {
+        return depth;
+    }
+    depth - 1
+}
+
+impl PlaceStack {
+    // A full stack is handed back as it was.
+    pub fn push(self, p: Place) -> Result<PlaceStack, PlaceStack>
+        ensures { pushed_of result ≡ push_of self p }
+    {
+        let mut next = self;
+        if push_slot(&mut next.depth, &mut next.places, p) {
+            return Ok(next);
+        }
+        Err(self)
+    }
+
+    pub fn top(self) -> Option<Place>
+        ensures { result ≡ top_of self }
+    {
+        top_slot(self.depth, &self.places)
+    }
+
+    pub fn pop(self) -> Popped<PlaceStack, Place>
+        ensures { result ≡ pop_of self }
+    {
+        Popped {
+            stack: PlaceStack {
+                depth: lowered::<GOSUBS>(self.depth),
+                ..self
+            },
+            top: self.top(),
+        }
+    }
 }
 
 impl ForStack {
-    // One slot is written. A depth of 4, or one that no stack has, is full.
-    pub fn push(self, e: ForEntry) -> PushedFor
-        ensures { result ≡ push_for self e }
+    // A full stack is handed back as it was.
+    pub fn push(self, e: ForEntry) -> Result<ForStack, ForStack>
+        ensures { pushed_of result ≡ push_for self e }
     {
-        let d = self.depth;
-        if d < FORS {
-            let mut next = self;
-            next.entries[d] = e;
-            next.depth = d + 1;
-            PushedFor {
-                stack: next,
-                ok: true,
-            }
-        } else {
-            PushedFor {
-                stack: self,
-                ok: false,
-            }
+        let mut next = self;
+        if push_slot(&mut next.depth, &mut next.entries, e) {
+            return Ok(next);
         }
+        Err(self)
     }
 
-    // A depth that no stack has counts as empty.
-    pub fn top(self) -> TopFor
+    pub fn top(self) -> Option<ForEntry>
         ensures { result ≡ top_for self }
     {
-        let d = self.depth;
-        if d < 1 {
-            return TopFor::Empty;
-        }
-        if FORS < d {
-            return TopFor::Empty;
-        }
-        let at = d - 1;
-        let e = self.entries[at];
-        TopFor::Entry(e)
+        top_slot(self.depth, &self.entries)
     }
 
-    // Only the depth is lowered: the slot keeps what it held.
-    pub fn pop(self) -> PoppedFor
+    pub fn pop(self) -> Popped<ForStack, ForEntry>
         ensures { result ≡ pop_for self }
     {
-        let top = self.top();
-        let d = lowered(FORS, self.depth);
-        let mut next = self;
-        next.depth = d;
-        PoppedFor {
-            stack: next,
-            top: top,
+        Popped {
+            stack: ForStack {
+                depth: lowered::<FORS>(self.depth),
+                ..self
+            },
+            top: self.top(),
         }
     }
 }
 
-// Where a run that ran out of budget goes on, if one did.
-#[derive(Clone, Copy)]
-pub enum Paused {
-    Nowhere,
-    At(Onward),
-}
-
-impl Paused {
-    // The pause that a record's number says: every number is one.
-    pub fn of(number: u16) -> Paused
+impl Onward {
+    // Where a run goes on that is paused, by the number that a record has for it, if one is: every number is one.
+    pub fn paused(number: u16) -> Option<Onward>
         ensures { pause_number result ≡ number }
     {
         match number {
-            NOWHERE => Paused::Nowhere,
-            AT_START => Paused::At(Onward::Start),
-            _ => Paused::At(Onward::After(Place::at(number as usize - 2))),
+            NOWHERE => None,
+            AT_START => Some(Onward::Start),
+            _ => Some(Onward::After(Place::at(number as usize - 2))),
         }
     }
 }
@@ -346,7 +287,7 @@ impl Onward {
 }
 
 // What the controller keeps between calls: numbers alone, so that any bits that a host lends are a record.
-// The flags are bits 0 to 2; the pause is read by `Paused::of`.
+// The flags are bits 0 to 2; the pause is read by `Onward::paused`.
 #[repr(C)]
 #[derive(Clone, Copy)]
 pub struct Session {
@@ -374,10 +315,9 @@ impl PlaceStack {
     pub fn fresh() -> PlaceStack
         ensures { result ≡ fresh_places }
     {
-        let none = Place::at(0);
         PlaceStack {
             depth: 0,
-            places: [none; GOSUBS],
+            places: [Place::at(0); GOSUBS],
         }
     }
 }
@@ -404,15 +344,12 @@ impl Session {
     pub fn fresh() -> Session
         ensures { result ≡ fresh }
     {
-        let gosubs = PlaceStack::fresh();
-        let dos = PlaceStack::fresh();
-        let fors = ForStack::fresh();
         Session {
             vars: [0u16; VARIABLES],
             flags: 0,
-            gosubs: gosubs,
-            dos: dos,
-            fors: fors,
+            gosubs: PlaceStack::fresh(),
+            dos: PlaceStack::fresh(),
+            fors: ForStack::fresh(),
             paused: NOWHERE,
         }
     }
@@ -421,9 +358,10 @@ impl Session {
     pub fn unpaused(self) -> Session
         ensures { result ≡ unpaused self }
     {
-        let mut next = self;
-        next.paused = NOWHERE;
-        next
+        Session {
+            paused: NOWHERE,
+            ..self
+        }
     }
 
     // An edit clears the stacks: the slots keep what they held.
@@ -441,37 +379,35 @@ impl Session {
     pub fn cleared(self) -> Session
         ensures { result ≡ cleared self }
     {
-        let zeros = [0u16; VARIABLES];
-        let mut next = self.stackless();
-        next.vars = zeros;
-        next
+        Session {
+            vars: [0u16; VARIABLES],
+            ..self.stackless()
+        }
     }
 
     // A load brings its own variables. The stacks are emptied, a pause is ended, and of the flags bits 0 to 2 are kept.
     pub fn loaded(self, vars: [u16; VARIABLES]) -> Session
         ensures { result ≡ loaded_session self vars }
     {
-        let mut next = self.stackless();
-        next.vars = vars;
-        next.flags = self.flags % FLAG_PATTERNS;
-        next.paused = NOWHERE;
-        next
+        Session {
+            vars,
+            flags: self.flags % FLAG_PATTERNS,
+            paused: NOWHERE,
+            ..self.stackless()
+        }
     }
 
     // All but the variables and the pause, for a run.
     pub fn parts(self, inpos: usize, outpos: usize) -> Parts
         ensures { result ≡ parts_of self inpos outpos }
     {
-        let gosubs = self.gosubs;
-        let dos = self.dos;
-        let fors = self.fors;
         Parts {
             flags: self.flags,
-            gosubs: gosubs,
-            dos: dos,
-            fors: fors,
-            inpos: inpos,
-            outpos: outpos,
+            gosubs: self.gosubs,
+            dos: self.dos,
+            fors: self.fors,
+            inpos,
+            outpos,
         }
     }
 }
@@ -481,16 +417,13 @@ impl Parts {
     pub fn session(self, vars: [u16; VARIABLES], paused: u16) -> Session
         ensures { result ≡ session_of self vars paused }
     {
-        let gosubs = self.gosubs;
-        let dos = self.dos;
-        let fors = self.fors;
         Session {
-            vars: vars,
+            vars,
             flags: self.flags,
-            gosubs: gosubs,
-            dos: dos,
-            fors: fors,
-            paused: paused,
+            gosubs: self.gosubs,
+            dos: self.dos,
+            fors: self.fors,
+            paused,
         }
     }
 }
@@ -512,20 +445,20 @@ impl Call {
     pub fn at(self, inpos: usize, outpos: usize) -> Call
         ensures { result ≡ with_positions inpos outpos self }
     {
-        let mut next = self;
-        next.inpos = inpos;
-        next.outpos = outpos;
-        next
+        Call {
+            inpos,
+            outpos,
+            ..self
+        }
     }
 
     // What its statements see.
     pub fn sight(self) -> Sight
         ensures { result ≡ sight_of self }
     {
-        let access = Access::whole();
         Sight {
             sense: self.sense,
-            access: access,
+            access: Access::whole(),
         }
     }
 }
@@ -545,16 +478,16 @@ pub struct Answer {
 
 impl Answer {
     // The one function that makes an answer.
-    pub fn of(stop: u8, line: u16, steps: u16, inpos: usize, outpos: usize, column: u16) -> Answer
-        ensures { result ≡ answer_of stop line steps inpos outpos column }
+    pub fn of(stop: Stop, line: u16, steps: u16, inpos: usize, outpos: usize, column: u16) -> Answer
+        ensures { result ≡ answer_of stop.0 line steps inpos outpos column }
     {
         Answer {
-            stop: stop,
-            line: line,
-            steps: steps,
-            inpos: inpos,
-            outpos: outpos,
-            column: column,
+            stop: stop.0,
+            line,
+            steps,
+            inpos,
+            outpos,
+            column,
         }
     }
 }

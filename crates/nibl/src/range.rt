@@ -24,10 +24,7 @@ pub const TABLE_LEAST: usize = 1025;
 pub fn page_in_range(n: usize) -> bool
     ensures { result ≡ page_in_range n }
 {
-    if n < PAGE_LEAST {
-        return false;
-    }
-    n <= PAGE_MOST
+    PAGE_LEAST <= n && n <= PAGE_MOST
 }
 
 pub fn memory_in_range(n: usize) -> bool
@@ -65,8 +62,5 @@ pub fn budget_in_range(steps: usize) -> bool
 pub fn table_in_range(call: Call, n: usize) -> bool
     ensures { result ≡ table_in_range call n }
 {
-    if call.tabled == 0 {
-        return true;
-    }
-    TABLE_LEAST <= n
+    call.tabled == 0 || TABLE_LEAST <= n
 }

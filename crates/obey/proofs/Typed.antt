@@ -2,16 +2,16 @@
 use Rattle.std.specs.Prelude.{if◌then◌else◌}
 use Prim.Native.Nat.{ℕ, ◌+◌, ◌-◌, ◌≤◌}
 use mathlib.Core.Bool.{Bool, true, false}
-use mathlib.Core.List.{List, [], ◌++◌}
+use mathlib.Core.List.{List}
 use mathlib.Core.Option.{Option, none, some}
 use mathlib.Core.Path.{◌≡◌, refl, sym, ap, subst, ◌∙◌}
 use native.Mathlib.Omega.{arith}
-use lib.ListN.{length, take, drop, replicate, length-append}
+use lib.ListN.{length, take, replicate, length-append}
 use lib.Seq.{take_at}
 use Rattle.nibl.specs.Words.{Word, keywords, commands}
 use Rattle.nibl.specs.Grammar.{Line, an_immediate}
 use Rattle.nibl.specs.Tree.{Stmt, immediate}
-use Rattle.nibl.specs.Typing.{Gathered, gather}
+use Rattle.nibl.specs.Typing.{Gathered}
 use Rattle.nibl.specs.found.Read.{typed}
 use Rattle.nibl.specs.Typing.{limit}
 use Rattle.nibl.proofs.Lines.{typed-sound}

@@ -18,7 +18,8 @@ ghost use Rattle.obey.specs.ReadAs.{ReadAs};
 
 use letter::Gathering;
 use line::LineRead;
-use nibl::{Call, Onward, Session, stop};
+use nibl::stop::Stop;
+use nibl::{Call, Onward, Session};
 use outcome::Ended;
 use page::Where;
 
@@ -44,10 +45,9 @@ fn obey(
         (world_at session memory.old output.old call.inpos call.outpos) (column_of typed.now) (reading_of typed.now) }
     ensures table_after { table.new ≡ kept_true page.new table.old }
 {
-    let inpos = call.inpos;
-    let outpos = call.outpos;
+    let Call { inpos, outpos, .. } = call;
     match kind {
-        LineRead::Blank => outcome::stopped(stop::DONE, session, inpos, outpos),
+        LineRead::Blank => outcome::stopped(Stop::DONE, session, inpos, outpos),
         LineRead::New => outcome::edited(table::new_page(page, table), session, inpos, outpos),
         LineRead::Delete(number) => outcome::edited(
             table::delete_line(page, number, table),
@@ -55,16 +55,13 @@ fn obey(
             inpos,
             outpos,
         ),
-        LineRead::Store(number, c) => {
-            let at = c.at;
-            outcome::edited(
-                table::store_line(page, number, &typed[at..], table),
-                session,
-                inpos,
-                outpos,
-            )
-        }
-        LineRead::Clear => outcome::stopped(stop::DONE, session.cleared(), inpos, outpos),
+        LineRead::Store(number, c) => outcome::edited(
+            table::store_line(page, number, &typed[c.at..], table),
+            session,
+            inpos,
+            outpos,
+        ),
+        LineRead::Clear => outcome::stopped(Stop::DONE, session.cleared(), inpos, outpos),
         LineRead::List(number) => outcome::list(page, number, output, session, inpos, outpos),
         LineRead::Run => outcome::run_from(
             Onward::Start,
@@ -83,19 +80,21 @@ fn obey(
         ),
         LineRead::Immediate(n, needs) => {
             if needs {
-                return outcome::stopped(stop::NOT_IMMEDIATE, session, inpos, outpos);
+                return outcome::stopped(Stop::NOT_IMMEDIATE, session, inpos, outpos);
             }
             outcome::immediate(
                 n, session, page, memory, input, output, call, typed, reply, replies, values, ops,
                 table,
             )
         }
-        LineRead::NoReading => {
-            let column = column::column_of(typed);
-            outcome::refused(column as u16, session, inpos, outpos)
-        }
+        LineRead::NoReading => outcome::refused(
+            column::column_of(typed) as u16,
+            session,
+            inpos,
+            outpos,
+        ),
         // no typed line lacks room: see `read_typed`
-        LineRead::NoRoom => outcome::stopped(stop::NO_READING, session, inpos, outpos),
+        LineRead::NoRoom => outcome::stopped(Stop::NO_READING, session, inpos, outpos),
     }
 }
 
@@ -132,9 +131,8 @@ pub fn typed_line(
         (gathered (length reply.old) (drop call.inpos input.now)) }
     ensures table_after { table.new ≡ kept_true page.new table.old }
 {
-    let g = letter::gather(input, call.inpos, line);
-    match g {
-        Gathering::NoCr => outcome::stopped(stop::NO_CR, rec, call.inpos, call.outpos),
+    match letter::gather(input, call.inpos, line) {
+        Gathering::NoCr => outcome::stopped(Stop::NO_CR, rec, call.inpos, call.outpos),
         Gathering::TooLong(at) => outcome::refused(
             line.len() as u16,
             rec.unpaused(),

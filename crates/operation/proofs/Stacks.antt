@@ -1,10 +1,10 @@
 -- The stack of values in an array, and operations on values an element at a time. Assumes nothing.
-use Prim.Native.Nat.{ℕ, zero, suc, ◌+◌, ◌-◌, ◌/◌, ◌%◌, ◌≤◌, ◌<◌}
+use Prim.Native.Nat.{ℕ, zero, suc, ◌+◌, ◌-◌, ◌≤◌, ◌<◌}
 use mathlib.Core.Path.{◌≡◌, refl, sym, ap, ◌∙◌}
 use mathlib.Core.List.{List, [], ◌∷◌}
 use native.Mathlib.Numerals.{add-one}
 use native.Mathlib.Omega.{arith}
-use lib.ListN.{length, drop, get_or, set, drop_of_length-le, get_or-eq_default}
+use lib.ListN.{length, drop, get_or, set, drop_of_length-le}
 use lib.Seq.{get_or-set_same, get_or-set_other, drop-cons}
 use Rattle.nibl.specs.Values.{Result, is, no}
 use Rattle.nibl.specs.Meaning.{bind}
@@ -25,9 +25,6 @@ unfolding stack_of
 nth-out values zero k h = refl
 nth-out values (suc n) zero h = absurd (omega arith)
 nth-out values (suc n) (suc k) h = nth-out values n k (omega arith)
-
-pub nth_past : (values : List ℕ) (n k : ℕ) → k < n → length values ≤ n - 1 - k → get_or (stack_of values n) k 0 ≡ 0
-nth_past values n k h l = nth_in values n k h ∙ get_or-eq_default values 0 l
 
 -- Values taken off, and one put on
 stack-drop : (values : List ℕ) (n k : ℕ) → drop k (stack_of values n) ≡ stack_of values (n - k)

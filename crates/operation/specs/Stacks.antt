@@ -1,5 +1,7 @@
 -- The stack of values in a lent array, and what the answers say of it.
 use Rattle.std.specs.Prelude.{ℕ, zero, suc, ◌≤◌, ◌<◌, List, [], ◌∷◌, true, ◌≡◌, get_or, set, length, drop}
+use Rattle.std.specs.Prelude.{Result as Res, Ok, Err}
+use Rattle.nibl.specs.declared.stop.Stop.{Stop}
 use Rattle.std.proofs.Math.Option.{Option, none, some}
 use Rattle.nibl.specs.Tree.{Expr}
 use Rattle.nibl.specs.found.Read.{replied}
@@ -13,15 +15,15 @@ use Rattle.world.specs.Turns.{way_of}
 use Rattle.world.specs.declared.jump.Way.{Way}
 use Rattle.nibl.specs.Values.{Result, is, no, Value}
 use Rattle.line.specs.Answers.{list_of}
-use Rattle.line.specs.declared.ListRead.TheVariants as list
 use Rattle.operation.specs.Operations.{Sources, work_out, AtEffect, at_effect}
-use Rattle.operation.specs.declared.Height.{Height}
-use Rattle.operation.specs.declared.Height.TheVariants as raised
-use Rattle.operation.specs.declared.Reached.{Reached}
-use Rattle.operation.specs.declared.Reached.TheVariants as reached
+use Rattle.operation.specs.declared.sources.Sources.{Sources as Seen}
 
 abbrev pub sources : List ℕ → ℕ → Sight → List ℕ → List ℕ → Sources
 sources vars flags sight page memory = record { vars = vars; flags = flags; sight = sight; page = page; memory = memory }
+
+-- what the code lends for them
+abbrev pub sources_of : Seen → Sources
+sources_of s = sources s.vars.now s.flags s.sight s.page.now s.memory.now
 
 -- the values that the first n places of an array hold, the top first
 unfoldable pub stack_of : List ℕ → ℕ → List ℕ
@@ -32,35 +34,35 @@ stack_of values (suc n) = get_or values n 0 ∷ stack_of values n
 abbrev pub top_in : List ℕ → ℕ → ℕ
 top_in values n = get_or (stack_of values n) 0 0
 
-abbrev pub stack_after : Height → List ℕ → Result (List ℕ)
-stack_after (raised.Top n x) values = is (stack_of values n)
-stack_after (raised.No n) values = no n
+abbrev pub stack_after : Res (ℕ × ℕ) Stop → List ℕ → Result (List ℕ)
+stack_after (Ok (n, x)) values = is (stack_of values n)
+stack_after (Err s) values = no s.0
 
-abbrev pub height_of : Height → ℕ
-height_of (raised.Top n x) = n
-height_of (raised.No n) = 0
+abbrev pub height_of : Res (ℕ × ℕ) Stop → ℕ
+height_of (Ok (n, x)) = n
+height_of (Err n) = 0
 
-abbrev pub top_after : Height → ℕ
-top_after (raised.Top n x) = x
-top_after (raised.No n) = 0
+abbrev pub top_after : Res (ℕ × ℕ) Stop → ℕ
+top_after (Ok (n, x)) = x
+top_after (Err n) = 0
 
 -- how far the operations on values of a list lead, and the values then
-abbrev pub reached_in : Reached → List ℕ → List ℕ → Result AtEffect
-reached_in (reached.To i n x) ops values = is (at_effect (drop i ops) (stack_of values n))
-reached_in (reached.No n) ops values = no n
+abbrev pub reached_in : Res (ℕ × ℕ × ℕ) Stop → List ℕ → List ℕ → Result AtEffect
+reached_in (Ok (i, n, x)) ops values = is (at_effect (drop i ops) (stack_of values n))
+reached_in (Err s) ops values = no s.0
 
 -- the operation that is next; after a refusal the first one counts
-abbrev pub reached_at : ℕ → Reached → ℕ
-reached_at from (reached.To i n x) = i
-reached_at from (reached.No n) = from
+abbrev pub reached_at : ℕ → Res (ℕ × ℕ × ℕ) Stop → ℕ
+reached_at from (Ok (i, n, x)) = i
+reached_at from (Err n) = from
 
-abbrev pub reached_height : Reached → ℕ
-reached_height (reached.To i n x) = n
-reached_height (reached.No n) = 0
+abbrev pub reached_height : Res (ℕ × ℕ × ℕ) Stop → ℕ
+reached_height (Ok (i, n, x)) = n
+reached_height (Err n) = 0
 
-abbrev pub reached_top : Reached → ℕ
-reached_top (reached.To i n x) = x
-reached_top (reached.No n) = 0
+abbrev pub reached_top : Res (ℕ × ℕ × ℕ) Stop → ℕ
+reached_top (Ok (i, n, x)) = x
+reached_top (Err n) = 0
 
 -- the value that a list of operations leaves on top
 abbrev pub worked : Sources → List ℕ → Value
@@ -74,7 +76,7 @@ pub record ReplyRoom (text page ops values : List ℕ) : Type 0 where
 
 pub record Assigning (n : ℕ) (text page ops values : List ℕ) : Type 0 where
   pub lends : ReplyRoom text page ops values
-  pub reply : list_of (replied n text) ≡ list.Reads
+  pub reply : list_of (replied n text) ≡ Ok tt
 
 -- a reply's end, and the variables then
 pub record Assigned : Type 0 where

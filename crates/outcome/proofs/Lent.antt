@@ -1,12 +1,11 @@
 -- What a call lends to a run and to a statement. Assumes nothing.
-use Prim.Native.Nat.{ℕ, ◌≤◌}
+use Prim.Native.Nat.{ℕ}
 use mathlib.Core.List.{List}
-use mathlib.Core.Path.{◌≡◌, sym, ap, subst, ◌∙◌}
+use mathlib.Core.Path.{◌≡◌, sym, ap, subst}
 use native.Mathlib.Omega.{arith}
 use lib.ListN.{length}
 use Rattle.nibl.specs.Page.{places_of}
-use Rattle.nibl.specs.Record.{nowhere, position_of, with_paused, unpaused, parts_of, session_of}
-use Rattle.nibl.specs.Meaning.{World}
+use Rattle.nibl.specs.Record.{nowhere, with_paused, unpaused, parts_of}
 use Rattle.nibl.specs.declared.Session.{Session}
 use Rattle.page.specs.Standing.{Stands}
 use Rattle.record.specs.Fit.{Fit}

@@ -1,36 +1,29 @@
 -- An immediate statement: its operations do what it does, and where it goes on a run may begin. Assumes nothing.
-use Prim.Native.Nat.{ℕ, ◌≤◌}
+use Prim.Native.Nat.{ℕ}
 use mathlib.Core.Bool.{Bool, true, false}
 use mathlib.Core.List.{List, []}
-use mathlib.Core.Option.{Option, some}
 use mathlib.Core.Path.{◌≡◌, refl, sym, ap, subst, ◌∙◌}
 use native.Mathlib.Omega.{arith}
 use lib.ListN.{length, take}
 use lib.Seq.{length-take-le}
-use Rattle.nibl.specs.Tree.{Stmt, Typed, immediate}
 use Rattle.nibl.specs.found.Read.{typed}
 use Rattle.nibl.specs.found.Column.{column_of}
 use Rattle.nibl.specs.Page.{places_of}
-use Rattle.nibl.specs.Record.{place, mark, nowhere, position_of, parts_of, session_of}
+use Rattle.nibl.specs.Record.{place, mark, parts_of}
 use Rattle.nibl.specs.Meaning.{World, Env, go, Done, done, exec}
-use Rattle.nibl.specs.Lent.{Outcome, stops}
+use Rattle.nibl.specs.Lent.{stops}
 use Rattle.nibl.specs.Calls.{obey_read, obey, after_immediate}
 use Rattle.nibl.specs.declared.Session.{Session}
 use Rattle.nibl.specs.declared.Parts.{Parts}
-use Rattle.nibl.specs.declared.Onward.{Onward}
 use Rattle.nibl.specs.declared.access.Sight.{Sight}
 use Rattle.page.specs.Standing.{Stands}
 use Rattle.page.proofs.Standing.{find-stands}
 use Rattle.record.specs.Fit.{Fit, Goes, to_place}
 use Rattle.record.proofs.Statements.{immediate-goes}
-use Rattle.world.specs.Turns.{way_of}
-use Rattle.world.specs.declared.jump.Way.{Way}
-use Rattle.world.specs.declared.jump.Way.TheVariants as way
 use Rattle.operation.specs.Operations.{run_ops}
 use Rattle.operation.proofs.Compiles.{compiled}
 use Rattle.operation.proofs.Readings.{typed-fine}
-use Rattle.effect.specs.Worlds.{env_with, world_with, did_in}
-use Rattle.effect.specs.declared.Did.{Did}
+use Rattle.effect.specs.Worlds.{env_with, world_with}
 use Rattle.statement.specs.Lending.{Fair}
 use Rattle.run.proofs.Starts.{ready-fair}
 use Rattle.outcome.specs.Ends.{world_at}

@@ -39,6 +39,6 @@ list_end s inpos l = stopped l.stop s inpos l.at
 abbrev pub ran_end : Ran → List ℕ → Ended
 ran_end r vars =
     record {
-      answer = answer_of r.stop r.line r.steps r.parts.inpos r.parts.outpos 0;
+      answer = answer_of r.stop.0 r.line r.steps r.parts.inpos r.parts.outpos 0;
       session = session_of r.parts vars r.paused;
     }

@@ -17,8 +17,9 @@ ghost use Rattle.table.specs.Index.{Indexed};
 ghost use Rattle.outcome.specs.Ends.{ended_in, world_at, stopped, refused, edit_end, list_end, ran_end};
 ghost use Rattle.outcome.specs.Lends.{Lists, Accepted, IsStatement};
 
-use nibl::{Answer, Call, LineNumber, NO_LINE, NOWHERE, Onward, Place, Session, stop};
-use page::{Edited, Listed};
+use nibl::stop::Stop;
+use nibl::{Answer, Call, LineNumber, NO_LINE, NOWHERE, Onward, Place, Session};
+use page::Edited;
 use run::Ran;
 use world::jump::Way;
 
@@ -30,12 +31,12 @@ pub struct Ended {
 }
 
 // A stop that no program statement gave: it has no line, no steps and no column.
-pub fn stopped(stop: u8, session: Session, inpos: usize, outpos: usize) -> Ended
-    ensures { result ≡ stopped stop session inpos outpos }
+pub fn stopped(stop: Stop, session: Session, inpos: usize, outpos: usize) -> Ended
+    ensures { result ≡ stopped stop.0 session inpos outpos }
 {
     Ended {
         answer: Answer::of(stop, NO_LINE, 0, inpos, outpos, 0),
-        session: session,
+        session,
     }
 }
 
@@ -44,8 +45,8 @@ pub fn refused(column: u16, session: Session, inpos: usize, outpos: usize) -> En
     ensures { result ≡ refused column session inpos outpos }
 {
     Ended {
-        answer: Answer::of(stop::NO_READING, NO_LINE, 0, inpos, outpos, column),
-        session: session,
+        answer: Answer::of(Stop::NO_READING, NO_LINE, 0, inpos, outpos, column),
+        session,
     }
 }
 
@@ -54,9 +55,9 @@ pub fn edited(edit: Edited, session: Session, inpos: usize, outpos: usize) -> En
     ensures { result ≡ edit_end edit session inpos outpos }
 {
     match edit {
-        Edited::Done => stopped(stop::DONE, session.stackless(), inpos, outpos),
-        Edited::NoRoom => stopped(stop::PAGE_FULL, session, inpos, outpos),
-        Edited::Absent => stopped(stop::DONE, session, inpos, outpos),
+        Edited::Done => stopped(Stop::DONE, session.stackless(), inpos, outpos),
+        Edited::NoRoom => stopped(Stop::PAGE_FULL, session, inpos, outpos),
+        Edited::Absent => stopped(Stop::DONE, session, inpos, outpos),
     }
 }
 
@@ -72,10 +73,9 @@ pub fn list(
     ensures value { result ≡ list_end session inpos (listing from.0 (records_of page.now) output.old outpos) }
     ensures output_after { output.new ≡ (listing from.0 (records_of page.now) output.old outpos).output }
 {
-    let listed = page::list_from(page, from, output, outpos);
-    match listed {
-        Listed::All(at) => stopped(stop::DONE, session, inpos, at),
-        Listed::Full(at) => stopped(stop::OUTPUT_FULL, session, inpos, at),
+    match page::list_from(page, from, output, outpos) {
+        Ok(at) => stopped(Stop::DONE, session, inpos, at),
+        Err(at) => stopped(Stop::OUTPUT_FULL, session, inpos, at),
     }
 }
 
@@ -86,7 +86,7 @@ fn ran(ran: Ran, vars: [u16; nibl::VARIABLES]) -> Ended
     let parts = ran.parts;
     let answer = Answer::of(ran.stop, ran.line, ran.steps, parts.inpos, parts.outpos, 0);
     Ended {
-        answer: answer,
+        answer,
         session: parts.session(vars, ran.paused),
     }
 }
@@ -174,31 +174,25 @@ pub fn immediate<'a>(
         parts,
         table,
     );
-    let way = d.way;
     let after = d.parts;
-    let inpos = after.inpos;
-    let outpos = after.outpos;
     let next = after.session(vars, NOWHERE);
-    match way {
-        Way::On => stopped(stop::DONE, next, inpos, outpos),
-        Way::Skip => stopped(stop::DONE, next, inpos, outpos),
-        Way::Stop(k) => stopped(k, next, inpos, outpos),
-        Way::Go(from) => {
-            run_from(
-                from,
-                next,
-                page,
-                memory,
-                input,
-                output,
-                call.at(inpos, outpos),
-                typed,
-                reply,
-                replies,
-                values,
-                ops,
-                table,
-            )
-        }
+    match d.way {
+        Way::On | Way::Skip => stopped(Stop::DONE, next, after.inpos, after.outpos),
+        Way::Stop(k) => stopped(k, next, after.inpos, after.outpos),
+        Way::Go(from) => run_from(
+            from,
+            next,
+            page,
+            memory,
+            input,
+            output,
+            call.at(after.inpos, after.outpos),
+            typed,
+            reply,
+            replies,
+            values,
+            ops,
+            table,
+        ),
     }
 }

@@ -1,6 +1,7 @@
 -- A record as LIST writes it, and the listing one record at a time.
 -- Assumes nothing.
 use Prim.Native.Nat.{ℕ, zero, suc, ◌+◌, ◌-◌, ◌≤◌}
+use Rattle.std.specs.Prelude.{Option, Some, None, Err}
 use mathlib.Core.Path.{◌≡◌, refl, sym, ap, ◌∙◌}
 use mathlib.Core.List.{List, [], ◌∷◌, ◌++◌}
 use native.Mathlib.Numerals.{add-one}
@@ -14,10 +15,7 @@ use Rattle.nibl.specs.Values.{is, no, digits}
 use Rattle.nibl.specs.Meaning.{World, with_output, put}
 use Rattle.nibl.specs.Calls.{listed, list_from}
 use Rattle.value.specs.Writes.{Writes, item_fits}
-use Rattle.value.specs.declared.Wrote.{Wrote}
-use Rattle.value.specs.declared.Wrote.TheVariants.{To, Full}
 use Rattle.value.proofs.Writing.{sets-append, writes-whole}
-use Rattle.page.specs.declared.Listed.TheVariants as lines
 use Rattle.page.specs.Listing.{shown, listing, Here, shown_in}
 use Rattle.page.proofs.Walk.{by_cases, Met}
 
@@ -37,14 +35,14 @@ text-part p at n m =
 pub listed-length : (r : Stored) → length (listed r) ≡ length (digits r.line) + length r.text + 2
 listed-length r = omega (arith, length-append (digits r.line) (r.text ++ (13 ∷ 10 ∷ [])), length-append r.text (13 ∷ 10 ∷ []))
 
-module _ {before after item : List ℕ} {at : ℕ} {a : Wrote} (w : Writes before at item a after) (h : at + length item ≤ length before) where
+module _ {before after item : List ℕ} {at : ℕ} {a : (Option ℕ)} (w : Writes before at item a after) (h : at + length item ≤ length before) where
   written : after ≡ sets before at item
   written = w.output ∙ rw (le-leb (at + length item) (length before) h)
 
-pub line-written : (r : Stored) {out one two : List ℕ} {pos : ℕ} {a b : Wrote} (e : ℕ)
+pub line-written : (r : Stored) {out one two : List ℕ} {pos : ℕ} {a b : (Option ℕ)} (e : ℕ)
     → Writes out pos (digits r.line) a one → Writes one (pos + length (digits r.line)) r.text b two
     → e ≡ pos + length (digits r.line) + length r.text → e + 2 ≤ length out
-    → Writes out pos (listed r) (To (e + 2)) (set (set two e 13) (e + 1) 10)
+    → Writes out pos (listed r) (Some (e + 2)) (set (set two e 13) (e + 1) 10)
 line-written r {out} {one} {two} {pos} {a} {b} e u v f h =
     let ds : List ℕ = digits r.line in
     let t : List ℕ = r.text in
@@ -62,7 +60,7 @@ line-written r {out} {one} {two} {pos} {a} {b} e u v f h =
 
 -- the listing, one record at a time
 module _ (n : ℕ) (r : Stored) (rs : List Stored) {out after : List ℕ} {at : ℕ} where
-  pub list_on : (next : ℕ) → Here n r out at (To next) after → listing n (r ∷ rs) out at ≡ listing n rs after next
+  pub list_on : (next : ℕ) → Here n r out at (Some next) after → listing n (r ∷ rs) out at ≡ listing n rs after next
   unfolding listing
   list_on next h =
       by_cases (leb n r.line)
@@ -79,13 +77,13 @@ module _ (n : ℕ) (r : Stored) (rs : List Stored) {out after : List ℕ} {at : 
       let b : at ≡ next = cc in
       rw (e, listing) (λ i. listing n rs (sym w.1 i) (b i)))
 
-  pub list_full : Here n r out at Full after → listing n (r ∷ rs) out at ≡ shown after (lines.Full at)
+  pub list_full : Here n r out at None after → listing n (r ∷ rs) out at ≡ shown after (Err at)
   unfolding listing
   list_full h =
       by_cases (leb n r.line)
       (λ e. by_cases (item_fits out at (listed r))
       (λ f. let a : no 17 ≡ is (at + length (listed r)) = (h.from e).answer ∙ rw f in let z : ◌≡◌ {A = ℕ} 0 1 = cc in absurd (omega arith))
-      (λ f. let o : after ≡ out = (h.from e).output ∙ rw f in rw (e, f, listing) (ap (λ (l : List ℕ). shown l (lines.Full at)) (sym o))))
+      (λ f. let o : after ≡ out = (h.from e).output ∙ rw f in rw (e, f, listing) (ap (λ (l : List ℕ). shown l (Err at)) (sym o))))
       (λ e. let w = (h.below e).0 in let z : ◌≡◌ {A = ℕ} 0 1 = cc in absurd (omega arith))
 
 -- a listing is the definition's

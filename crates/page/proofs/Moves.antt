@@ -6,8 +6,8 @@ use Prim.Native.Nat.{ℕ, suc, ◌+◌, ◌-◌, ◌≤◌, ◌<◌}
 use native.Mathlib.Nat.{add-suc, zero-add}
 use native.Mathlib.Numerals.{add-one}
 use native.Mathlib.Omega.{arith}
-use lib.ListN.{length, take, drop, get_or, set, length-drop, length-append, length-set, drop_of_length-le, get_or-append}
-use lib.Seq.{paste, paste-suc, drop-paste, get_or-drop, get_or-take, length-take-le, take-suc, drop-cons, set_at, append_snoc, sets-eq, drop-drop, take-length, take_all, drop_at}
+use lib.ListN.{length, take, drop, get_or, set, length-drop, length-append, drop_of_length-le, get_or-append}
+use lib.Seq.{paste, paste-suc, drop-paste, get_or-drop, get_or-take, length-take-le, take-suc, drop-cons, set_at, append_snoc, drop-drop, take-length, take_all, drop_at}
 use Rattle.page.specs.Edits.{moved, spliced}
 
 -- past what was pasted the list is as it was
@@ -69,24 +69,21 @@ right-step p from to j m h hl =
     ∙ ap (λ (l : List ℕ). take (to + j) p ++ l ++ Y) (sym there)
     ∙ ap (λ (k : ℕ). take (to + j) p ++ take (m + 1) (drop (from + j) p) ++ drop k p) (sym past)
 
--- a record's bytes, stored one after the other
+-- a record's bytes, stored one part after the other
 pub record_is : (p t : List ℕ) (a b c : ℕ) → length t + 4 ≤ length p
-    → set (paste (set (set (set p 0 a) 1 b) 2 c) 3 t (length t)) (3 + length t) 13 ≡ (a ∷ (b ∷ (c ∷ (t ++ (13 ∷ []))))) ++ drop (length t + 4) p
+    → set (paste (set ((a ∷ (b ∷ [])) ++ drop 2 p) 2 c) 3 t (length t)) (3 + length t) 13 ≡ (a ∷ (b ∷ (c ∷ (t ++ (13 ∷ []))))) ++ drop (length t + 4) p
 record_is p t a b c h =
     let n : ℕ = length t in
     let Q : List ℕ = a ∷ (b ∷ (c ∷ drop 3 p)) in
     let hl : 3 + n < length p = omega arith in
     let e : 3 + n + 1 ≡ n + 4 = omega arith in
-    let stored : set (set (set p 0 a) 1 b) 2 c ≡ Q = sets-eq (a ∷ (b ∷ (c ∷ []))) p 0 (omega arith) in
+    let stored : set ((a ∷ (b ∷ [])) ++ drop 2 p) 2 c ≡ Q = ap (λ (l : List ℕ). set ((a ∷ (b ∷ [])) ++ l) 2 c) (drop-cons p 2 0 (omega arith)) in
     let rest : drop (3 + n) Q ≡ get_or p (3 + n) 0 ∷ drop (n + 4) p =
     sym (drop-drop n 3 Q) ∙ drop-drop n 3 p ∙ drop-cons p (3 + n) 0 hl ∙ ap (λ (k : ℕ). get_or p (3 + n) 0 ∷ drop k p) (sym (add-one (3 + n)) ∙ e) in
     ap (λ (l : List ℕ). set (paste l 3 t n) (3 + n) 13) stored
     ∙ (λ i. set ((a ∷ (b ∷ (c ∷ take-length t i))) ++ rest i) (3 + n) 13)
     ∙ set_at (a ∷ (b ∷ (c ∷ t))) (get_or p (3 + n) 0) (drop (n + 4) p) 13 (3 + n) (omega (arith, length-append (a ∷ (b ∷ (c ∷ []))) t))
     ∙ ap (λ (l : List ℕ). a ∷ (b ∷ (c ∷ l))) (sym (append_snoc t 13 (drop (n + 4) p)))
-
-pub stored-length : (p : List ℕ) (a b c : ℕ) → length (set (set (set p 0 a) 1 b) 2 c) ≡ length p
-stored-length p a b c = simp length-set
 
 -- what lies from the place of a paste on
 pub drop-pasted : (d s : List ℕ) (at n : ℕ) → at ≤ length d → drop at (paste d at s n) ≡ take n s ++ drop (at + n) d

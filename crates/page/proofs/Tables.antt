@@ -97,7 +97,7 @@ positions-append at (r ∷ rs) rest =
     let e : at + size r + span_of rs ≡ at + (size r + span_of rs) = omega arith in
     ap (λ (l : List ℕ). at ∷ l) (positions-append (at + size r) rs rest ∙ ap (λ (n : ℕ). positions_from (at + size r) rs ++ positions_from n rest) e)
 
-positions-at : (at k : ℕ) (rs : List Stored) → k < length rs → get_or (positions_from at rs) k 0 ≡ at + span_of (take k rs)
+pub positions-at : (at k : ℕ) (rs : List Stored) → k < length rs → get_or (positions_from at rs) k 0 ≡ at + span_of (take k rs)
 positions-at at k [] h = absurd (omega arith)
 positions-at at zero (r ∷ rs) h = sym (add-zero at)
 positions-at at (suc k) (r ∷ rs) h = positions-at (at + size r) k rs (omega arith) ∙ omega arith

@@ -1,6 +1,6 @@
 -- The records of a page, one step at a time: what the walk by the length bytes meets, with no bound on the steps to carry.
 -- Assumes nothing.
-use Prim.Native.Nat.{ℕ, zero, suc, ◌+◌, ◌-◌, ◌≤◌, ◌<◌}
+use Prim.Native.Nat.{ℕ, zero, suc, ◌+◌, ◌-◌, ◌≤◌, ◌<◌, min}
 use mathlib.Core.Path.{◌≡◌, refl, sym, ap, ◌∙◌}
 use mathlib.Core.Bool.{Bool, true, false, not, ◌&&◌, ◌||◌, and-false, true≢false}
 use mathlib.Core.List.{List, [], ◌∷◌}
@@ -11,7 +11,9 @@ use lib.Seq.{length-take-le, take_all, drop-drop, get_or-drop}
 use lib.Dec.{ltb, leb, eqb}
 use borrow.Author.Tests.{ltb-true, ltb-false, leb-true, leb-false, le-leb, lt-leb}
 use Rattle.nibl.specs.Page.{Stored, is_end, length_at, records_n, records_of, size}
-use Rattle.page.specs.Walk.{stops_at, record_at, size_at, cut}
+use Rattle.std.specs.Prelude.{Option, Some, None}
+use Rattle.std.specs.Option.{unwrap_or}
+use Rattle.page.specs.Walk.{Sizes, Steps, stops_at, record_at, size_at, cut}
 
 -- a test holds or fails: what follows in both cases is so
 pub by_cases : {P : Type 0} (t : Bool) → (t ≡ true → P) → (t ≡ false → P) → P
@@ -78,10 +80,13 @@ module _ (q : List ℕ) (e : stops_at q ≡ false) where
       let f : length (drop 3 q) ≤ length_at q - 4 = omega (arith, length-drop 3 q) in
       size_is ∙ omega (arith, ap length (take_all (length_at q - 4) (drop 3 q) f), length-drop 3 q)
 
-  pub size-most : size_at q ≤ length q + 1
-  size-most =
+  pub size_least : size_at q ≡ min (length_at q) (length q + 1)
+  size_least =
       by_cases (leb (length_at q) (length q)) (λ f. let g = leb-true (length_at q) (length q) f in omega (arith, size-whole (omega arith)))
       (λ f. let g = leb-false (length_at q) (length q) f in omega (arith, size-cut g))
+
+  pub size-most : size_at q ≤ length q + 1
+  size-most = omega (arith, size_least)
 
   pub drop-size : drop (length_at q) q ≡ drop (size_at q) q
   drop-size =
@@ -213,3 +218,15 @@ module _ (p : List ℕ) where
   -- where the walk ends there are no more records
   pub stops : (at : ℕ) → not (stops_at (drop at p)) ≡ false → records_of (drop at p) ≡ []
   stops at h = stop (drop at p) (not-false (stops_at (drop at p)) h)
+
+-- what a step of the walk says
+pub stepped : {page p later : List ℕ} {at next i n : ℕ} → p ≡ page → Steps p at (Some (i, n)) later next → Met page at n
+stepped {page = page} {at = at} {n = n} e s = met page at n (s.1.1.0.0 ∙ ap (λ (q : List ℕ). size_at (drop at q)) e) s.1.1.0.1
+
+pub stayed : {page p later : List ℕ} {at next : ℕ} → p ≡ page → Steps p at None later next → records_of (drop at page) ≡ []
+stayed {page = page} {at = at} e s = past page at 0 (sym s.1.0 ∙ ap (λ (q : List ℕ). size_at (drop at q)) e) (omega arith)
+
+-- the number that an answer for the size says, where nothing says 0
+pub size-said : (q : List ℕ) (r : Option ℕ) → Sizes q r → unwrap_or r 0 ≡ size_at q
+size-said q None h = sym h
+size-said q (Some n) h = h.0

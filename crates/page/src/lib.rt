@@ -2,10 +2,11 @@
 // Any bytes whatever are looked at safely; what is said of a good page is said in proofs/.
 #![tactic(auto)]
 
-ghost use Rattle.std.specs.Prelude.{◌+◌, ◌-◌, ◌≤◌, ◌<◌, ◌&&◌, not, ◌++◌, leb, eqb, ◌≡◌, length, get_or, drop, if◌then◌else◌};
+ghost use Rattle.std.specs.Prelude.{◌+◌, ◌-◌, ◌≤◌, ◌<◌, ◌&&◌, not, ◌++◌, leb, eqb, ◌≡◌, ◌==◌, length, get_or, drop, if◌then◌else◌};
 ghost use Rattle.std.proofs.Math.Option.{some};
-ghost use Rattle.std.proofs.Math.Seq.{paste};
-ghost use Rattle.nibl.specs.Bytes.{byte};
+ghost use Rattle.std.specs.List.{position as first_place};
+ghost use Rattle.std.specs.Iterator.{at_most};
+ghost use Rattle.nibl.specs.Bytes.{byte, byte_cr};
 ghost use Rattle.nibl.specs.Page.{record_bytes, is_end, find, line_at, length_at, line_of, used, used_by, records_of};
 ghost use Rattle.nibl.specs.Record.{position, position_of};
 ghost use Rattle.nibl.specs.Runs.{line_from, text_from};
@@ -13,10 +14,10 @@ ghost use Rattle.nibl.specs.Calls.{listed};
 ghost use Rattle.value.specs.Writes.{Writes};
 ghost use Rattle.page.specs.Edits.{Seated, Seatable, moved, can_move, spliced, changed, store_at_seat, delete_at, new_of};
 ghost use Rattle.page.specs.Listing.{shown, listing, Here};
-ghost use Rattle.page.specs.Walk.{stops_at, size_at, record_at, cut, reached, found_at, begin_of, text_of};
+ghost use Rattle.page.specs.Walk.{Sizes, Steps, stops_at, size_at, record_at, cut, reached, found_at, begin_of, text_of};
 
 use nibl::{COLON, CR, END_MARK, LF, LineNumber, Onward, Place};
-use value::{Wrote, digit_count, has_room, write_digits, write_item};
+use value::{digit_count, has_room, write_digits, write_item};
 
 // A record's bytes before its text: the number and the length; and all but the text: those and the CR.
 pub const HEAD: usize = 3;
@@ -28,21 +29,8 @@ pub const LEAST: usize = 5;
 
 const MOST: usize = 255;
 
-// Where a run goes on to come to a line: at the program's start, or after the place that ends the record before it.
-#[derive(Clone, Copy)]
-pub enum FoundLine {
-    Nothing,
-    At(Onward),
-}
-
-// Where the next text begins, if there is one.
-#[derive(Clone, Copy)]
-pub enum Begins {
-    Nowhere,
-    At(usize),
-}
-
-// Where the running statement is: in the page, from a position on, or in the typed line.
+// Where the running statement is: in the page, from a position on, or in the typed line. It is no Option: document 01 names the form, one
+// function that is given both slices.
 #[derive(Clone, Copy)]
 pub enum Where {
     Page(usize),
@@ -64,18 +52,11 @@ pub enum Edited {
     Absent,
 }
 
-// How a listing ended: all lines are out, or the next one does not fit; and the position after those that are out.
-#[derive(Clone, Copy)]
-pub enum Listed {
-    All(usize),
-    Full(usize),
-}
-
 // A byte, and 0 past the end.
 fn byte_at(s: &[u8], i: usize) -> u8
     ensures { result ≡ get_or s.now i 0 }
 {
-    if i < s.len() { s[i] } else { 0 }
+    s.get(i).copied().unwrap_or(0)
 }
 
 // Whether the end mark stands at `at`, where two bytes stand.
@@ -83,10 +64,7 @@ fn is_end_mark(page: &[u8], at: usize) -> bool
     requires { at + 2 ≤ length page.now }
     ensures { result ≡ is_end (drop at page.now) }
 {
-    if page[at] != END_MARK {
-        return false;
-    }
-    page[at + 1] == END_MARK
+    page[at] == END_MARK && page[at + 1] == END_MARK
 }
 
 // Whether the end mark stands at `at`.
@@ -94,13 +72,7 @@ pub fn is_end(page: &[u8], at: usize) -> bool
     ensures { result ≡ is_end (drop at page.now) }
 {
     let n = page.len();
-    if n <= at {
-        return false;
-    }
-    if n - at < 2 {
-        return false;
-    }
-    is_end_mark(page, at)
+    at < n && 2 <= n - at && is_end_mark(page, at)
 }
 
 // Whether a record stands at `at`.
@@ -108,16 +80,7 @@ fn has_record(page: &[u8], at: usize) -> bool
     ensures { result ≡ not (stops_at (drop at page.now)) }
 {
     let n = page.len();
-    if n <= at {
-        return false;
-    }
-    if n - at < HEAD {
-        return false;
-    }
-    if is_end_mark(page, at) {
-        return false;
-    }
-    LEAST <= length_at(page, at)
+    at < n && HEAD <= n - at && !is_end_mark(page, at) && LEAST <= length_at(page, at)
 }
 
 // The length byte of the record at `at`.
@@ -125,33 +88,62 @@ fn length_at(page: &[u8], at: usize) -> usize
     requires { at + 3 ≤ length page.now }
     ensures { result ≡ length_at (drop at page.now) }
 {
-    page[at + 2] as usize
+    usize::from(page[at + 2])
 }
 
-// How many bytes the record at `at` has, and 0 where none begins. One that the page's end cuts off counts as if its CR came next.
-pub fn size_at(page: &[u8], at: usize) -> usize
-    ensures { result ≡ size_at (drop at page.now) }
+// How many bytes the record at `at` has, if one begins. One that the page's end cuts off counts as if its CR came next.
+pub fn size_at(page: &[u8], at: usize) -> Option<usize>
+    ensures { Sizes (drop at page.now) result }
 {
     if !has_record(page, at) {
-        return 0;
+        return None;
     }
-    let size = length_at(page, at);
-    let left = page.len() - at;
-    if left < size {
-        return left + 1;
+    Some(length_at(page, at).min(page.len() - at + 1))
+}
+
+// The records of a page from a position on: where each stands, and how many bytes it has.
+#[derive(Drop)]
+pub struct Records<'a> {
+    page: &'a [u8],
+    at: usize,
+}
+
+impl<'a> Iterator for Records<'a> {
+    type Item = (usize, usize);
+
+    ghost next_gives = { λ s r t. Steps s.page.now s.at r t.page.now t.at };
+
+    ghost remaining = { λ s. at_most (length s.page.now + 1 - s.at) };
+
+    fn next(&mut self) -> Option<(usize, usize)> {
+        let at = self.at;
+        let size = size_at(self.page, at)?;
+        self.at = at + size;
+        Some((at, size))
     }
-    size
+}
+
+impl<'a> Records<'a> {
+    // All of them.
+    pub fn of(page: &'a [u8]) -> Records<'a>
+        ensures { (result.page.now ≡ page.now) × (result.at ≡ 0) }
+    {
+        Records { page, at: 0 }
+    }
+
+    // Those from a position on.
+    pub fn onward(page: &'a [u8], at: usize) -> Records<'a>
+        ensures { (result.page.now ≡ page.now) × (result.at ≡ at) }
+    {
+        Records { page, at }
+    }
 }
 
 // Where a walk by the length bytes is: past a record that the page's end cuts off it is behind the CR that would come next.
 fn reach(page: &[u8], at: usize) -> usize
     ensures { result ≡ cut page.now at }
 {
-    let n = page.len();
-    if at <= n {
-        return at;
-    }
-    n + 1
+    at.min(page.len() + 1)
 }
 
 // The number of the record at `at`.
@@ -161,9 +153,7 @@ pub fn line_at(page: &[u8], at: usize) -> u16
     if page.len() <= at {
         return 0;
     }
-    let high = byte_at(page, at) as u16;
-    let low = byte_at(page, at + 1) as u16;
-    high * 256 + low
+    u16::from_be_bytes([byte_at(page, at), byte_at(page, at + 1)])
 }
 
 // The same where a record stands: its bytes are there, and the walks need not ask again.
@@ -171,9 +161,7 @@ pub fn number_at(page: &[u8], at: usize) -> u16
     requires { at + 2 ≤ length page.now }
     ensures { result ≡ line_at (drop at page.now) }
 {
-    let high = page[at] as u16;
-    let low = page[at + 1] as u16;
-    high * 256 + low
+    u16::from_be_bytes([page[at], page[at + 1]])
 }
 
 // The used bytes from a record boundary on, the end mark with them, and those before it.
@@ -181,6 +169,7 @@ fn used_from(page: &[u8], from: usize) -> usize
     requires { from ≤ length page.now + 1 }
     ensures { result ≡ from + used_by (records_of (drop from page.now)) }
 {
+    // By hand: with `Records`, which asks of each record whether the page's end cuts it off, this walk was a fifth slower.
     let mut at = from;
     while has_record(page, at) {
         at += length_at(page, at);
@@ -196,23 +185,24 @@ pub fn used_bytes(page: &[u8]) -> usize
 }
 
 // A record's position, by the place before it. Past what a place can name there is none.
-pub fn found_at(at: usize) -> FoundLine
+pub fn found_at(at: usize) -> Option<Onward>
     ensures { found_at result ≡ reached (some at) }
 {
     if at == 0 {
-        return FoundLine::At(Onward::Start);
+        return Some(Onward::Start);
     }
     if at < 65536 {
-        return FoundLine::At(Onward::After(Place::at(at - 1)));
+        return Some(Onward::After(Place::at(at - 1)));
     }
-    FoundLine::Nothing
+    None
 }
 
 // The walk to a line, which the line finder of crate `table` takes where no table is lent.
-pub fn find_line(page: &[u8], number: LineNumber) -> FoundLine
+pub fn find_line(page: &[u8], number: LineNumber) -> Option<Onward>
     ensures { found_at result ≡ reached (find page.now number.0) }
 {
     let n = number.0;
+    // By hand: with `Records`, which asks of each record whether the page's end cuts it off, this walk was a fifth slower.
     let mut at: usize = 0;
     while has_record(page, at) {
         if number_at(page, at) == n {
@@ -220,21 +210,17 @@ pub fn find_line(page: &[u8], number: LineNumber) -> FoundLine
         }
         at += length_at(page, at);
     }
-    FoundLine::Nothing
+    None
 }
 
 // The line of the record that the position p lies in; 0 past the records.
 fn line_around(page: &[u8], p: usize) -> LineNumber
     ensures { result.0 ≡ line_of page.now p }
 {
-    let mut at: usize = 0;
-    let mut size = size_at(page, at);
-    while 0 < size {
+    for (at, size) in Records::of(page) {
         if p - at < size {
             return LineNumber(line_at(page, at));
         }
-        at += size;
-        size = size_at(page, at);
     }
     LineNumber(0)
 }
@@ -246,29 +232,19 @@ pub fn line_of(page: &[u8], place: Place) -> LineNumber
     line_around(page, place.position())
 }
 
-// Where the text from `at` on ends: at the next CR, or at the end.
-fn text_end(s: &[u8], at: usize) -> usize
-    ensures { result ≡ at + length (line_from s.now at) }
+// Where the first CR stands.
+fn find_cr(s: &[u8]) -> Option<usize>
+    ensures { result ≡ first_place (λ b. b == byte_cr) s.now }
 {
-    let mut e = at;
-    while e < s.len() {
-        if s[e] == CR {
-            return e;
-        }
-        e += 1;
-    }
-    e
+    s.iter().position(|b| *b == CR)
 }
 
 // The text from `at` on, up to the next CR.
 fn line_from<'a>(s: &'a [u8], at: usize) -> &'a [u8]
     ensures { result.now ≡ line_from s.now at }
 {
-    if s.len() <= at {
-        return &s[..0];
-    }
-    let e = text_end(s, at);
-    &s[at..e]
+    let rest = &s[at.min(s.len())..];
+    &rest[..find_cr(rest).unwrap_or(rest.len())]
 }
 
 // The text of the running statement: a part of the page, or of the typed line.
@@ -285,24 +261,21 @@ pub fn running<'a>(page: &'a [u8], line: &'a [u8], at: Where) -> &'a [u8]
 fn after_colon(page: &[u8], at: usize) -> bool
     ensures { result ≡ (leb 1 at && eqb (get_or page.now (at - 1) 0) (byte ":")) }
 {
-    if at < 1 {
-        return false;
-    }
-    byte_at(page, at - 1) == COLON
+    0 < at && byte_at(page, at - 1) == COLON
 }
 
 // Where the text begins that is next.
-pub fn text_from(page: &[u8], from: Onward) -> Begins
+pub fn text_from(page: &[u8], from: Onward) -> Option<usize>
     ensures { begin_of result ≡ text_from page.now (position_of from) }
 {
     let at = from.position();
     if after_colon(page, at) {
-        return Begins::At(at);
+        return Some(at);
     }
     if is_end(page, at) {
-        return Begins::Nowhere;
+        return None;
     }
-    Begins::At(at + HEAD)
+    Some(at + HEAD)
 }
 
 // The walk to a line's seat.
@@ -310,20 +283,23 @@ pub fn find_seat(page: &[u8], number: LineNumber) -> Seat
     ensures { Seated page.now number.0 result }
 {
     let n = number.0;
+    // By hand, as `find_line` walks.
     let mut at: usize = 0;
     while has_record(page, at) {
         let line = number_at(page, at);
         if line == n {
-            let size = size_at(page, at);
-            return Seat { at: at, gone: size };
+            let size = size_at(page, at).unwrap_or(0);
+            return Seat { at, gone: size };
         }
         if n < line {
-            return Seat { at: at, gone: 0 };
+            return Seat { at, gone: 0 };
         }
         at += length_at(page, at);
     }
-    let end = reach(page, at);
-    Seat { at: end, gone: 0 }
+    Seat {
+        at: reach(page, at),
+        gone: 0,
+    }
 }
 
 // n bytes go to a lower place, the first one first.
@@ -331,10 +307,8 @@ fn move_left(s: &mut [u8], from: usize, to: usize, n: usize)
     requires { (to ≤ from) × (from + n ≤ length s.old) }
     ensures { s.new ≡ moved s.old from to n }
 {
-    let mut i: usize = 0;
-    while i < n {
+    for i in 0..n {
         s[to + i] = s[from + i];
-        i += 1;
     }
 }
 
@@ -343,10 +317,8 @@ fn move_right(s: &mut [u8], from: usize, to: usize, n: usize)
     requires { (from ≤ to) × (to + n ≤ length s.old) }
     ensures { s.new ≡ moved s.old from to n }
 {
-    let mut j = n;
-    while 0 < j {
-        j -= 1;
-        s[to + j] = s[from + j];
+    for i in (0..n).rev() {
+        s[to + i] = s[from + i];
     }
 }
 
@@ -368,29 +340,11 @@ pub fn move_bytes(s: &mut [u8], from: usize, to: usize, n: usize) -> bool
     ensures s_after { s.new ≡ (if can_move s.old from to n then moved s.old from to n else s.old) }
 {
     let room = s.len();
-    if room < n {
-        return false;
-    }
-    if room - n < from {
-        return false;
-    }
-    if room - n < to {
+    if room < n || room - n < from.max(to) {
         return false;
     }
     shift(s, from, to, n);
     true
-}
-
-// A text goes into a slice at a position.
-fn put_text(s: &mut [u8], at: usize, text: &[u8])
-    requires { at + length text.now ≤ length s.old }
-    ensures { s.new ≡ paste s.old at text.now (length text.now) }
-{
-    let mut i: usize = 0;
-    while i < text.len() {
-        s[at + i] = text[i];
-        i += 1;
-    }
 }
 
 // The record writer: a record goes to the front of a slice.
@@ -399,11 +353,9 @@ fn put_record(s: &mut [u8], number: LineNumber, text: &[u8])
     ensures { s.new ≡ record_bytes (record { line = number.0; text = text.now }) ++ drop (length text.now + 4) s.old }
 {
     let n = text.len();
-    let x = number.0;
-    s[0] = (x / 256) as u8;
-    s[1] = (x % 256) as u8;
+    s[..2].copy_from_slice(&number.0.to_be_bytes());
     s[2] = (n + FRAME) as u8;
-    put_text(s, HEAD, text);
+    s[HEAD..HEAD + n].copy_from_slice(text);
     s[HEAD + n] = CR;
 }
 
@@ -422,23 +374,14 @@ pub fn store_at(page: &mut [u8], seat: Seat, number: LineNumber, text: &[u8]) ->
     requires { Seatable page.old seat }
     ensures { changed page.new result ≡ store_at_seat page.old seat number.0 text.now }
 {
-    let at = seat.at;
-    let gone = seat.gone;
+    let Seat { at, gone } = seat;
     let top = used_from(page, at);
-    let room = page.len();
-    if room < top {
-        return Edited::NoRoom;
-    }
     let size = text.len() + FRAME;
-    if MOST < size {
+    if page.len() < top || MOST < size || page.len() < top - gone + size {
         return Edited::NoRoom;
     }
-    let kept = top - gone;
-    if kept + size <= room {
-        put_in(&mut page[at..], gone, kept - at, number, text);
-        return Edited::Done;
-    }
-    Edited::NoRoom
+    put_in(&mut page[at..], gone, top - gone - at, number, text);
+    Edited::Done
 }
 
 // The record at a line's seat goes.
@@ -446,18 +389,15 @@ pub fn delete_at(page: &mut [u8], seat: Seat) -> Edited
     requires { Seatable page.old seat }
     ensures { changed page.new result ≡ delete_at page.old seat }
 {
-    let at = seat.at;
-    let gone = seat.gone;
-    if gone < 1 {
+    let Seat { at, gone } = seat;
+    if gone == 0 {
         return Edited::Absent;
     }
     let top = used_from(page, at);
-    let room = page.len();
-    if room < top {
+    if page.len() < top {
         return Edited::NoRoom;
     }
-    let left = top - at;
-    shift(&mut page[at..], gone, 0, left - gone);
+    shift(&mut page[at..], gone, 0, top - at - gone);
     Edited::Done
 }
 
@@ -474,7 +414,7 @@ pub fn new_page(page: &mut [u8]) -> Edited
 }
 
 // The record of `size` bytes at `at` as LIST writes it: digits, text, CR, LF.
-fn list_line(page: &[u8], at: usize, size: usize, output: &mut [u8], pos: usize) -> Wrote
+fn list_line(page: &[u8], at: usize, size: usize, output: &mut [u8], pos: usize) -> Option<usize>
     requires { (0 < size) × (size ≡ size_at (drop at page.now)) }
     ensures { Writes output.old pos (listed (record_at (drop at page.now))) result output.new }
 {
@@ -482,7 +422,7 @@ fn list_line(page: &[u8], at: usize, size: usize, output: &mut [u8], pos: usize)
     let count = digit_count(line);
     let n = count + size - 2;
     if !has_room(output.len(), pos, n) {
-        return Wrote::Full;
+        return None;
     }
     write_digits(output, pos, line);
     let a = pos + count;
@@ -490,35 +430,40 @@ fn list_line(page: &[u8], at: usize, size: usize, output: &mut [u8], pos: usize)
     let e = a + size - FRAME;
     output[e] = CR;
     output[e + 1] = LF;
-    Wrote::To(e + 2)
+    Some(e + 2)
 }
 
 // A record below the number is passed over.
-fn list_here(page: &[u8], at: usize, size: usize, n: u16, output: &mut [u8], pos: usize) -> Wrote
+fn list_here(
+    page: &[u8],
+    at: usize,
+    size: usize,
+    n: u16,
+    output: &mut [u8],
+    pos: usize,
+) -> Option<usize>
     requires { (0 < size) × (size ≡ size_at (drop at page.now)) }
     ensures { Here n (record_at (drop at page.now)) output.old pos result output.new }
 {
     if line_at(page, at) < n {
-        return Wrote::To(pos);
+        return Some(pos);
     }
     list_line(page, at, size, output, pos)
 }
 
 // LIST: each line from a number on, whole or not at all.
-pub fn list_from(page: &[u8], number: LineNumber, output: &mut [u8], from: usize) -> Listed
+pub fn list_from(
+    page: &[u8],
+    number: LineNumber,
+    output: &mut [u8],
+    from: usize,
+) -> Result<usize, usize>
     ensures { shown output.new result ≡ listing number.0 (records_of page.now) output.old from }
 {
     let n = number.0;
     let mut pos = from;
-    let mut at: usize = 0;
-    let mut size = size_at(page, at);
-    while 0 < size {
-        let Wrote::To(next) = list_here(page, at, size, n, output, pos) else {
-            return Listed::Full(pos);
-        };
-        pos = next;
-        at += size;
-        size = size_at(page, at);
+    for (at, size) in Records::of(page) {
+        pos = list_here(page, at, size, n, output, pos).ok_or(pos)?;
     }
-    Listed::All(pos)
+    Ok(pos)
 }

@@ -1,6 +1,9 @@
 -- What the readers' answers say of a record's text, for which there is room.
 -- Assumes nothing.
 use Rattle.std.specs.Prelude.{if◌then◌else◌}
+use Rattle.std.specs.Prelude.{Result, Ok, Err}
+use Rattle.reader.specs.declared.Unread.{Unread}
+use Rattle.reader.specs.declared.Unread.TheVariants as unread
 use Prim.Native.Nat.{ℕ}
 use mathlib.Core.Path.{◌≡◌, refl}
 use mathlib.Core.Bool.{Bool, true, false}
@@ -13,10 +16,6 @@ use Rattle.nibl.specs.Tree.{Member}
 use Rattle.nibl.specs.Page.{has_reading}
 use Rattle.reader.specs.Answers.{has_room}
 use Rattle.line.specs.Answers.{list_of}
-use Rattle.line.specs.declared.ListRead.{ListRead}
-use Rattle.line.specs.declared.ListRead.TheVariants as list
-use Rattle.line.specs.declared.EndRead.{EndRead}
-use Rattle.line.specs.declared.EndRead.TheVariants as end
 use Rattle.places.specs.Whole.{Roomy}
 
 pub with-room : {A : Type 0} (text ops : List ℕ) (x y : A) → Roomy text ops → (if has_room text ops then x else y) ≡ x
@@ -25,15 +24,15 @@ with-room text ops x y r =
     let s = r.short in
     rw (le-leb (length text) (length ops) h, le-leb (length text) 65535 (omega arith))
 
-abbrev pub says_reads : ListRead → Bool
-says_reads list.Reads = true
-says_reads list.NoReading = false
-says_reads list.NoRoom = false
+abbrev pub says_reads : Result (Unit {0}) Unread → Bool
+says_reads (Ok tt) = true
+says_reads (Err unread.NoReading) = false
+says_reads (Err unread.NoRoom) = false
 
 pub reads-said : (o : Option (List Member)) → says_reads (list_of o) ≡ has_reading o
 reads-said none = refl
 reads-said (some ms) = refl
 
-abbrev pub says_end : EndRead → Bool
-says_end (end.Is b) = b
-says_end end.NoRoom = false
+abbrev pub says_end : Result Bool Unread → Bool
+says_end (Ok b) = b
+says_end (Err u) = false

@@ -1,16 +1,17 @@
 -- The page check one record at a time: what a whole record is by its length byte, when it may stand in a good page, and
 -- the walk along good records with no bound on the steps to carry.
 -- Assumes nothing.
-use Rattle.std.specs.Prelude.{if◌then◌else◌}
+use Rattle.std.specs.Prelude.{Some, None, ◌&&◌}
+use Rattle.std.proofs.lemmas.Option.{cond_some, none-some}
 use Prim.Native.Nat.{ℕ, zero, suc, ◌+◌, ◌-◌, ◌≤◌, ◌<◌}
 use mathlib.Core.Path.{◌≡◌, refl, sym, ap, ◌∙◌}
 use mathlib.Core.Bool.{Bool, true, false, not, and-true, and-false}
-use mathlib.Core.List.{List, [], ◌∷◌}
+use mathlib.Core.List.{List}
 use native.Mathlib.Omega.{arith}
 use lib.ListN.{length, get_or, take, drop, length-drop}
 use lib.Seq.{get_or-drop, drop-drop}
-use lib.Dec.{leb}
-use borrow.Author.Tests.{le-leb, lt-leb, eq-eqb, ne_eqb, leb-true, leb-false, eqb-true}
+use lib.Dec.{leb, eqb}
+use borrow.Author.Tests.{leb-true}
 use Rattle.nibl.specs.Bytes.{is_digit, starts}
 use Rattle.nibl.specs.found.Read.{reading}
 use Rattle.nibl.specs.Values.{digits}
@@ -21,126 +22,69 @@ use Rattle.page.proofs.Program.{record-known, both}
 use Rattle.places.specs.Whole.{is_whole_record, whole_size, record_size}
 use Rattle.places.specs.Ends.{end_in}
 
--- a text that a page may hold
-pub starts_none : (p : ℕ → Bool) (t : List ℕ) → length t < 1 → starts p t ≡ false
-starts_none p [] h = refl
-starts_none p (b ∷ t) h = absurd (omega arith)
+-- a text that a page may hold, its tests in the order of the code
+reorder : (a b c : Bool) → (a && (b && c)) ≡ (c && (b && a))
+reorder false b c = sym (ap (λ (d : Bool). c && d) (and-false b) ∙ and-false c)
+reorder true false c = sym (and-false c)
+reorder true true c = sym (and-true c)
 
-pub starts_first : (p : ℕ → Bool) (t : List ℕ) → 1 ≤ length t → starts p t ≡ p (get_or t 0 0)
-starts_first p [] h = absurd (omega arith)
-starts_first p (b ∷ t) h = refl
-
-module _ (lim n : ℕ) (t : List ℕ) where
-  pub storable-long : lim < length t + length (digits n) → is_storable lim n t ≡ false
-  unfolding is_storable
-  storable-long h = rw (lt-leb (length t + length (digits n)) lim h, and-false (not (starts is_digit t))) (and-false (has_reading (reading t)))
-
-  pub storable-digit : starts is_digit t ≡ true → is_storable lim n t ≡ false
-  unfolding is_storable
-  storable-digit e = rw e (and-false (has_reading (reading t)))
-
-  pub storable-short : length t + length (digits n) ≤ lim → starts is_digit t ≡ false → is_storable lim n t ≡ has_reading (reading t)
-  unfolding is_storable
-  storable-short h e = rw (e, le-leb (length t + length (digits n)) lim h) (and-true (has_reading (reading t)))
+pub storable-tests : (lim n : ℕ) (t : List ℕ) → is_storable lim n t ≡ (leb (length t + length (digits n)) lim && (not (starts is_digit t) && has_reading (reading t)))
+unfolding is_storable
+storable-tests lim n t = reorder (has_reading (reading t)) (not (starts is_digit t)) (leb (length t + length (digits n)) lim)
 
 -- the bytes of the record at a position
 module _ (p : List ℕ) (at : ℕ) where
   pub byte-length : length_at (drop at p) ≡ get_or p (at + 2) 0
   byte-length = get_or-drop at p 2 0
 
-  pub byte_last : 1 ≤ get_or p (at + 2) 0 → get_or (drop at p) (length_at (drop at p) - 1) 0 ≡ get_or p (at + get_or p (at + 2) 0 - 1) 0
-  byte_last h =
-      let e : at + (length_at (drop at p) - 1) ≡ at + get_or p (at + 2) 0 - 1 = omega (arith, byte-length) in
-      get_or-drop at p (length_at (drop at p) - 1) 0 ∙ ap (λ (i : ℕ). get_or p i 0) e
-
-  pub text-is : (n : ℕ) → n + 4 ≡ length_at (drop at p) → take (at + 3 + n - (at + 3)) (drop (at + 3) p) ≡ text_at (drop at p)
+  pub text-is : (n : ℕ) → n ≡ length_at (drop at p) → take (at + n - 1 - (at + 3)) (drop (at + 3) p) ≡ text_at (drop at p)
   text-is n h =
-      let e : at + 3 + n - (at + 3) ≡ length_at (drop at p) - 4 = omega arith in
+      let e : at + n - 1 - (at + 3) ≡ length_at (drop at p) - 4 = omega arith in
       λ i. take (e i) (sym (drop-drop 3 at p) i)
 
 -- a whole record
 module _ (q : List ℕ) where
-  pub whole-yes : 5 ≤ length_at q → length_at q ≤ length q → get_or q (length_at q - 1) 0 ≡ 13 → whole_size q ≡ length_at q
-  unfolding whole_size
-  whole-yes h l e = rw (le-leb 5 (length_at q) h, le-leb (length_at q) (length q) l, e)
-
-  pub whole-small : length_at q < 5 → whole_size q ≡ 0
-  unfolding whole_size
-  whole-small h = rw (lt-leb 5 (length_at q) h)
-
-  pub whole-cut : length q < length_at q → whole_size q ≡ 0
-  unfolding whole_size
-  whole-cut h = rw (lt-leb (length_at q) (length q) h, and-false (leb 5 (length_at q)))
-
-  pub whole_open : (get_or q (length_at q - 1) 0 ≡ 13 → ⊥) → whole_size q ≡ 0
-  unfolding whole_size
-  whole_open n =
-      rw (ne_eqb (get_or q (length_at q - 1) 0) 13 n, and-false (leb (length_at q) (length q)), and-false (leb 5 (length_at q)))
-
-  pub whole-short : length q < 5 → whole_size q ≡ 0
-  whole-short h = by_cases (leb 5 (length_at q)) (λ e. let l = leb-true 5 (length_at q) e in whole-cut (omega arith)) (λ e. whole-small (leb-false 5 (length_at q) e))
-
   -- what is known where one was found
-  pub record WholeRecord : Type 0 where
-    pub long : whole_size q ≡ length_at q
-    pub least : 5 ≤ length_at q
-    pub inside : length_at q ≤ length q
-    pub cr : get_or q (length_at q - 1) 0 ≡ 13
+  pub record WholeRecord (n : ℕ) : Type 0 where
+    pub long : n ≡ length_at q
+    pub least : 5 ≤ n
+    pub inside : n ≤ length q
+    pub whole : is_whole_record q ≡ true
 
-  pub whole-found : 0 < whole_size q → WholeRecord
-  unfolding whole_size
-  whole-found h =
-      by_cases (is_whole_record q)
-      (λ e.
-      let a = both (leb 5 (length_at q)) _ e in
+  pub whole-found : (n : ℕ) → whole_size q ≡ Some n → WholeRecord n
+  whole-found n h =
+      let e = cond_some (is_whole_record q) (length_at q) n h in
+      let a = both (leb 5 (length_at q)) _ e.0 in
       let b = both (leb (length_at q) (length q)) _ a.1 in
-      record { long = rw e; least = leb-true 5 (length_at q) a.0; inside = leb-true (length_at q) (length q) b.0; cr = eqb-true (get_or q (length_at q - 1) 0) 13 b.1 })
-      (λ e. absurd (omega (arith, rw e at h)))
+      let l = leb-true 5 (length_at q) a.0 in
+      let m = leb-true (length_at q) (length q) b.0 in
+      record { long = sym e.1; least = omega arith; inside = omega arith; whole = e.0 }
 
-  -- a record of a good page, of a number from low on
-  module _ (lim low : ℕ) where
-    below : line_at q < low → is_record lim low q ≡ false
-    unfolding is_record
-    below h = rw (lt-leb low (line_at q) h)
+-- the tests of a record of a good page, those of a whole record first
+regroup : (a b c d e f : Bool) → (a && (b && (c && (d && (e && f))))) ≡ ((c && (d && e)) && (a && (b && f)))
+regroup false b c d e f = sym (and-false (c && (d && e)))
+regroup true false c d e f = sym (and-false (c && (d && e)))
+regroup true true false d e f = refl
+regroup true true true false e f = refl
+regroup true true true true e f = refl
 
-    above : 32767 < line_at q → is_record lim low q ≡ false
-    unfolding is_record
-    above h = rw (lt-leb (line_at q) 32767 h) (and-false (leb low (line_at q)))
+module _ (lim low : ℕ) (q : List ℕ) where
+  pub record-tests : is_record lim low q ≡ (is_whole_record q && (leb low (line_at q) && (leb (line_at q) 32767 && is_storable lim (line_at q) (text_at q))))
+  unfolding is_record
+  record-tests = regroup (leb low (line_at q)) (leb (line_at q) 32767) (leb 5 (length_at q)) (leb (length_at q) (length q)) (eqb (get_or q (length_at q - 1) 0) 13) (is_storable lim (line_at q) (text_at q))
 
-    record-not : is_record lim low q ≡ false → record_size lim low q ≡ 0
-    unfolding record_size
-    record-not e = rw e
+  -- where one was found, and where none was
+  pub record_is : {n : ℕ} → record_size lim low q ≡ Some n → (is_record lim low q ≡ true) × (length_at q ≡ n)
+  record_is {n} h = cond_some (is_record lim low q) (length_at q) n h
 
-    pub record-open : whole_size q < 5 → record_size lim low q ≡ 0
-    record-open h =
-        record-not (by_cases (is_record lim low q)
-        (λ f. let k = record-known lim low q f in absurd (omega (arith, whole-yes k.1.1.0 k.1.1.1.0 k.1.1.1.1.0)))
-        (λ f. f))
-
-    pub record-below : line_at q < low → record_size lim low q ≡ 0
-    record-below h = record-not (below h)
-
-    pub record-above : 32767 < line_at q → record_size lim low q ≡ 0
-    record-above h = record-not (above h)
-
-    storable : WholeRecord → low ≤ line_at q → line_at q ≤ 32767 → is_record lim low q ≡ is_storable lim (line_at q) (text_at q)
-    unfolding is_record
-    storable f h l =
-        rw (le-leb low (line_at q) h, le-leb (line_at q) 32767 l, le-leb 5 (length_at q) f.least, le-leb (length_at q) (length q) f.inside, eq-eqb (get_or q (length_at q - 1) 0) 13 f.cr)
-
-    pub record-text : WholeRecord → low ≤ line_at q → line_at q ≤ 32767 → record_size lim low q ≡ (if is_storable lim (line_at q) (text_at q) then length_at q else 0)
-    unfolding record_size
-    record-text f h l = rw (storable f h l)
+  pub record_is_not : record_size lim low q ≡ None → is_record lim low q ≡ false
+  record_is_not h = by_cases (is_record lim low q) (λ e. absurd (none-some (length_at q) (sym (rw e at h)))) (λ e. e)
 
 -- the walk of the check
 module _ (lim : ℕ) where
   -- good from here on
   abbrev pub good_from : ℕ → List ℕ → Bool
   good_from low q = good_n lim (suc (length q)) low q
-
-  known : (low : ℕ) (q : List ℕ) → 0 < record_size lim low q → (is_record lim low q ≡ true) × (record_size lim low q ≡ length_at q)
-  unfolding record_size
-  known low q h = by_cases (is_record lim low q) (λ e. (e, rw e)) (λ e. absurd (omega (arith, rw e at h)))
 
   -- any bound above the length will do
   enough : (k m low : ℕ) (q : List ℕ) → length q < k → length q < m → good_n lim k low q ≡ good_n lim m low q
@@ -162,12 +106,9 @@ module _ (lim : ℕ) where
     unfolding good_n
     good-end e = rw (e, good_n)
 
-    pub good_none : is_end q ≡ false → record_size lim low q ≡ 0 → good_from low q ≡ false
-    unfolding good_n record_size
-    good_none e z =
-        by_cases (is_record lim low q)
-        (λ f. let r = record-known lim low q f in let five = r.1.1.0 in absurd (omega (arith, rw f at z)))
-        (λ f. rw (e, f, good_n))
+    pub good_none : is_end q ≡ false → record_size lim low q ≡ None → good_from low q ≡ false
+    unfolding good_n
+    good_none e z = rw (e, record_is_not lim low q z, good_n)
 
     -- a record that may stand here: the page is good if it is so from the next one on
     pub record NextRecord (n : ℕ) : Type 0 where
@@ -175,15 +116,15 @@ module _ (lim : ℕ) where
       pub inside : n ≤ length q
       pub good : good_from low q ≡ good_from (suc (line_at q)) (drop n q)
 
-    pub good-next : (n : ℕ) → is_end q ≡ false → n ≡ record_size lim low q → 0 < n → NextRecord n
+    pub good-next : {n : ℕ} → is_end q ≡ false → record_size lim low q ≡ Some n → NextRecord n
     unfolding good_n
-    good-next n e f h =
-        let k = known low q (omega arith) in
+    good-next {n} e f =
+        let k = record_is lim low q f in
         let r = record-known lim low q k.0 in
         let d = length-drop (length_at q) q in
         let five = r.1.1.0 in
         let whole = r.1.1.1.0 in
-        let is : n ≡ length_at q = f ∙ k.1 in
+        let is : n ≡ length_at q = sym k.1 in
         record {
           least = omega arith;
           inside = omega arith;
@@ -200,32 +141,29 @@ module _ (lim : ℕ) (s : List ℕ) where
   end-behind r (parted rs q) = refl
 
   module _ (k low at : ℕ) where
-    pub end_none : record_size lim low (drop at s) ≡ 0 → end_in s (records_in lim (suc k) low (drop at s)) ≡ 0
-    unfolding records_in record_size
-    end_none z =
-        by_cases (is_record lim low (drop at s))
-        (λ f. let r = record-known lim low (drop at s) f in let five = r.1.1.0 in absurd (omega (arith, rw f at z)))
-        (λ f. rw (f, records_in))
+    pub end_none : record_size lim low (drop at s) ≡ None → end_in s (records_in lim (suc k) low (drop at s)) ≡ None
+    unfolding records_in
+    end_none z = rw (record_is_not lim low (drop at s) z, records_in)
 
     -- a record that may stand here: they end where those behind it do
     pub record FurtherRecord (n : ℕ) : Type 0 where
       pub inside : n ≤ length (drop at s)
       pub end : end_in s (records_in lim (suc k) low (drop at s)) ≡ end_in s (records_in lim k (suc (line_at (drop at s))) (drop (at + n) s))
 
-    pub end-next : (n : ℕ) → n ≡ record_size lim low (drop at s) → 0 < n → FurtherRecord n
+    pub end-next : {n : ℕ} → record_size lim low (drop at s) ≡ Some n → FurtherRecord n
     unfolding records_in
-    end-next n f h =
+    end-next {n} f =
         let q : List ℕ = drop at s in
-        let j = known lim low q (omega arith) in
+        let j = record_is lim low q f in
         let r = record-known lim low q j.0 in
         let whole = r.1.1.1.0 in
-        let is : n ≡ length_at q = f ∙ j.1 in
+        let is : n ≡ length_at q = sym j.1 in
         let next : drop (length_at q) q ≡ drop (at + n) s = ap (λ (m : ℕ). drop m q) (sym is) ∙ drop-drop n at s in
         record {
           inside = omega arith;
           end = rw (j.0, records_in) (end-behind (record { line = line_at q; text = text_at q }) (records_in lim k (suc (line_at q)) (drop (length_at q) q)) ∙ ap (λ (t : List ℕ). end_in s (records_in lim k (suc (line_at q)) t)) next);
         }
 
-  pub end-here : (low at : ℕ) → at ≤ length s → end_in s (records_in lim 0 low (drop at s)) ≡ at
+  pub end-here : (low at : ℕ) → at ≤ length s → end_in s (records_in lim 0 low (drop at s)) ≡ Some at
   unfolding records_in
-  end-here low at h = omega (arith, length-drop at s)
+  end-here low at h = let e : length s - length (drop at s) ≡ at = omega (arith, length-drop at s) in ap Some e

@@ -1,5 +1,6 @@
 -- One outcome: two answers that meet a public function's promise for the same arguments are equal. Assumes nothing.
 use Prim.Native.Nat.{ℕ}
+use Rattle.std.specs.Prelude.{Option}
 use mathlib.Core.Path.{◌≡◌}
 use mathlib.Core.Bool.{Bool}
 use mathlib.Core.List.{List}
@@ -15,5 +16,5 @@ good-determined lim page = determined (is_good lim page)
 pub place-determined : (page : List ℕ) (p : ℕ) (a b : Bool) → a ≡ is_among (places_of page) p → b ≡ is_among (places_of page) p → a ≡ b
 place-determined page p = determined (is_among (places_of page) p)
 
-pub end-determined : (lim count from : ℕ) (s : List ℕ) (m n : ℕ) → m ≡ end_in s (records_in lim count 0 (drop from s)) → n ≡ end_in s (records_in lim count 0 (drop from s)) → m ≡ n
+pub end-determined : (lim count from : ℕ) (s : List ℕ) (m n : Option ℕ) → m ≡ end_in s (records_in lim count 0 (drop from s)) → n ≡ end_in s (records_in lim count 0 (drop from s)) → m ≡ n
 end-determined lim count from s = determined (end_in s (records_in lim count 0 (drop from s)))

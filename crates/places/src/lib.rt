@@ -12,19 +12,15 @@ ghost use Rattle.places.specs.Whole.{Roomy, whole_size, record_size};
 ghost use Rattle.places.specs.Ends.{end_in};
 ghost use Rattle.nibl.specs.found.Form.{records_in};
 
-use line::{EndRead, ListRead};
 use nibl::{CR, LAST_LINE, Place, ROOM};
+use page::Records;
 
 // Whether a text has a reading as a statement list.
 fn reads(text: &[u8], ops: &mut [u32]) -> bool
     requires { Roomy text.now ops.old }
     ensures { result ≡ has_reading (reading text.now) }
 {
-    match line::read_list(text, ops) {
-        ListRead::Reads => true,
-        ListRead::NoReading => false,
-        ListRead::NoRoom => false,
-    }
+    line::read_list(text, ops).is_ok()
 }
 
 // Whether one of the members of a text's reading ends at `p`.
@@ -32,19 +28,13 @@ fn ends_at(text: &[u8], p: usize, ops: &mut [u32]) -> bool
     requires { Roomy text.now ops.old }
     ensures { result ≡ is_among (ends_of 0 (length text.now) (reading text.now)) p }
 {
-    match line::ends_member(text, p, ops) {
-        EndRead::Is(ends) => ends,
-        EndRead::NoRoom => false,
-    }
+    line::ends_member(text, p, ops).unwrap_or(false)
 }
 
 fn starts_digit(text: &[u8]) -> bool
     ensures { result ≡ starts is_digit text.now }
 {
-    if text.len() < 1 {
-        return false;
-    }
-    letter::is_digit(text[0])
+    text.first().is_some_and(|b| letter::is_digit(*b))
 }
 
 // Whether a page may hold this text at a line. The limit comes first: what is longer is not read.
@@ -52,63 +42,35 @@ fn is_storable(text: &[u8], line: u16, lim: usize, ops: &mut [u32]) -> bool
     requires { Roomy text.now ops.old }
     ensures { result ≡ is_storable lim line text.now }
 {
-    if lim < text.len() + value::digit_count(line) {
-        return false;
-    }
-    if starts_digit(text) {
-        return false;
-    }
-    reads(text, ops)
+    text.len() + value::digit_count(line) <= lim && !starts_digit(text) && reads(text, ops)
 }
 
-// How many bytes the whole record at `at` has, by its length byte; 0 where none stands.
-fn whole_size(page: &[u8], at: usize) -> usize
+// How many bytes the whole record at `at` has, by its length byte, if one stands there.
+fn whole_size(page: &[u8], at: usize) -> Option<usize>
     requires { at ≤ length page.now }
     ensures { result ≡ whole_size (drop at page.now) }
 {
     let left = page.len() - at;
     if left < page::LEAST {
-        return 0;
+        return None;
     }
-    let size = page[at + 2] as usize;
-    if size < page::LEAST {
-        return 0;
-    }
-    if left < size {
-        return 0;
-    }
-    if page[at + size - 1] != CR {
-        return 0;
-    }
-    size
+    let size = usize::from(page[at + 2]);
+    let is_whole = page::LEAST <= size && size <= left && page[at + size - 1] == CR;
+    is_whole.then_some(size)
 }
 
-// How many bytes the record at `at` has that a good page may hold there, of a number from `low` on; 0 where none stands.
-fn record_size(page: &[u8], at: usize, low: u32, lim: usize, ops: &mut [u32]) -> usize
+// How many bytes the record at `at` has that a good page may hold there, of a number from `low` on, if one stands there.
+fn record_size(page: &[u8], at: usize, low: u32, lim: usize, ops: &mut [u32]) -> Option<usize>
     requires { (at ≤ length page.now) × (251 ≤ length ops.old) }
     ensures { result ≡ record_size lim low (drop at page.now) }
 {
-    let size = whole_size(page, at);
-    if size < page::LEAST {
-        return 0;
-    }
+    let size = whole_size(page, at)?;
     let line = page::line_at(page, at);
-    if (line as u32) < low {
-        return 0;
-    }
-    if LAST_LINE < line {
-        return 0;
-    }
-    let n = size - page::FRAME;
-    if is_storable(
-        &page[at + page::HEAD..at + page::HEAD + n],
-        line,
-        lim,
-        &mut ops[..n],
-    ) {
-        return size;
-    }
-    0
+    let text = &page[at + page::HEAD..at + size - 1];
+    let may_stand = low <= u32::from(line)
+        && line <= LAST_LINE
+        && is_storable(text, line, lim, ops);
+    may_stand.then_some(size)
 }
 
 // The page check: good exactly when the definition says so.
@@ -118,36 +80,32 @@ pub fn is_good(page: &[u8], lim: usize) -> bool
     let mut ops = [0u32; ROOM];
     let mut at: usize = 0;
     let mut low: u32 = 0;
+    // by no `Records`: those believe the length bytes, which are looked at here
     while !page::is_end(page, at) {
-        let size = record_size(page, at, low, lim, &mut ops);
-        if size < 1 {
+        let Some(size) = record_size(page, at, low, lim, &mut ops) else {
             return false;
-        }
-        low = page::line_at(page, at) as u32 + 1;
+        };
+        low = u32::from(page::line_at(page, at)) + 1;
         at += size;
     }
     true
 }
 
-// Where so many records end that stand in a slice from a position on and that a good page may hold one behind the other. 0: one of them is none.
-pub fn records_end(s: &[u8], from: usize, count: usize, lim: usize) -> usize
+// Where so many records end that stand in a slice from a position on and that a good page may hold one behind the other.
+// Nowhere if one of them is none.
+pub fn records_end(s: &[u8], from: usize, count: usize, lim: usize) -> Option<usize>
     requires { from ≤ length s.now }
     ensures { result ≡ end_in s.now (records_in lim count 0 (drop from s.now)) }
 {
     let mut ops = [0u32; ROOM];
     let mut at = from;
     let mut low: u32 = 0;
-    let mut left = count;
-    while 0 < left {
-        let size = record_size(s, at, low, lim, &mut ops);
-        if size < 1 {
-            return 0;
-        }
-        low = page::line_at(s, at) as u32 + 1;
+    for _ in 0..count {
+        let size = record_size(s, at, low, lim, &mut ops)?;
+        low = u32::from(page::line_at(s, at)) + 1;
         at += size;
-        left -= 1;
     }
-    at
+    Some(at)
 }
 
 // Whether a member of the record at `at` ends at that record's byte `i`.
@@ -171,14 +129,10 @@ pub fn is_place(page: &[u8], place: Place) -> bool
     ensures { result ≡ is_among (places_of page.now) (position place) }
 {
     let p = place.position();
-    let mut at: usize = 0;
-    let mut size = page::size_at(page, at);
-    while 0 < size {
+    for (at, size) in Records::of(page) {
         if p - at < size {
             return ends_in(page, at, size, p - at);
         }
-        at += size;
-        size = page::size_at(page, at);
     }
     false
 }

@@ -1,12 +1,15 @@
 -- The word that stands next, for the readers of statements. Assumes nothing.
-use Prim.Native.Nat.{ℕ, ◌+◌, ◌≤◌}
+use Prim.Native.Nat.{ℕ, ◌+◌, ◌-◌, ◌≤◌}
+use Rattle.std.specs.Prelude.{true, false, Some, None, is_some}
+use Rattle.std.specs.Option.{option_or}
 use mathlib.Core.Path.{◌≡◌, refl, sym, ap, ◌∙◌}
 use mathlib.Core.List.{List, [], ◌∷◌}
 use native.Mathlib.Omega.{arith}
 use borrow.Author.Tests.{ne_eqb, leb-false}
 use denote.Enum.Declared.{tag_of}
 use types.Run.{OneOf, miss}
-use lib.ListN.{length, drop, length-append, length-drop}
+use lib.ListN.{length, take, drop, length-append, length-drop}
+use lib.Seq.{slice}
 use lib.Dec.{leb}
 use Rattle.nibl.specs.Words.{Token, variable, decimal, hex, string, sign, keywords, Word, spaced, keyword, letter, decimal_digits, hex_digits, quoted, pair, symbol, first_keyword}
 use Rattle.nibl.specs.found.Read.{FrontWord, nothing, Reader, on_step, by_word, variable_of, string_of, sign_of, a_variable, a_string, a_sign, fail}
@@ -16,15 +19,13 @@ use Rattle.word.specs.declared.Word.{Word as Read}
 use Rattle.word.specs.declared.Word.TheVariants as word
 use Rattle.word.specs.contracts.Word.{the_type as word-type}
 use Rattle.word.specs.Found.{found_step, WordIs}
-use Rattle.relation.specs.Makes.{need, Leads, onto, Over, Stood, stood, Absent, stopped, absent, SignIs, nowhere, another}
-use Rattle.relation.specs.declared.Made.{Made}
-use Rattle.relation.specs.declared.Made.TheVariants.{Next, NoReading}
-use Rattle.relation.specs.declared.Signed.TheVariants as signed
+use Rattle.word.proofs.Runs.{slice_front}
+use Rattle.relation.specs.Makes.{need, Leads, onto, Over, Stood, stood, Absent, stopped, refused, absent, KeyIs, there, nowhere, another}
+use Rattle.relation.specs.Made.{Made}
 use Rattle.relation.proofs.Signs.{over-here}
-use Rattle.reader.specs.Forms.{halted, Heads, heads, Unkind, text_end, no_word, a_decimal, a_hex, Headless, headless, KindIs, Unless, unless, KeyedIs, Long}
+use Rattle.reader.specs.Forms.{halted, Heads, heads, Unkind, text_end, no_word, a_decimal, a_hex, Headless, headless, KindIs, Unless, unless, MayIs, gone, kept, Long}
 use Rattle.reader.specs.declared.Kind.{Kind}
 use Rattle.reader.specs.declared.Kind.TheVariants as kind
-use Rattle.reader.specs.declared.Keyed.TheVariants as keyed
 use Rattle.reader.specs.contracts.Kind.{the_type}
 
 -- What `kind_at` answers
@@ -37,20 +38,20 @@ unkind text (word.Sign n p) k = absurd (miss (1 ∷ 2 ∷ 5 ∷ 6 ∷ []) 4 tt k
 unkind text word.End k = text_end
 unkind text (word.Wrong p) k = no_word
 
-module _ {text : List ℕ} {r : Made} {c : Cursor} {o : ℕ} (e : r ≡ Next c o) where
-  pub kind-variable : {v : ℕ} {p : Cursor} → WordIs keywords text c.at (word.Variable v p) → KindIs text r (kind.Variable v (Next p o))
+module _ {text : List ℕ} {r : Made} {c : Cursor} {o : ℕ} (e : r ≡ Some (c, o)) where
+  pub kind-variable : {v : ℕ} {p : Cursor} → WordIs keywords text c.at (word.Variable v p) → KindIs text r (kind.Variable v (Some (p, o)))
   kind-variable h = rw e (heads (sym h.same) h.inside.0 h.inside.1)
 
-  pub kind-text : {i j : ℕ} {p : Cursor} → WordIs keywords text c.at (word.Text i j p) → KindIs text r (kind.Text i j (Next p o))
+  pub kind-text : {i j : ℕ} {p : Cursor} → WordIs keywords text c.at (word.Text i j p) → KindIs text r (kind.Text i j (Some (p, o)))
   kind-text h = rw e (heads (sym h.same) h.inside.0 h.inside.1, h.inside.2, omega (arith, h.inside.1, h.inside.3))
 
-  pub kind-sign : {k : ℕ} {p : Cursor} → WordIs keywords text c.at (word.Sign k p) → KindIs text r (kind.Sign k (Next p o))
+  pub kind-sign : {k : ℕ} {p : Cursor} → WordIs keywords text c.at (word.Sign k p) → KindIs text r (kind.Sign k (Some (p, o)))
   kind-sign h = rw e (heads (sym h.same) h.inside.0 h.inside.1)
 
   pub kind-other : (w : Read) → WordIs keywords text c.at w → OneOf (1 ∷ 2 ∷ 5 ∷ 6 ∷ []) (tag_of word-type w) → KindIs text r kind.Other
   kind-other w h k = rw e (headless (rw h.same at (unkind text w k)))
 
-pub kind-none : {text : List ℕ} {r : Made} → r ≡ NoReading → KindIs text r kind.Other
+pub kind-none : {text : List ℕ} {r : Made} → r ≡ None → KindIs text r kind.Other
 kind-none e = rw e halted
 
 -- Readers by the next word
@@ -101,6 +102,12 @@ module _ {text : List ℕ} where
   unfolding a_string
   heads-string (heads e l h) = stood (ap (λ (s : FrontWord). on_step s string_of) e) l h
 
+  -- the bytes of a string, as a part of the text
+  pub text-heads : {i j : ℕ} {r m : Made} → KindIs text r (kind.Text i j m) → Heads (string (take (j - i) (drop i text))) text r m
+  text-heads {i} {j} h =
+      let e : slice i j text ≡ take (j - i) (drop i text) = ap (λ (k : ℕ). slice i k text) (omega (arith, h.1)) ∙ slice_front i (j - i) text in
+      rw e at h.0
+
   pub heads-sign : {k : ℕ} {r m : Made} → Heads (sign k) text r m → Stood a_sign k text r m
   unfolding a_sign
   heads-sign (heads e l h) = stood (ap (λ (s : FrontWord). on_step s sign_of) e) l h
@@ -125,15 +132,21 @@ module _ {text : List ℕ} where
   unfolding a_string
   sign-unstring h = heads-absent string_of refl h
 
-  -- What `next_is` and `past_any` answer
-  pub keyed-past : {r m : Made} {j k : ℕ} → j ≡ k → SignIs text r (signed.By j m) → KeyedIs k text r (keyed.Past m)
-  keyed-past e h = rw e at h
+  -- What `past_sign` answers: the sign stood next, or it did not
+  pub key-stood : {r m : Made} {k : ℕ} → is_some m ≡ true → KeyIs k text r m → Stood a_sign k text r m
+  key-stood e stopped = let z : ◌≡◌ {A = ℕ} 0 1 = cc in absurd (omega arith)
+  key-stood e (refused h) = let z : ◌≡◌ {A = ℕ} 0 1 = cc in absurd (omega arith)
+  key-stood e (there h) = h
 
-  pub keyed-other : {r m : Made} {j k : ℕ} → (j ≡ k → ⊥) → SignIs text r (signed.By j m) → KeyedIs k text r keyed.Not
-  keyed-other {k} d h = stood-unless k d h
+  pub key-unless : {r m : Made} {k : ℕ} → is_some m ≡ false → KeyIs k text r m → Unless k text r
+  key-unless e stopped = halted
+  key-unless e (refused {c} h) = unless {c = c} h
+  key-unless e (there (stood a l h)) = let z : ◌≡◌ {A = ℕ} 0 1 = cc in absurd (omega arith)
 
-  pub keyed-none : {r : Made} {k : ℕ} → SignIs text r signed.Other → KeyedIs k text r keyed.Not
-  keyed-none {k} h = absent-unless k h
+  pub key-may : {r m : Made} {k : ℕ} → KeyIs k text r m → MayIs k text r (option_or m r)
+  key-may stopped = kept halted
+  key-may (refused {c} h) = kept (unless {c = c} h)
+  key-may (there (stood e l h)) = gone (stood e l h)
 
 -- How many bytes a word takes
 keyword-size : {s t : List ℕ} {w : Token} (k : ℕ) → Word keywords s w t → w ≡ sign k → first_keyword ≤ k → length t + 2 ≤ length s

@@ -1,5 +1,6 @@
 -- Readers that may write more operations than they read bytes: one after another, at a sign, in a loop, and the room that they need. Assumes nothing.
 use Prim.Native.Nat.{ℕ, suc, ◌+◌, ◌≤◌, ◌<◌}
+use Rattle.std.specs.Prelude.{Some, None}
 use Prim.Native.String.{String}
 use mathlib.Core.Path.{◌≡◌, refl, ap, subst, ◌∙◌}
 use mathlib.Core.List.{List, [], ◌∷◌, ◌++◌, append_assoc}
@@ -10,8 +11,7 @@ use Rattle.nibl.specs.Words.{number}
 use Rattle.nibl.specs.found.Read.{nothing, Reader, a_sign, fail, give, if_key, key, may, ◌>>=◌}
 use Rattle.word.specs.declared.Cursor.{Cursor}
 use Rattle.relation.specs.Makes.{ahead, need, filled, WroteOps, Written, written, Gives, stopped, refused, given, Reads, Leads, onto, only, bare, Over, Stood, stood, Absent, absent, KeyIs, there}
-use Rattle.relation.specs.declared.Made.{Made}
-use Rattle.relation.specs.declared.Made.TheVariants.{Next, NoReading}
+use Rattle.relation.specs.Made.{Made}
 use Rattle.relation.proofs.Readers.{then_found, then-nothing, if-there, if-other}
 use Rattle.relation.proofs.Signs.{stood-over}
 use Rattle.relation.proofs.States.{wrote-both, filled-need, key-low, key-spare, written-ahead, written-need, chain, led, same}
@@ -21,8 +21,8 @@ wrote_one : {ops ops' : List ℕ} {o : ℕ} (v : ℕ) → ops' ≡ sets ops o (v
 wrote_one v e = record { pos = omega arith; buf = e }
 
 pub need-mono : (text : List ℕ) (r : Made) (i j : ℕ) → i ≤ j → need i text r ≤ need j text r
-need-mono text NoReading i j h = omega arith
-need-mono text (Next c o) i j h = omega arith
+need-mono text None i j h = omega arith
+need-mono text (Some (c, o)) i j h = omega arith
 
 -- One reader after another, whatever was read before them
 module _ {X A B : Type 0} {text : List ℕ} where
@@ -106,12 +106,12 @@ module _ {X A : Type 0} {R S : X → Reader A} {pre : X → List ℕ} {code : A 
 
 -- no reading
 pub failed : {X A : Type 0} {R : X → Reader A} {pre : X → List ℕ} {code : A → List ℕ} {text ops ops' : List ℕ} {n : ℕ} (r : Made)
-    → ((x : X) (s : List ℕ) → R x s ≡ nothing) → Spends n R pre code text ops r ops' NoReading
-failed NoReading h = record { low = omega arith; few = λ k. omega arith; gives = stopped }
-failed (Next c o) h = record { low = omega arith; few = λ k. omega arith; gives = refused (λ x. h x _) }
+    → ((x : X) (s : List ℕ) → R x s ≡ nothing) → Spends n R pre code text ops r ops' None
+failed None h = record { low = omega arith; few = λ k. omega arith; gives = stopped }
+failed (Some (c, o)) h = record { low = omega arith; few = λ k. omega arith; gives = refused (λ x. h x _) }
 
 pub missing : {A : Type 0} {F : Reader A} {code : A → List ℕ} {text ops ops' : List ℕ} {r : Made} {n : ℕ} → Absent F text r
-    → Spends n (only F) bare code text ops r ops' NoReading
+    → Spends n (only F) bare code text ops r ops' None
 missing stopped = record { low = omega arith; few = λ k. omega arith; gives = stopped }
 missing (absent e) = record { low = omega arith; few = λ k. omega arith; gives = refused (λ x. e) }
 
@@ -167,10 +167,10 @@ pub all-put : {X A : Type 0} {pre : X → List ℕ} {code : A → List ℕ} {tex
 all-put {text} g c p = record { low = puts_low text p; few = puts-few text p; gives = whole g c p }
 
 pub puts_none : {ops : List ℕ} (s : Made) → Puts [] ops s ops s
-puts_none NoReading = halted
-puts_none {ops} (Next c o) = let e : o + 0 ≡ o = omega arith in subst (λ n. Puts [] ops (Next c o) ops (Next c n)) e puts
+puts_none None = halted
+puts_none {ops} (Some (c, o)) = let e : o + 0 ≡ o = omega arith in subst (λ n. Puts [] ops (Some (c, o)) ops (Some (c, n))) e puts
 
-wrote-puts : {ops ops' w : List ℕ} {c : Cursor} {o n : ℕ} → WroteOps ops o w ops' n → Puts w ops (Next c o) ops' (Next c n)
+wrote-puts : {ops ops' w : List ℕ} {c : Cursor} {o n : ℕ} → WroteOps ops o w ops' n → Puts w ops (Some (c, o)) ops' (Some (c, n))
 wrote-puts w = rw (w.pos, w.buf) puts
 
 pub puts_then : {v : ℕ} {ops ops1 ops2 w : List ℕ} {r s t : Made} → Puts w ops r ops1 s → Written v ops1 s ops2 t → Puts (w ++ (v ∷ [])) ops r ops2 t

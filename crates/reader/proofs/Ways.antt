@@ -1,5 +1,6 @@
 -- One law for each way out of the readers of statements. Assumes nothing.
 use Rattle.std.specs.Prelude.{if◌then◌else◌}
+use Rattle.std.specs.Prelude.{Some, None}
 use Prim.Native.Nat.{ℕ, suc, ◌+◌, ◌-◌, ◌≤◌, ◌<◌}
 use Prim.Native.String.{String}
 use mathlib.Core.Path.{◌≡◌, refl, sym, ap, subst, ◌∙◌}
@@ -9,8 +10,8 @@ use native.Mathlib.Omega.{arith}
 use borrow.Author.Tests.{ne_eqb, leb-true}
 use denote.Enum.Declared.{tag_of}
 use types.Run.{OneOf, miss}
-use lib.ListN.{length, drop, set, length-append, length-map, drop_of_length-le}
-use lib.Seq.{sets, slice, length-slice, set-set, set_comm}
+use lib.ListN.{length, drop, get_or, set, length-append, length-map, drop_of_length-le}
+use lib.Seq.{sets, set-set, set_comm, drop-cons}
 use lib.Dec.{eqb, leb}
 use Rattle.nibl.specs.Bytes.{is_text, all}
 use Rattle.nibl.specs.Words.{Token, variable, decimal, hex, string, sign, number, first_keyword}
@@ -23,9 +24,7 @@ use Rattle.word.specs.declared.Cursor.{Cursor}
 use Rattle.relation.specs.Code.{values}
 use Rattle.codes.specs.Codes.{op, code_constant, code_copy_string, code_do, code_end, code_for, code_gosub, code_goto, code_if, code_input, code_input_string, code_input_variable, code_next, code_print_byte, code_print_end, code_print_number, code_print_room, code_print_string, code_return, code_set_byte, code_set_stat, code_set_variable, code_store_string, code_string_byte, code_until}
 use Rattle.relation.specs.Makes.{ahead, need, filled, Written, written, Gives, stopped, refused, given, Makes, Leads, onto, only, bare, Over, Stood, stood, Absent, absent, KeyIs, there, SignIs}
-use Rattle.relation.specs.declared.Made.{Made}
-use Rattle.relation.specs.declared.Made.TheVariants.{Next, NoReading}
-use Rattle.relation.specs.declared.Signed.TheVariants as signed
+use Rattle.relation.specs.Made.{Made}
 use Rattle.relation.proofs.Readers.{then_found, then-nothing}
 use Rattle.relation.proofs.Signs.{stood-over, NoneOf, none_left, ◌but◌}
 use Rattle.relation.proofs.States.{filled-need, written-ahead, written-need}
@@ -75,7 +74,7 @@ module _ {A B : Type 0} {text : List ℕ} {F : Reader A} (K : A → Reader B) wh
 stood-give : {A : Type 0} {text : List ℕ} {F : Reader A} {a : A} {r m : Made} → Stood F a text r m → Leads (only F) (only (give a)) text r m
 stood-give (stood e l h) = onto (λ x. e) (λ i. h)
 
-unless-key : {k : ℕ} {text : List ℕ} {r : Made} → Unless k text r → KeyIs k text r NoReading
+unless-key : {k : ℕ} {text : List ℕ} {r : Made} → Unless k text r → KeyIs k text r None
 unless-key halted = stopped
 unless-key (unless h) = refused h
 
@@ -89,12 +88,12 @@ no-choice none_left = refl
 no-choice {k} (◌but◌ {n} d h) = rw (ne_eqb k n d) (no-choice h)
 
 pub case-none : {A : Type 0} {cs : List (ℕ × Reader A)} {code : A → List ℕ} {text ops ops' : List ℕ} {k n : ℕ} (r : Made) → NoneOf k cs
-    → Spends n (only (choose cs fail k)) bare code text ops r ops' NoReading
+    → Spends n (only (choose cs fail k)) bare code text ops r ops' None
 case-none r h = failed r (λ x s. ap (λ (q : Reader _). q s) (no-choice h))
 
 filled-by : (text : List ℕ) (n : ℕ) (r : Made) → filled_by n r ≤ need n text r
-filled-by text n NoReading = omega arith
-filled-by text n (Next c o) = omega arith
+filled-by text n None = omega arith
+filled-by text n (Some (c, o)) = omega arith
 
 abbrev valued : Reader Item
 valued = read relation >>= (λ a. give (value a))
@@ -152,21 +151,15 @@ module _ {text : List ℕ} where
       led-by (2 + length bs) (omega (arith, length-append (texts code_string_byte bs) (op code_string_byte 13 ∷ []), length-map bs (λ b. op code_string_byte b))) (omega (arith, (heads-over h).low)) (heads-size h)
       (string-leads (λ a cs. give (let_text a cs)) _ (heads-string h)) (all-put (λ a. let_text a bs) (λ a. rw e) (puts_then p w))
 
-  pub copy-slice : {i j v : ℕ} {ops ops1 ops2 : List ℕ} {r m t s : Made} → v ≡ op code_store_string (j - i + 1) → KindIs text r (kind.Text i j m) → Puts (v ∷ texts code_string_byte (slice i j text)) ops m ops1 t
-      → Written (op code_string_byte 13) ops1 t ops2 s → Spends 0 copying values compile text ops r ops2 s
-  copy-slice {i} {j} e h p w = copy-text (e ∙ ap (λ n. op code_store_string (n + 1)) (sym (length-slice i j text h.2))) h.0 p w
-
   -- the room for a string
-  pub slice_fits : {i j n : ℕ} {ops : List ℕ} {r m : Made} → Room n text ops r → KindIs text r (kind.Text i j m) → filled_by (1 + (j - i)) m ≤ length ops
-  slice_fits {i} {j} {n} {r} {m} a h =
-      let l = length-slice i j text h.2 in
-      omega (arith, a.fits, need-mono text r 0 n (omega arith), heads-size h.0 0, need-mono text m (1 + (j - i)) (2 + length (slice i j text) + 0) (omega arith), filled-by text (1 + (j - i)) m)
+  pub string_fits : {bs ops : List ℕ} {r m : Made} {n : ℕ} → Room n text ops r → Heads (string bs) text r m → filled_by (1 + length bs) m ≤ length ops
+  string_fits {bs} {r} {m} {n} a h =
+      omega (arith, a.fits, need-mono text r 0 n (omega arith), heads-size h 0, need-mono text m (1 + length bs) (2 + length bs + 0) (omega arith), filled-by text (1 + length bs) m)
 
-  pub slice-more : (code : ℕ) {i j n v : ℕ} {ops ops1 : List ℕ} {r m t : Made} → Room n text ops r → KindIs text r (kind.Text i j m) → Puts (v ∷ texts code (slice i j text)) ops m ops1 t
+  pub string-more : (code : ℕ) {bs ops ops1 : List ℕ} {r m t : Made} {n v : ℕ} → Room n text ops r → Heads (string bs) text r m → Puts (v ∷ texts code bs) ops m ops1 t
       → length ops1 ≡ length ops → filled t ≤ length ops1
-  slice-more code {i} {j} {n} {r} {m} {t} a h p e =
-      let bs = slice i j text in
-      omega (arith, a.fits, need-mono text r 0 n (omega arith), heads-size h.0 0, need-mono text m (suc (length (texts code bs)) + 1) (2 + length bs + 0) (omega (arith, length-map bs (λ b. op code b))), puts-few text p 1, filled-need text t)
+  string-more code {bs} {r} {m} {t} {n} a h p e =
+      omega (arith, a.fits, need-mono text r 0 n (omega arith), heads-size h 0, need-mono text m (suc (length (texts code bs)) + 1) (2 + length bs + 0) (omega (arith, length-map bs (λ b. op code b))), puts-few text p 1, filled-need text t)
 
   pub copy-other : {ops ops1 : List ℕ} {r d s : Made} → Absent a_string text r → KeyIs (number "$") text r d
       → Spends 1 (only (read factor)) bare (λ a. values a ++ (op code_copy_string 0 ∷ [])) text ops d ops1 s → Spends 0 copying values compile text ops r ops1 s
@@ -192,11 +185,11 @@ module _ {text : List ℕ} where
     let-sign h y = led-over (omega arith) (heads-over h) (heads-leads (λ x. let_of) h) y
 
   pub let-none : {ops ops1 : List ℕ} {r : Made} (w : Kind) → KindIs text r w → OneOf (1 ∷ 3 ∷ []) (tag_of the_type w)
-      → Spends 0 (only (by_word let_of)) bare compile text ops r ops1 NoReading
+      → Spends 0 (only (by_word let_of)) bare compile text ops r ops1 None
   let-none w h t = missing (unkinded let_of (λ bs. refl) (λ n. refl) (λ n. refl) w h t)
 
   -- GO
-  module _ {ops ops1 : List ℕ} {r m s : Made} {k : ℕ} (h : SignIs text r (signed.By k m)) where
+  module _ {ops ops1 : List ℕ} {r m s : Made} {k : ℕ} (h : SignIs text r (Some (k, m))) where
     pub go-to-is : k ≡ number "TO" → Spends 1 (only (read relation)) bare (λ a. values a ++ (op code_goto 0 ∷ [])) text ops m ops1 s → Spends 0 (only going) bare compile text ops r ops1 s
     unfolding compile
     go-to-is e y = if_past "TO" (only (key "SUB" (a_relation gosub))) (omega arith) (rw e at h) (renamed (λ x. goto) (λ x a. refl) y)
@@ -206,7 +199,7 @@ module _ {text : List ℕ} where
     go-sub-is e y =
         if-not "TO" (only (a_relation goto)) (stood-unless (number "TO") (omega arith) h) (past-key "SUB" (omega arith) (there (rw e at h)) (renamed (λ x. gosub) (λ x a. refl) y))
 
-  pub go-none : {ops ops1 : List ℕ} {r : Made} → Unless (number "TO") text r → Unless (number "SUB") text r → Spends 0 (only going) bare compile text ops r ops1 NoReading
+  pub go-none : {ops ops1 : List ℕ} {r : Made} → Unless (number "TO") text r → Unless (number "SUB") text r → Spends 0 (only going) bare compile text ops r ops1 None
   go-none a b = if-not "TO" (only (a_relation goto)) a (past-key "SUB" {j = 0} (omega arith) (unless-key b) (record { low = omega arith; few = λ k. omega arith; gives = stopped }))
 
   -- PRINT
@@ -232,10 +225,6 @@ module _ {text : List ℕ} where
     item-value n k y =
         led-here (unstring-leads (λ x cs. give (text_item cs)) (only keyed_item) n)
         (if-not "$" (only (read factor >>= (λ a. give (stored a)))) k (renamed (λ x. value) (λ x a. refl) y))
-
-  pub item-slice : {i j v : ℕ} {ops ops1 : List ℕ} {r m s : Made} → v ≡ op code_print_room (j - i) → KindIs text r (kind.Text i j m) → Puts (v ∷ texts code_print_byte (slice i j text)) ops m ops1 s
-      → Spends 1 (only an_item) bare item_code text ops r ops1 s
-  item-slice {i} {j} e h p = item-text (e ∙ ap (λ n. op code_print_room n) (sym (length-slice i j text h.2))) h.0 p
 
   -- What is joined by commas
   module _ {A : Type 0} {one : Reader A} {code : A → List ℕ} {codes : List A → List ℕ}
@@ -319,7 +308,7 @@ module _ {text : List ℕ} where
       (past-key "=" {j = 1} {n = 0} (omega arith) k (then-on {i = 0} {j = 1} (omega arith) (spent x)
       (past-key "TO" {j = 2} (omega arith) l (after (limited n) {i = 0} {j = 2} (omega arith) (spent y) (for-step n u z w)))))
 
-  pub for-none : {ops ops1 : List ℕ} {r : Made} → Absent a_variable text r → Spends 0 (only for_to) bare compile text ops r ops1 NoReading
+  pub for-none : {ops ops1 : List ℕ} {r : Made} → Absent a_variable text r → Spends 0 (only for_to) bare compile text ops r ops1 None
   for-none h = missing (absent-then counting h)
 
   -- A variable
@@ -328,27 +317,36 @@ module _ {text : List ℕ} where
   variable-is {n} code e h w = led-over (omega arith) (stood-over h) (stood-give h) (all-put (λ x. n) (λ x. rw e) (written-puts w))
 
 -- Operations of a string
-pub put-none : {w ops : List ℕ} {r : Made} → r ≡ NoReading → Puts w ops r ops NoReading
+pub put-none : {w ops : List ℕ} {r : Made} → r ≡ None → Puts w ops r ops None
 put-none e = rw e halted
 
-pub put_next : {v n o : ℕ} {w ops ops' : List ℕ} {r : Made} {c : Cursor} → r ≡ Next c o → ops' ≡ sets (set ops o v) (o + 1) w → n ≡ o + 1 + length w
-    → Puts (v ∷ w) ops r ops' (Next c n)
+pub put_next : {v n o : ℕ} {w ops ops' : List ℕ} {r : Made} {c : Cursor} → r ≡ Some (c, o) → ops' ≡ sets (set ops o v) (o + 1) w → n ≡ o + 1 + length w
+    → Puts (v ∷ w) ops r ops' (Some (c, n))
 put_next {v} {n} {o} {w} e f g =
     let i : o + 1 ≡ suc o = omega arith in
     let j : n ≡ o + length (v ∷ w) = omega arith in
     rw (e, f, i, j) puts
 
+-- a turn of the loop over the bytes: what it writes is the first of those still to be written
+pub put-on : (code : ℕ) (bs ops : List ℕ) (o i : ℕ) {v b : ℕ} → i < length bs → v ≡ op code b → b ≡ get_or bs i 0
+    → sets (set ops (o + i) v) (o + (i + 1)) (texts code (drop (i + 1) bs)) ≡ sets ops (o + i) (texts code (drop i bs))
+put-on code bs ops o i {v} h e f =
+    let n : o + (i + 1) ≡ suc (o + i) = omega arith in
+    let m : i + 1 ≡ suc i = omega arith in
+    ap (λ (j : ℕ). sets (set ops (o + i) v) j (texts code (drop (i + 1) bs))) n ∙ ap (λ (j : ℕ). sets (set ops (o + i) v) (suc (o + i)) (texts code (drop j bs))) m
+    ∙ ap (λ (x : ℕ). sets (set ops (o + i) x) (suc (o + i)) (texts code (drop (suc i) bs))) (e ∙ ap (op code) f) ∙ ap (λ (w : List ℕ). sets ops (o + i) (texts code w)) (sym (drop-cons bs i 0 h))
+
 -- The variables of INPUT
-pub counted_none : {ops : List ℕ} {r s : Made} → r ≡ NoReading → Counted ops r s ops NoReading
+pub counted_none : {ops : List ℕ} {r s : Made} → r ≡ None → Counted ops r s ops None
 counted_none e = rw e halted
 
-pub counted-unread : {ops : List ℕ} {r s : Made} → s ≡ NoReading → Counted ops r s ops NoReading
+pub counted-unread : {ops : List ℕ} {r s : Made} → s ≡ None → Counted ops r s ops None
 counted-unread e = rw e unread
 
-pub counted_next : {ops : List ℕ} {r s : Made} {c d : Cursor} {o n v : ℕ} → r ≡ Next c o → s ≡ Next d n → v ≡ op code_input (n - o - 1) → Counted ops r s (set ops o v) (Next d n)
+pub counted_next : {ops : List ℕ} {r s : Made} {c d : Cursor} {o n v : ℕ} → r ≡ Some (c, o) → s ≡ Some (d, n) → v ≡ op code_input (n - o - 1) → Counted ops r s (set ops o v) s
 counted_next {o} {n} e f g = let i : n - o - 1 ≡ n - suc o = omega arith in rw (e, f, g, i) counted
 
-pub countable-at : (ops : List ℕ) {r s : Made} {c d : Cursor} {o n : ℕ} → r ≡ Next c o → s ≡ Next d n → Countable ops r s
+pub countable-at : (ops : List ℕ) {r s : Made} {c d : Cursor} {o n : ℕ} → r ≡ Some (c, o) → s ≡ Some (d, n) → Countable ops r s
     → (o < n) × (n ≤ length ops) × (n - suc o ≤ 65535)
 countable-at ops e f h = rw (e, f) at h
 
@@ -357,8 +355,8 @@ set-sets [] l i j b h = refl
 set-sets (a ∷ w) l i j b h = set-sets w (set l j a) i (suc j) b (omega arith) ∙ ap (λ m. sets m (suc j) w) (set_comm l j i a b (λ e. omega arith))
 
 -- what a count writes
-counted-is : {ops : List ℕ} {c d : Cursor} {o n : ℕ} {ops' : List ℕ} {t : Made} → Counted ops (Next c o) (Next d n) ops' t
-    → (ops' ≡ set ops o (op code_input (n - suc o))) × (t ≡ Next d n)
+counted-is : {ops : List ℕ} {c d : Cursor} {o n : ℕ} {ops' : List ℕ} {t : Made} → Counted ops (Some (c, o)) (Some (d, n)) ops' t
+    → (ops' ≡ set ops o (op code_input (n - suc o))) × (t ≡ Some (d, n))
 counted-is counted = (refl, refl)
 
 counts : {text ops ops1 ops2 ops3 : List ℕ} {r a s t : Made} → Written (op code_input 0) ops r ops1 a → Gives (only (joined a_variable)) bare (texts code_input_variable) text ops1 ops2 a s
@@ -419,7 +417,7 @@ module _ {text ops ops1 : List ℕ} {r s : Made} where
   input-variables k y = if-not "$" (only (read factor >>= (λ a. give (input_text a)))) k (renamed (λ x. input) (λ x vs. refl) y)
 
 -- REM
-pub remark-rest : {text : List ℕ} {r : Made} {c d : Cursor} {o : ℕ} → r ≡ Next c o → d.at ≡ length text → true ≡ all is_text (drop c.at text) → RemarkIs text r (Next d o)
+pub remark-rest : {text : List ℕ} {r : Made} {c d : Cursor} {o : ℕ} → r ≡ Some (c, o) → d.at ≡ length text → true ≡ all is_text (drop c.at text) → RemarkIs text r (Some (d, o))
 unfolding compile
 remark-rest {text} {c} {d} {o} e l h ops =
     let n : drop d.at text ≡ [] = drop_of_length-le text {i = d.at} (omega arith) in
@@ -429,10 +427,10 @@ remark-rest {text} {c} {d} {o} e l h ops =
       gives = given {c = c} {d = d} {o = o} {n = o} (λ x. remark) [] (λ x. rw (← h, n)) (λ x. refl) (λ i. omega arith) (record { pos = omega arith; buf = refl });
     })
 
-pub remark-not : {text : List ℕ} {r : Made} {c : Cursor} {o : ℕ} → r ≡ Next c o → false ≡ all is_text (drop c.at text) → RemarkIs text r NoReading
+pub remark-not : {text : List ℕ} {r : Made} {c : Cursor} {o : ℕ} → r ≡ Some (c, o) → false ≡ all is_text (drop c.at text) → RemarkIs text r None
 remark-not {c} e h ops = rw e (record { low = omega arith; few = λ k. omega arith; gives = refused {c = c} (λ x. rw (← h)) })
 
-pub remark-none : {text : List ℕ} {r : Made} → r ≡ NoReading → RemarkIs text r NoReading
+pub remark-none : {text : List ℕ} {r : Made} → r ≡ None → RemarkIs text r None
 remark-none e ops = rw e (record { low = omega arith; few = λ k. omega arith; gives = stopped })
 
 -- Statements of a relation, of a variable, or of one operation
@@ -554,7 +552,7 @@ module _ {text : List ℕ} {r m : Made} where
   pub keyword-long : {k : ℕ} → FrontIs text r (front.Keyword k m) → Long text r m × (k ≡ number "IF" → ⊥)
   keyword-long (keyword d l o) = (o, d)
 
-pub by-none : {text ops ops1 : List ℕ} {r : Made} → FrontIs text r front.Other → Spends 0 (only statement) bare compile text ops r ops1 NoReading
+pub by-none : {text ops ops1 : List ℕ} {r : Made} → FrontIs text r front.Other → Spends 0 (only statement) bare compile text ops r ops1 None
 by-none (other h) = missing h
 
 -- the operation of IF stands before those of its statement

@@ -1,5 +1,6 @@
 -- What the contracts of the readers of statements say. Like those of a relation they go from a state to a state.
 use Rattle.std.specs.Prelude.{ℕ, suc, ◌+◌, ◌-◌, ◌≤◌, ◌<◌, ◌≡◌, true, false, List, ◌∷◌, length, drop, set}
+use Rattle.std.specs.Prelude.{Option, Some, None}
 use Rattle.std.proofs.lemmas.List.Edits.{sets}
 use Rattle.std.proofs.Math.Seq.{slice}
 use Rattle.nibl.specs.Words.{Token, variable, decimal, hex, string, sign, keywords, number}
@@ -8,17 +9,12 @@ use Rattle.nibl.specs.found.Read.{FrontWord, at_end, wrong, got, step_in, nothin
 use Rattle.word.specs.declared.Cursor.{Cursor}
 use Rattle.codes.specs.Codes.{op, code_set_variable, code_input, code_input_variable}
 use Rattle.relation.specs.Makes.{ahead, need, Gives, Leads, only, bare, Over, Stood, Absent, Otherwise}
-use Rattle.relation.specs.declared.Made.{Made}
-use Rattle.relation.specs.declared.Made.TheVariants.{Next, NoReading}
+use Rattle.relation.specs.Made.{Made}
 use Rattle.reader.specs.Code.{texts, compile}
 use Rattle.reader.specs.declared.Kind.{Kind}
 use Rattle.reader.specs.declared.Kind.TheVariants as kind
-use Rattle.reader.specs.declared.Keyed.{Keyed}
-use Rattle.reader.specs.declared.Keyed.TheVariants as keyed
 use Rattle.reader.specs.declared.StatementFront.{StatementFront}
 use Rattle.reader.specs.declared.StatementFront.TheVariants as front
-use Rattle.reader.specs.declared.MemberRead.{MemberRead}
-use Rattle.reader.specs.declared.MemberRead.TheVariants as member
 
 -- the room for an operation to each byte ahead and for k more; and a text whose counts fit into an operation
 pub record Room (k : ℕ) (text ops : List ℕ) (r : Made) : Type 0 where
@@ -35,7 +31,7 @@ module _ {X A : Type 0} where
 -- The word that stands next: w, and s is the state past it
 pub data Heads (w : Token) (text : List ℕ) : Made → Made → Type 0 where
   heads : {c d : Cursor} {o : ℕ} → step_in keywords (drop c.at text) ≡ got w (drop d.at text) → c.at < d.at → d.at ≤ length text
-      → Heads w text (Next c o) (Next d o)
+      → Heads w text (Some (c, o)) (Some (d, o))
 
 -- no variable, string or sign
 pub data Unkind : FrontWord → Type 0 where
@@ -45,8 +41,8 @@ pub data Unkind : FrontWord → Type 0 where
   a_hex : {n : ℕ} {s : List ℕ} → Unkind (got (hex n) s)
 
 pub data Headless (text : List ℕ) : Made → Type 0 where
-  halted : Headless text NoReading
-  headless : {c : Cursor} {o : ℕ} → Unkind (step_in keywords (drop c.at text)) → Headless text (Next c o)
+  halted : Headless text None
+  headless : {c : Cursor} {o : ℕ} → Unkind (step_in keywords (drop c.at text)) → Headless text (Some (c, o))
 
 abbrev pub KindIs : List ℕ → Made → Kind → Type 0
 KindIs text r (kind.Variable v m) = Heads (variable v) text r m
@@ -56,12 +52,8 @@ KindIs text r kind.Other = Headless text r
 
 -- another sign than k, or none, stands next
 pub data Unless (k : ℕ) (text : List ℕ) : Made → Type 0 where
-  halted : Unless k text NoReading
-  unless : {c : Cursor} {o : ℕ} → Otherwise k (a_sign (drop c.at text)) → Unless k text (Next c o)
-
-abbrev pub KeyedIs : ℕ → List ℕ → Made → Keyed → Type 0
-KeyedIs k text r (keyed.Past m) = Stood a_sign k text r m
-KeyedIs k text r keyed.Not = Unless k text r
+  halted : Unless k text None
+  unless : {c : Cursor} {o : ℕ} → Otherwise k (a_sign (drop c.at text)) → Unless k text (Some (c, o))
 
 -- past the sign k, where it stands next
 pub data MayIs (k : ℕ) (text : List ℕ) (r : Made) : Made → Type 0 where
@@ -70,25 +62,25 @@ pub data MayIs (k : ℕ) (text : List ℕ) (r : Made) : Made → Type 0 where
 
 -- so many operations past those there are
 abbrev pub filled_by : ℕ → Made → ℕ
-filled_by n NoReading = 0
-filled_by n (Next c o) = o + n
+filled_by n None = 0
+filled_by n (Some (c, o)) = o + n
 
 -- the operations w were written
 pub data Puts (w : List ℕ) (ops : List ℕ) : Made → List ℕ → Made → Type 0 where
-  halted : Puts w ops NoReading ops NoReading
-  puts : {c : Cursor} {o : ℕ} → Puts w ops (Next c o) (sets ops o w) (Next c (o + length w))
+  halted : Puts w ops None ops None
+  puts : {c : Cursor} {o : ℕ} → Puts w ops (Some (c, o)) (sets ops o w) (Some (c, (o + length w)))
 
 -- the operation at r asks for as many variables as stand behind it
 pub data Counted (ops : List ℕ) : Made → Made → List ℕ → Made → Type 0 where
-  halted : {s : Made} → Counted ops NoReading s ops NoReading
-  refused : {r : Made} → Counted ops r NoReading ops NoReading
-  counted : {c d : Cursor} {o n : ℕ} → Counted ops (Next c o) (Next d n) (set ops o (op code_input (n - suc o))) (Next d n)
+  halted : {s : Made} → Counted ops None s ops None
+  refused : {r : Made} → Counted ops r None ops None
+  counted : {c d : Cursor} {o n : ℕ} → Counted ops (Some (c, o)) (Some (d, n)) (set ops o (op code_input (n - suc o))) (Some (d, n))
 
 -- where the count fits
 abbrev pub Countable : List ℕ → Made → Made → Type 0
-Countable ops NoReading s = Unit {0}
-Countable ops (Next c o) NoReading = Unit {0}
-Countable ops (Next c o) (Next d n) = (o < n) × (n ≤ length ops) × (n - suc o ≤ 65535)
+Countable ops None s = Unit {0}
+Countable ops (Some (c, o)) None = Unit {0}
+Countable ops (Some (c, o)) (Some (d, n)) = (o < n) × (n ≤ length ops) × (n - suc o ≤ 65535)
 
 -- a word of two bytes or more was passed over
 pub record Long (text : List ℕ) (r s : Made) : Type 0 where
@@ -131,8 +123,8 @@ pub data FrontIs (text : List ℕ) (r : Made) : StatementFront → Type 0 where
   other : Absent statement text r → FrontIs text r front.Other
 
 -- how a member ends behind its statement, whatever that is
-pub data EndsIs (text : List ℕ) : Made → MemberRead → Type 0 where
-  halted : EndsIs text NoReading member.NoReading
-  refused : {c : Cursor} {n : ℕ} → ((q : Stmt) → ends_member q (drop c.at text) ≡ nothing) → EndsIs text (Next c n) member.NoReading
+pub data EndsIs (text : List ℕ) : Made → Option (ℕ × ℕ) → Type 0 where
+  halted : EndsIs text None None
+  refused : {c : Cursor} {n : ℕ} → ((q : Stmt) → ends_member q (drop c.at text) ≡ nothing) → EndsIs text (Some (c, n)) None
   ends : {c : Cursor} {n : ℕ} (left : ℕ) (t : List ℕ) → ((q : Stmt) → ends_member q (drop c.at text) ≡ found (record { statement = q; left = left }) t)
-      → EndsIs text (Next c n) (member.Member n left)
+      → EndsIs text (Some (c, n)) (Some (n, left))

@@ -2,7 +2,8 @@
 // statements go from a state to a state and write the operations of what they read.
 #![tactic(auto)]
 
-ghost use Rattle.std.specs.Prelude.{◌+◌, ◌*◌, ◌-◌, ◌≤◌, ◌<◌, ◌≡◌, [], ◌∷◌, ◌++◌, length, drop, if◌then◌else◌};
+ghost use Rattle.std.specs.Prelude.{Err, ◌+◌, ◌*◌, ◌-◌, ◌≤◌, ◌<◌, ◌≡◌, [], ◌∷◌, ◌++◌, length, drop, if◌then◌else◌};
+ghost use Rattle.std.specs.List.{list_all};
 ghost use Rattle.std.proofs.lemmas.List.Edits.{sets};
 ghost use Rattle.std.proofs.Math.Seq.{slice};
 ghost use Rattle.nibl.specs.Bytes.{is_text, all};
@@ -12,10 +13,10 @@ ghost use Rattle.relation.specs.Code.{values};
 ghost use Rattle.codes.specs.Codes.{codes, op, code_input_variable};
 ghost use Rattle.relation.specs.Makes.{only, bare};
 ghost use Rattle.reader.specs.Code.{texts, item_code, items_code, compile};
-ghost use Rattle.reader.specs.Forms.{Room, Spends, KindIs, KeyedIs, MayIs, filled_by, Puts, Counted, Countable, copying, going, ending, stepping, variables_into, RemarkIs, FrontIs, EndsIs};
+ghost use Rattle.reader.specs.Forms.{Room, Spends, KindIs, MayIs, filled_by, Puts, Counted, Countable, copying, going, ending, stepping, variables_into, RemarkIs, FrontIs, EndsIs};
 ghost use Rattle.reader.specs.Answers.{has_room, zeros, member_of, member_ops};
 
-use relation::{Made, Signed};
+use relation::Made;
 use word::{Cursor, Word, sign};
 
 // The word that stands next, and the state past it: a variable, a string by its bounds, or a sign.
@@ -25,13 +26,6 @@ pub enum Kind {
     Text(usize, usize, Made),
     Sign(u8, Made),
     Other,
-}
-
-// The state past a sign, where it stands next.
-#[derive(Clone, Copy)]
-pub enum Keyed {
-    Past(Made),
-    Not,
 }
 
 // How a statement begins, and the state past that: by a variable, with the operation that assigns to it; by a
@@ -45,11 +39,9 @@ pub enum StatementFront {
     Other,
 }
 
-// The first member of a text: the number of its operations, and how many bytes stand from its end on, 0 where
-// that is the text's end.
-#[derive(Clone, Copy)]
-pub enum MemberRead {
-    Member(usize, usize),
+// Why a text has no reading: the grammar gives it none, or there is no room for its operations.
+#[derive(Clone, Copy, PartialEq, Eq)]
+pub enum Unread {
     NoReading,
     NoRoom,
 }
@@ -63,12 +55,6 @@ const STEP_OF_ONE: u32 = codes::CODES + codes::CONSTANT;
 // The longest text: its counts fit into an operation.
 const LONGEST_TEXT: usize = 65535;
 
-fn wide(b: u8) -> u32
-    ensures { result ≡ b }
-{
-    b as u32
-}
-
 // The operation of a code that counts.
 fn count(n: usize, code: u32) -> u32
     requires { (n ≤ 65536) × (code < codes) }
@@ -80,41 +66,22 @@ fn count(n: usize, code: u32) -> u32
 fn kind_at(text: &[u8], r: Made) -> Kind
     ensures { KindIs text.now r result }
 {
-    let Made::Next(c, o) = r else {
+    let Some((c, o)) = r else {
         return Kind::Other;
     };
-    let w = word::word_at(text, c);
-    match w {
-        Word::Variable(v, p) => Kind::Variable(v, Made::Next(p, o)),
-        Word::Text(i, j, p) => Kind::Text(i, j, Made::Next(p, o)),
-        Word::Sign(k, p) => Kind::Sign(k, Made::Next(p, o)),
+    match word::word_at(text, c) {
+        Word::Variable(v, p) => Kind::Variable(v, Some((p, o))),
+        Word::Text(i, j, p) => Kind::Text(i, j, Some((p, o))),
+        Word::Sign(k, p) => Kind::Sign(k, Some((p, o))),
         _ => Kind::Other,
     }
-}
-
-// Whether the sign of this number stands next.
-fn next_is(text: &[u8], r: Made, k: u8) -> Keyed
-    ensures { KeyedIs k text.now r result }
-{
-    let w = relation::sign_at(text, r);
-    let Signed::By(j, m) = w else {
-        return Keyed::Not;
-    };
-    if j == k {
-        return Keyed::Past(m);
-    }
-    Keyed::Not
 }
 
 // Past the sign of this number, if it stands next.
 fn past_any(text: &[u8], r: Made, k: u8) -> Made
     ensures { MayIs k text.now r result }
 {
-    let n = next_is(text, r, k);
-    match n {
-        Keyed::Past(m) => m,
-        Keyed::Not => r,
-    }
+    relation::past_sign(text, r, k).or(r)
 }
 
 // A relation, and one operation for what is done with its value.
@@ -126,7 +93,7 @@ fn with_relation(text: &[u8], r: Made, ops: &mut [u32], v: u32) -> Made
     relation::write(ops, e, v)
 }
 
-// A factor, and one operation.
+// A factor, and one operation. With the reader as a parameter, its clause would have to say what each call of it reads.
 fn with_factor(text: &[u8], r: Made, ops: &mut [u32], v: u32) -> Made
     requires { Room 1 text.now ops.old r }
     ensures { Spends 1 (only (read factor)) bare (λ a. values a ++ (v ∷ [])) text.now ops.old r ops.new result }
@@ -149,47 +116,31 @@ fn with_variable(text: &[u8], r: Made, ops: &mut [u32], code: u32) -> Made
     requires { Room 0 text.now ops.old r × (code < codes) }
     ensures { Spends 0 (only a_variable) bare (λ v. op code v ∷ []) text.now ops.old r ops.new result }
 {
-    let w = kind_at(text, r);
-    let Kind::Variable(v, m) = w else {
-        return Made::NoReading;
+    let Kind::Variable(v, m) = kind_at(text, r) else {
+        return None;
     };
-    relation::write(ops, m, codes::operation(code, wide(v)))
+    relation::write(ops, m, codes::operation(code, u32::from(v)))
 }
 
-// An operation of the code for each byte of a part of the text.
-fn put_text(text: &[u8], from: usize, to: usize, ops: &mut [u32], o: usize, code: u32)
-    requires { (from ≤ to) × (to ≤ length text.now) × (o + (to - from) ≤ length ops.old) × (code < codes) }
-    ensures { ops.new ≡ sets ops.old o (texts code (slice from to text.now)) }
+// An operation of the code for each byte.
+fn put_text(bytes: &[u8], ops: &mut [u32], o: usize, code: u32)
+    requires { (o + length bytes.now ≤ length ops.old) × (code < codes) }
+    ensures { ops.new ≡ sets ops.old o (texts code bytes.now) }
 {
-    let mut i = from;
-    let mut n = o;
-    while i < to {
-        ops[n] = codes::operation(code, wide(text[i]));
-        n += 1;
-        i += 1;
+    for (i, b) in bytes.iter().enumerate() {
+        ops[o + i] = codes::operation(code, u32::from(*b));
     }
 }
 
-// An operation, and those of a part of the text.
-fn with_text(
-    text: &[u8],
-    from: usize,
-    to: usize,
-    r: Made,
-    ops: &mut [u32],
-    v: u32,
-    code: u32,
-) -> Made
-    requires { (from ≤ to) × (to ≤ length text.now) × (filled_by (1 + (to - from)) r ≤ length ops.old) × (code < codes) }
-    ensures { Puts (v ∷ texts code (slice from to text.now)) ops.old r ops.new result }
+// An operation, and those of the bytes of a string.
+fn with_text(bytes: &[u8], r: Made, ops: &mut [u32], v: u32, code: u32) -> Made
+    requires { (filled_by (1 + length bytes.now) r ≤ length ops.old) × (code < codes) }
+    ensures { Puts (v ∷ texts code bytes.now) ops.old r ops.new result }
 {
-    let Made::Next(c, o) = r else {
-        return Made::NoReading;
-    };
+    let (c, o) = r?;
     ops[o] = v;
-    let n = o + 1;
-    put_text(text, from, to, ops, n, code);
-    Made::Next(c, n + (to - from))
+    put_text(bytes, ops, o + 1, code);
+    Some((c, o + 1 + bytes.len()))
 }
 
 // What is stored at the address that was read: a string, or the one at another address.
@@ -197,18 +148,11 @@ fn copied(text: &[u8], r: Made, ops: &mut [u32]) -> Made
     requires { Room 0 text.now ops.old r }
     ensures { Spends 0 copying values compile text.now ops.old r ops.new result }
 {
-    let w = kind_at(text, r);
-    match w {
+    match kind_at(text, r) {
         Kind::Text(i, j, m) => {
-            let t = with_text(
-                text,
-                i,
-                j,
-                m,
-                ops,
-                count(j - i + 1, codes::STORE_STRING),
-                codes::STRING_BYTE,
-            );
+            let bytes = &text[i..j];
+            let n = count(bytes.len() + 1, codes::STORE_STRING);
+            let t = with_text(bytes, m, ops, n, codes::STRING_BYTE);
             relation::write(ops, t, STRING_END)
         }
         _ => {
@@ -234,7 +178,7 @@ fn let_form(text: &[u8], r: Made, ops: &mut [u32], k: u8) -> Made
             let e = relation::past_sign(text, a, sign::EQUAL);
             copied(text, e, ops)
         }
-        _ => Made::NoReading,
+        _ => None,
     }
 }
 
@@ -243,13 +187,17 @@ fn let_at(text: &[u8], r: Made, ops: &mut [u32]) -> Made
     requires { Room 0 text.now ops.old r }
     ensures { Spends 0 (only (by_word let_of)) bare compile text.now ops.old r ops.new result }
 {
-    let w = kind_at(text, r);
-    match w {
+    match kind_at(text, r) {
         Kind::Variable(v, m) => {
-            assigned(text, m, ops, codes::operation(codes::SET_VARIABLE, wide(v)))
+            assigned(
+                text,
+                m,
+                ops,
+                codes::operation(codes::SET_VARIABLE, u32::from(v)),
+            )
         }
         Kind::Sign(k, m) => let_form(text, m, ops, k),
-        _ => Made::NoReading,
+        _ => None,
     }
 }
 
@@ -258,14 +206,11 @@ fn go_to(text: &[u8], r: Made, ops: &mut [u32]) -> Made
     requires { Room 0 text.now ops.old r }
     ensures { Spends 0 (only going) bare compile text.now ops.old r ops.new result }
 {
-    let w = relation::sign_at(text, r);
-    let Signed::By(k, m) = w else {
-        return Made::NoReading;
-    };
+    let (k, m) = relation::sign_at(text, r)?;
     match k {
         sign::TO => with_relation(text, m, ops, codes::GOTO),
         sign::SUB => with_relation(text, m, ops, codes::GOSUB),
-        _ => Made::NoReading,
+        _ => None,
     }
 }
 
@@ -274,25 +219,13 @@ fn item(text: &[u8], r: Made, ops: &mut [u32]) -> Made
     requires { Room 1 text.now ops.old r }
     ensures { Spends 1 (only an_item) bare item_code text.now ops.old r ops.new result }
 {
-    let w = kind_at(text, r);
-    match w {
+    match kind_at(text, r) {
         Kind::Text(i, j, m) => {
-            with_text(
-                text,
-                i,
-                j,
-                m,
-                ops,
-                count(j - i, codes::PRINT_ROOM),
-                codes::PRINT_BYTE,
-            )
+            let bytes = &text[i..j];
+            let n = count(bytes.len(), codes::PRINT_ROOM);
+            with_text(bytes, m, ops, n, codes::PRINT_BYTE)
         }
-        Kind::Sign(k, m) => {
-            if k == sign::DOLLAR {
-                return with_factor(text, m, ops, codes::PRINT_STRING);
-            }
-            with_relation(text, r, ops, codes::PRINT_NUMBER)
-        }
+        Kind::Sign(sign::DOLLAR, m) => with_factor(text, m, ops, codes::PRINT_STRING),
         _ => with_relation(text, r, ops, codes::PRINT_NUMBER),
     }
 }
@@ -305,10 +238,10 @@ fn items(text: &[u8], r: Made, ops: &mut [u32]) -> Made
     let mut s = r;
     loop {
         let a = item(text, s, ops);
-        let n = next_is(text, a, sign::COMMA);
-        let Keyed::Past(m) = n else {
+        let m = relation::past_sign(text, a, sign::COMMA);
+        if m.is_none() {
             return a;
-        };
+        }
         s = m;
     }
 }
@@ -318,10 +251,10 @@ fn print_end(text: &[u8], r: Made, ops: &mut [u32]) -> Made
     requires { Room 1 text.now ops.old r }
     ensures { Spends 1 ending items_code compile text.now ops.old r ops.new result }
 {
-    let n = next_is(text, r, sign::SEMICOLON);
-    match n {
-        Keyed::Past(m) => m,
-        Keyed::Not => relation::write(ops, r, codes::PRINT_END),
+    let m = relation::past_sign(text, r, sign::SEMICOLON);
+    match m {
+        Some(_) => m,
+        None => relation::write(ops, r, codes::PRINT_END),
     }
 }
 
@@ -339,10 +272,10 @@ fn step(text: &[u8], r: Made, ops: &mut [u32]) -> Made
     requires { Room 1 text.now ops.old r }
     ensures { Spends 1 (only stepping) bare values text.now ops.old r ops.new result }
 {
-    let n = next_is(text, r, sign::STEP);
-    match n {
-        Keyed::Past(m) => relation::read_relation(text, m, ops),
-        Keyed::Not => relation::write(ops, r, STEP_OF_ONE),
+    let m = relation::past_sign(text, r, sign::STEP);
+    match m {
+        Some(_) => relation::read_relation(text, m, ops),
+        None => relation::write(ops, r, STEP_OF_ONE),
     }
 }
 
@@ -351,19 +284,19 @@ fn for_to(text: &[u8], r: Made, ops: &mut [u32]) -> Made
     requires { Room 0 text.now ops.old r }
     ensures { Spends 0 (only for_to) bare compile text.now ops.old r ops.new result }
 {
-    let w = kind_at(text, r);
-    let Kind::Variable(v, m) = w else {
-        return Made::NoReading;
+    let Kind::Variable(v, m) = kind_at(text, r) else {
+        return None;
     };
     let e = relation::past_sign(text, m, sign::EQUAL);
     let a = relation::read_relation(text, e, ops);
     let t = relation::past_sign(text, a, sign::TO);
     let b = relation::read_relation(text, t, ops);
     let s = step(text, b, ops);
-    relation::write(ops, s, codes::operation(codes::FOR, wide(v)))
+    relation::write(ops, s, codes::operation(codes::FOR, u32::from(v)))
 }
 
-// Variables joined by commas, each with the operation that gives it a value; in a loop, like items.
+// Variables joined by commas, each with the operation that gives it a value; in a loop, like items. One loop for both
+// would need a trait that names the reader, its operations and its room, which is no plainer.
 fn variables(text: &[u8], r: Made, ops: &mut [u32]) -> Made
     requires { Room 0 text.now ops.old r }
     ensures { Spends 0 (only (joined a_variable)) bare (texts code_input_variable) text.now ops.old r ops.new result }
@@ -371,10 +304,10 @@ fn variables(text: &[u8], r: Made, ops: &mut [u32]) -> Made
     let mut s = r;
     loop {
         let v = with_variable(text, s, ops, codes::INPUT_VARIABLE);
-        let n = next_is(text, v, sign::COMMA);
-        let Keyed::Past(m) = n else {
+        let m = relation::past_sign(text, v, sign::COMMA);
+        if m.is_none() {
             return v;
-        };
+        }
         s = m;
     }
 }
@@ -384,14 +317,10 @@ fn counted(ops: &mut [u32], r: Made, s: Made) -> Made
     requires { Countable ops.old r s }
     ensures { Counted ops.old r s ops.new result }
 {
-    let Made::Next(_, o) = r else {
-        return Made::NoReading;
-    };
-    let Made::Next(d, n) = s else {
-        return Made::NoReading;
-    };
+    let (_, o) = r?;
+    let (_, n) = s?;
     ops[o] = count(n - o - 1, codes::INPUT);
-    Made::Next(d, n)
+    s
 }
 
 // The variables of INPUT, behind an operation with their number.
@@ -409,39 +338,29 @@ fn input(text: &[u8], r: Made, ops: &mut [u32]) -> Made
     requires { Room 1 text.now ops.old r }
     ensures { Spends 1 (only inputting) bare compile text.now ops.old r ops.new result }
 {
-    let n = next_is(text, r, sign::DOLLAR);
-    match n {
-        Keyed::Past(m) => with_factor(text, m, ops, codes::INPUT_STRING),
-        Keyed::Not => counted_variables(text, r, ops),
+    let m = relation::past_sign(text, r, sign::DOLLAR);
+    match m {
+        Some(_) => with_factor(text, m, ops, codes::INPUT_STRING),
+        None => counted_variables(text, r, ops),
     }
 }
 
 // Whether nothing but text bytes is left.
 fn all_text(text: &[u8], from: usize) -> bool
-    ensures { result ≡ all is_text (drop from text.now) }
+    ensures { result ≡ list_all is_text (drop from text.now) }
 {
-    let mut i = from;
-    while i < text.len() {
-        if !letter::is_text(text[i]) {
-            return false;
-        }
-        i += 1;
-    }
-    true
+    text.iter().skip(from).all(|b| letter::is_text(*b))
 }
 
 // What follows REM: the rest of the text.
 fn remark(text: &[u8], r: Made) -> Made
     ensures { RemarkIs text.now r result }
 {
-    let Made::Next(c, o) = r else {
-        return Made::NoReading;
-    };
-    let at = c.at;
-    if all_text(text, at) {
-        return Made::Next(Cursor { at: text.len() }, o);
+    let (c, o) = r?;
+    if all_text(text, c.at) {
+        return Some((Cursor { at: text.len() }, o));
     }
-    Made::NoReading
+    None
 }
 
 // A statement past its keyword, which is not IF.
@@ -472,10 +391,9 @@ fn form(text: &[u8], r: Made, ops: &mut [u32], k: u8) -> Made
 fn front_at(text: &[u8], r: Made) -> StatementFront
     ensures { FrontIs text.now r result }
 {
-    let w = kind_at(text, r);
-    match w {
+    match kind_at(text, r) {
         Kind::Variable(v, m) => {
-            StatementFront::Assigns(codes::operation(codes::SET_VARIABLE, wide(v)), m)
+            StatementFront::Assigns(codes::operation(codes::SET_VARIABLE, u32::from(v)), m)
         }
         Kind::Sign(k, m) => {
             if k < sign::KEYWORD {
@@ -497,8 +415,7 @@ fn read_statement(text: &[u8], r: Made, ops: &mut [u32]) -> Made
 {
     let mut s = r;
     loop {
-        let f = front_at(text, s);
-        match f {
+        match front_at(text, s) {
             StatementFront::Assigns(v, m) => {
                 return assigned(text, m, ops, v);
             }
@@ -514,30 +431,21 @@ fn read_statement(text: &[u8], r: Made, ops: &mut [u32]) -> Made
                 return form(text, m, ops, k);
             }
             StatementFront::Other => {
-                return Made::NoReading;
+                return None;
             }
         }
     }
 }
 
 // How a member ends: with the text, or at a ":".
-fn member_end(text: &[u8], r: Made) -> MemberRead
+fn member_end(text: &[u8], r: Made) -> Option<(usize, usize)>
     ensures { EndsIs text.now r result }
 {
-    let Made::Next(c, n) = r else {
-        return MemberRead::NoReading;
-    };
-    let w = word::word_at(text, c);
-    match w {
-        Word::End => MemberRead::Member(n, 0),
-        Word::Sign(k, p) => {
-            let at = p.at;
-            if k == sign::COLON {
-                return MemberRead::Member(n, text.len() - at + 1);
-            }
-            MemberRead::NoReading
-        }
-        _ => MemberRead::NoReading,
+    let (c, n) = r?;
+    match word::word_at(text, c) {
+        Word::End => Some((n, 0)),
+        Word::Sign(sign::COLON, p) => Some((n, text.len() - p.at + 1)),
+        _ => None,
     }
 }
 
@@ -545,11 +453,7 @@ fn member_end(text: &[u8], r: Made) -> MemberRead
 pub fn clear(ops: &mut [u32])
     ensures { ops.new ≡ zeros ops.old }
 {
-    let mut i = 0;
-    while i < ops.len() {
-        ops[i] = 0;
-        i += 1;
-    }
+    ops.fill(0);
 }
 
 // Whether there is room for the operations of any reading of a text: one to each byte, and a text whose counts
@@ -560,19 +464,19 @@ pub fn has_room(text: &[u8], ops: &[u32]) -> bool
     text.len() <= ops.len() && text.len() <= LONGEST_TEXT
 }
 
-// The first member of a text, with its operations from 0 on. Where it has no reading they are zeros.
-pub fn read_member(text: &[u8], ops: &mut [u32]) -> MemberRead
-    ensures value { result ≡ (if has_room text.now ops.old then member_of (member text.now) else MemberRead.NoRoom) }
+// The first member of a text, with its operations from 0 on: their number, and how many bytes stand from its end on, 0
+// where that is the text's end. Where it has no reading the operations are zeros.
+pub fn read_member(text: &[u8], ops: &mut [u32]) -> Result<(usize, usize), Unread>
+    ensures value { result ≡ (if has_room text.now ops.old then member_of (member text.now) else Err Unread.NoRoom) }
     ensures ops_after { ops.new ≡ (if has_room text.now ops.old then member_ops ops.old (member text.now) else ops.old) }
 {
     if !has_room(text, ops) {
-        return MemberRead::NoRoom;
+        return Err(Unread::NoRoom);
     }
-    let s = read_statement(text, Made::Next(Cursor { at: 0 }, 0), ops);
-    let m = member_end(text, s);
-    let MemberRead::Member(n, left) = m else {
+    let s = read_statement(text, Some((Cursor { at: 0 }, 0)), ops);
+    let Some(m) = member_end(text, s) else {
         clear(ops);
-        return MemberRead::NoReading;
+        return Err(Unread::NoReading);
     };
-    MemberRead::Member(n, left)
+    Ok(m)
 }

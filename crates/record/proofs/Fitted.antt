@@ -1,5 +1,6 @@
 -- A session record that fits places: what its test says, where they let a run stand, and that its changes keep them. Assumes nothing.
 use Prim.Native.Nat.{ℕ, suc, ◌%◌, ◌≤◌, ◌<◌}
+use Rattle.std.specs.Prelude.{Some, None}
 use mathlib.Core.Path.{◌≡◌, sym, ◌∙◌}
 use mathlib.Core.Bool.{true, false, false≢true}
 use mathlib.Core.List.{List}
@@ -14,8 +15,6 @@ use Rattle.nibl.specs.Record.{position, mark, nowhere, paused_at, with_vars, wit
 use Rattle.nibl.specs.declared.Place.{Place}
 use Rattle.nibl.specs.declared.ForEntry.{ForEntry}
 use Rattle.nibl.specs.declared.Session.{Session}
-use Rattle.nibl.specs.declared.Top.TheVariants as top
-use Rattle.nibl.specs.declared.TopFor.TheVariants as topf
 use Rattle.nibl.proofs.Words.{or_cases}
 use Rattle.nibl.proofs.Sizes as sizes
 use Rattle.page.specs.Standing.{Stands}
@@ -97,15 +96,15 @@ fit-sound lim {page = page} {s = s} g f =
 
 -- Where RETURN, UNTIL and NEXT go on, and a paused run
 module _ (ps : List ℕ) (s : Session) (h : Fit ps s) where
-  pub return-stands : (p : Place) → (pop_of s.gosubs).top ≡ top.At p → eqb (position p) mark ≡ false → Stands ps (suc (position p))
+  pub return-stands : (p : Place) → (pop_of s.gosubs).top ≡ Some p → eqb (position p) mark ≡ false → Stands ps (suc (position p))
   return-stands p e n =
       or_cases (is_among ps (position p)) (eqb (position p) mark) (top-place (is_saved ps true) s.gosubs h.gosubs p e) (λ i. i) (λ i. absurd (false≢true (sym n ∙ i)))
 
-  pub until-stands : (p : Place) → (pop_of s.dos).top ≡ top.At p → Stands ps (suc (position p))
+  pub until-stands : (p : Place) → (pop_of s.dos).top ≡ Some p → Stands ps (suc (position p))
   until-stands p e = top-place (is_place ps) s.dos h.dos p e
 
   -- the variable of the FOR is one of the 26
-  pub next_known : (x : ForEntry) → (pop_for s.fors).top ≡ topf.Entry x → (x.var < 26) × Stands ps (suc (position x.place))
+  pub next_known : (x : ForEntry) → (pop_for s.fors).top ≡ Some x → (x.var < 26) × Stands ps (suc (position x.place))
   next_known x e =
       let b = both (ltb x.var 26) _ (top-entry (is_under_way ps) s.fors h.fors x e) in
       (ltb-true _ _ b.0, b.1)

@@ -1,5 +1,6 @@
 -- A stack whose live slots pass a test, pushed, popped and looked at: what is popped passes it too. Assumes nothing.
 use Rattle.std.specs.Prelude.{if◌then◌else◌}
+use Rattle.std.specs.Prelude.{Some, None}
 use Prim.Native.Nat.{ℕ, zero, suc, ◌+◌, ◌-◌, ◌≤◌, ◌<◌}
 use mathlib.Core.Path.{◌≡◌, refl, ◌∙◌}
 use mathlib.Core.Bool.{Bool, true, false}
@@ -10,15 +11,11 @@ use lib.ListN.{length, get_or, set, take, length-set}
 use lib.Dec.{ltb}
 use borrow.Author.Tests.{ltb-true, ltb-false}
 use Rattle.nibl.specs.Bytes.{all}
-use Rattle.nibl.specs.Stack.{on_top, no_place, no_entry, push_of, pop_of, push_for, pop_for}
+use Rattle.nibl.specs.Stack.{Pushed, on_top, no_place, no_entry, push_of, pop_of, push_for, pop_for}
 use Rattle.nibl.specs.declared.Place.{Place}
 use Rattle.nibl.specs.declared.PlaceStack.{PlaceStack}
-use Rattle.nibl.specs.declared.Pushed.{Pushed}
-use Rattle.nibl.specs.declared.PushedFor.{PushedFor}
 use Rattle.nibl.specs.declared.ForEntry.{ForEntry}
 use Rattle.nibl.specs.declared.ForStack.{ForStack}
-use Rattle.nibl.specs.declared.Top.TheVariants as top
-use Rattle.nibl.specs.declared.TopFor.TheVariants as topf
 use Rattle.nibl.proofs.Words.{if-split}
 use Rattle.page.proofs.Program.{both}
 use Rattle.record.specs.Fit.{Held, Places, Entries}
@@ -72,20 +69,20 @@ module _ {A : Type 0} (f : A → Bool) where
 -- The stacks of GOSUB and DO, and of FOR
 module _ (f : Place → Bool) (s : PlaceStack) (h : Places f s) where
   pub push_places : (p : Place) → f p ≡ true → Places f (push_of s p).stack
-  push_places p e = if-split (λ (r : Pushed). Places f r.stack) (ltb s.depth 8) (λ l. held-push f h p (ltb-true _ _ l) e) (λ _. h)
+  push_places p e = if-split (λ (r : Pushed PlaceStack). Places f r.stack) (ltb s.depth 8) (λ l. held-push f h p (ltb-true _ _ l) e) (λ _. h)
 
   pub pop_places : Places f (pop_of s).stack
   pop_places = held-pop f h
 
-  pub top-place : (p : Place) → (pop_of s).top ≡ top.At p → f p ≡ true
-  top-place p e = held-shown f h p no_place top.Empty top.At e (λ i. let z : ◌≡◌ {A = ℕ} 0 1 = cc in omega arith) (λ q i. cc)
+  pub top-place : (p : Place) → (pop_of s).top ≡ Some p → f p ≡ true
+  top-place p e = held-shown f h p no_place None Some e (λ i. let z : ◌≡◌ {A = ℕ} 0 1 = cc in omega arith) (λ q i. cc)
 
 module _ (f : ForEntry → Bool) (s : ForStack) (h : Entries f s) where
   pub push-entries : (x : ForEntry) → f x ≡ true → Entries f (push_for s x).stack
-  push-entries x e = if-split (λ (r : PushedFor). Entries f r.stack) (ltb s.depth 4) (λ l. held-push f h x (ltb-true _ _ l) e) (λ _. h)
+  push-entries x e = if-split (λ (r : Pushed ForStack). Entries f r.stack) (ltb s.depth 4) (λ l. held-push f h x (ltb-true _ _ l) e) (λ _. h)
 
   pub pop-entries : Entries f (pop_for s).stack
   pop-entries = held-pop f h
 
-  pub top-entry : (x : ForEntry) → (pop_for s).top ≡ topf.Entry x → f x ≡ true
-  top-entry x e = held-shown f h x no_entry topf.Empty topf.Entry e (λ i. let z : ◌≡◌ {A = ℕ} 0 1 = cc in omega arith) (λ y i. cc)
+  pub top-entry : (x : ForEntry) → (pop_for s).top ≡ Some x → f x ≡ true
+  top-entry x e = held-shown f h x no_entry None Some e (λ i. let z : ◌≡◌ {A = ℕ} 0 1 = cc in omega arith) (λ y i. cc)

@@ -1,6 +1,8 @@
 -- A statement that runs with a record that fits places leaves one that fits them, and goes on only to where a run may stand, if the lines
 -- that its page has are such positions; and so does LIST. Assumes nothing.
 use Rattle.std.specs.Prelude.{if◌then◌else◌}
+use Rattle.std.specs.Prelude.{Option as Opt, Some, None}
+use Rattle.nibl.specs.declared.Place.{Place}
 use Prim.Native.Nat.{ℕ, suc, ◌+◌}
 use mathlib.Core.Path.{◌≡◌, refl, sym, ◌∙◌}
 use mathlib.Core.Bool.{Bool, true, false, not, true≢false}
@@ -22,10 +24,6 @@ use Rattle.nibl.specs.Record.{mark, with_gosubs, place, position}
 use Rattle.nibl.specs.Runs.{env_at}
 use Rattle.nibl.specs.Calls.{needs_program, listed, list_from}
 use Rattle.nibl.specs.declared.ForEntry.{ForEntry}
-use Rattle.nibl.specs.declared.Top.{Top}
-use Rattle.nibl.specs.declared.Top.TheVariants as top
-use Rattle.nibl.specs.declared.TopFor.{TopFor}
-use Rattle.nibl.specs.declared.TopFor.TheVariants as topf
 use Rattle.nibl.proofs.Words.{if-split}
 use Rattle.page.specs.Standing.{Stands}
 use Rattle.page.proofs.Walk.{or_right}
@@ -58,25 +56,25 @@ module _ (ps : List ℕ) where
   unfolding keep_in
   keep-goes w r h = given-goes r w _ h (λ m. to_next h)
 
-  return-goes : (w : World) (t : Top) → (pop_of w.session.gosubs).top ≡ t → Fits w → Goes ps (return_by w t)
+  return-goes : (w : World) (t : Opt Place) → (pop_of w.session.gosubs).top ≡ t → Fits w → Goes ps (return_by w t)
   unfolding return_by
-  return-goes w top.Empty e h = to_end h
-  return-goes w (top.At p) e h = by (eqb (position p) mark) refl
+  return-goes w None e h = to_end h
+  return-goes w (Some p) e h = by (eqb (position p) mark) refl
     where
       by : (b : Bool) → eqb (position p) mark ≡ b
           → Goes ps (done (if b then stop 0 else go (suc (position p))) (with_session w (with_gosubs w.session (pop_of w.session.gosubs).stack)))
       by true i = to_end (fit-return h)
       by false i = to_place (return-stands ps w.session h p e i) (fit-return h)
 
-  until-goes : (w : World) (x : ℕ) (t : Top) → (pop_of w.session.dos).top ≡ t → Fits w → Goes ps (until_by w x t)
+  until-goes : (w : World) (x : ℕ) (t : Opt Place) → (pop_of w.session.dos).top ≡ t → Fits w → Goes ps (until_by w x t)
   unfolding until_by
-  until-goes w x top.Empty e h = to_end h
-  until-goes w x (top.At p) e h = if-split (Goes ps) (eqb x 0) (λ i. to_place (until-stands ps w.session h p e) h) (λ i. to_next (fit-until h))
+  until-goes w x None e h = to_end h
+  until-goes w x (Some p) e h = if-split (Goes ps) (eqb x 0) (λ i. to_place (until-stands ps w.session h p e) h) (λ i. to_next (fit-until h))
 
-  next-goes : (w : World) (v : ℕ) (t : TopFor) → (pop_for w.session.fors).top ≡ t → Fits w → Goes ps (next_by w v t)
+  next-goes : (w : World) (v : ℕ) (t : Opt ForEntry) → (pop_for w.session.fors).top ≡ t → Fits w → Goes ps (next_by w v t)
   unfolding next_by
-  next-goes w v topf.Empty e h = to_end h
-  next-goes w v (topf.Entry f) e h =
+  next-goes w v None e h = to_end h
+  next-goes w v (Some f) e h =
       if-split (Goes ps) (not (eqb f.var v)) (λ i. to_end h) (λ i. if-split (Goes ps) (goes_on f.step _ f.limit)
       (λ j. to_place (next_known ps w.session h f e).1 (fit-var h v _)) (λ j. to_next (fit_next (fit-var h v _))))
 

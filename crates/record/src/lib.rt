@@ -7,7 +7,7 @@ ghost use Rattle.nibl.specs.Page.{places_of, fits_paused, fits};
 ghost use Rattle.nibl.specs.Record.{position_of, paused_at};
 ghost use Rattle.record.specs.Fits.{is_saved, is_under_way, stacks_fit};
 
-use nibl::{ForEntry, ForStack, Onward, Paused, Place, PlaceStack, Session};
+use nibl::{ForEntry, ForStack, Onward, Place, PlaceStack, Session};
 
 // The last variable, and all flags set.
 const LAST_VARIABLE: u8 = nibl::VARIABLES as u8 - 1;
@@ -18,13 +18,7 @@ const ALL_FLAGS: u8 = nibl::FLAGS as u8 - 1;
 fn is_saved(page: &[u8], place: Place, marked: bool) -> bool
     ensures { result ≡ is_saved (places_of page.now) marked place }
 {
-    if places::is_place(page, place) {
-        return true;
-    }
-    if marked {
-        return place.is_mark();
-    }
-    false
+    places::is_place(page, place) || (marked && place.is_mark())
 }
 
 // Whether the live slots of a stack hold such places.
@@ -32,42 +26,25 @@ fn fits_places(page: &[u8], stack: PlaceStack, marked: bool) -> bool
     requires { stack.depth ≤ 8 }
     ensures { result ≡ all (is_saved (places_of page.now) marked) (take stack.depth stack.places) }
 {
-    let n = stack.depth;
-    let mut i: usize = 0;
-    while i < n {
-        let p = stack.places[i];
-        if !is_saved(page, p, marked) {
-            return false;
-        }
-        i += 1;
-    }
-    true
+    stack.places[..stack.depth]
+        .iter()
+        .all(|p| is_saved(page, *p, marked))
 }
 
 // Whether a FOR under way names a variable and a place of the page.
 fn is_under_way(page: &[u8], entry: ForEntry) -> bool
     ensures { result ≡ is_under_way (places_of page.now) entry }
 {
-    if LAST_VARIABLE < entry.var {
-        return false;
-    }
-    places::is_place(page, entry.place)
+    entry.var <= LAST_VARIABLE && places::is_place(page, entry.place)
 }
 
 fn fits_fors(page: &[u8], stack: ForStack) -> bool
     requires { stack.depth ≤ 4 }
     ensures { result ≡ all (is_under_way (places_of page.now)) (take stack.depth stack.entries) }
 {
-    let n = stack.depth;
-    let mut i: usize = 0;
-    while i < n {
-        let e = stack.entries[i];
-        if !is_under_way(page, e) {
-            return false;
-        }
-        i += 1;
-    }
-    true
+    stack.entries[..stack.depth]
+        .iter()
+        .all(|e| is_under_way(page, *e))
 }
 
 // Whether a run may go on there.
@@ -83,10 +60,9 @@ fn may_go_on(page: &[u8], onward: Onward) -> bool
 fn fits_paused(page: &[u8], number: u16) -> bool
     ensures { result ≡ fits_paused (places_of page.now) number }
 {
-    let paused = Paused::of(number);
-    match paused {
-        Paused::Nowhere => true,
-        Paused::At(onward) => may_go_on(page, onward),
+    match Onward::paused(number) {
+        None => true,
+        Some(onward) => may_go_on(page, onward),
     }
 }
 
@@ -95,35 +71,18 @@ fn fits_stacks(page: &[u8], session: Session) -> bool
     requires { (session.gosubs.depth ≤ 8) × ((session.dos.depth ≤ 8) × (session.fors.depth ≤ 4)) }
     ensures { result ≡ stacks_fit (places_of page.now) session }
 {
-    let gosubs = session.gosubs;
-    let dos = session.dos;
-    let fors = session.fors;
-    if !fits_places(page, gosubs, true) {
-        return false;
-    }
-    if !fits_places(page, dos, false) {
-        return false;
-    }
-    fits_fors(page, fors)
+    fits_places(page, session.gosubs, true)
+        && fits_places(page, session.dos, false)
+        && fits_fors(page, session.fors)
 }
 
 pub fn fits(page: &[u8], session: Session) -> bool
     ensures { result ≡ fits page.now session }
 {
-    if nibl::GOSUBS < session.gosubs.depth {
-        return false;
-    }
-    if nibl::GOSUBS < session.dos.depth {
-        return false;
-    }
-    if nibl::FORS < session.fors.depth {
-        return false;
-    }
-    if !fits_stacks(page, session) {
-        return false;
-    }
-    if ALL_FLAGS < session.flags {
-        return false;
-    }
-    fits_paused(page, session.paused)
+    session.gosubs.depth <= nibl::GOSUBS
+        && session.dos.depth <= nibl::GOSUBS
+        && session.fors.depth <= nibl::FORS
+        && fits_stacks(page, session)
+        && session.flags <= ALL_FLAGS
+        && fits_paused(page, session.paused)
 }

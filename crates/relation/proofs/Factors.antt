@@ -1,4 +1,5 @@
 -- How a factor begins: one law for each first word, and that no other does. Assumes nothing.
+use Rattle.std.specs.Prelude.{Option, None, Some, is_some}
 use Prim.Native.Nat.{ℕ, ◌+◌, ◌-◌, ◌≤◌, ◌<◌}
 use mathlib.Core.Path.{◌≡◌, refl, sym, ap, subst, ◌∙◌}
 use mathlib.Core.Bool.{Bool, true, false, not, ◌&&◌, false≢true, true≢false}
@@ -15,24 +16,20 @@ use Rattle.nibl.specs.Tree.{Expr, var, const, stat, top, byte_at, invert}
 use Rattle.nibl.specs.found.Read.{FrontWord, at_end, wrong, got, step_in, word_step, nothing, Reader, on_step, choose, fail, give, factor_cases, factor_of, read, factor, term, sum, terms}
 use Rattle.nibl.proofs.Sound.{read-factor}
 use Rattle.nibl.proofs.Words.{and_left, and_right, digit-other, step-word, word-digit, word_sound, word-complete}
-use Rattle.word.specs.Found.{AnswerIs, decimal_at, decimal_left, decimal_word, hex_at, hex_word, spelt, is_lone}
+use Rattle.word.specs.declared.Word.TheVariants.{Decimal, Hex, Wrong}
+use Rattle.word.specs.Found.{AnswerIs, decimal_at, decimal_left, hex_at, spelt, is_lone}
 use Rattle.word.proofs.Runs.{at_byte, run_end, end-within, end-stop, stops_at, stops_end}
-use Rattle.word.proofs.Numbers.{word_small, word-large, word_none, word_some}
 use Rattle.word.proofs.Answers.{at-word}
 use Rattle.word.proofs.Standing.{Read, decimal-read, hex-read, wrong-read}
 use Rattle.word.proofs.Firsts.{starts-in}
 use Rattle.word.proofs.Spelled.{sign-spelt, keyword-there, symbol-there, lone-pairs, byte_inside, sign_at}
 use Rattle.codes.specs.Codes.{op, code_constant, code_variable, code_stat, code_top, code_byte, code_not}
 use Rattle.relation.specs.Code.{values}
-use Rattle.relation.specs.declared.Made.{Made}
+use Rattle.relation.specs.Made.{Made}
 use Rattle.relation.specs.Makes.{onto, absent, Makes, standing, MakesAt, LeadIs, minus, plain, is_operand, OperandIs, operand, no_operand, Rest, FormIs, form, no_form}
 use Rattle.relation.proofs.Signs.{over-here, NoneOf, none_left, ◌but◌, no-case}
-use Rattle.relation.proofs.States.{made_at, written-here, led}
+use Rattle.relation.proofs.States.{written-here, led}
 use Rattle.relation.proofs.Ways.{Waiting, waiting-plain, waiting-minus, Begun, factor-none, factor-whole}
-
--- a position behind another is not 0
-behind : {at d : ℕ} → at < d → d ≡ 0 → ⊥
-behind h z = omega arith
 
 factor-step : (s : List ℕ) {w : FrontWord} → step_in keywords s ≡ w → read factor s ≡ on_step w (factor_of read)
 factor-step s e = read-factor s ∙ ap (λ x. on_step x (factor_of read)) e
@@ -58,12 +55,11 @@ module _ {text : List ℕ} where
 
   -- the whole factor is one word, and its operation was written
   pub one_word : {at d o n v : ℕ} {w : Token} {ops ops' : List ℕ} (a : Expr) → values a ≡ v ∷ [] → factor_of read w ≡ give a → Read (step_in keywords) text at w (record { at = d })
-      → ops' ≡ set ops o v → n ≡ o + 1 → MakesAt factor text ops at o ops' d n
-  one_word {at} {d} {o} {n} {ops = ops} {ops' = ops'} a c f r e g =
-      subst (Makes (read factor) values text ops (standing at o) ops') (sym (made_at d n (behind r.on))) (factor-whole a c (begun o r f) (written-here e g))
+      → ops' ≡ set ops o v → n ≡ o + 1 → MakesAt factor text ops at o ops' (Some d) n
+  one_word {o = o} a c f r e g = factor-whole a c (begun o r f) (written-here e g)
 
 -- how a sum begins
-pub lead-waiting : {text ops : List ℕ} {from o r w : ℕ} → LeadIs text from r w → Waiting (read sum) term (λ a. read (terms a)) text ops (standing from o) ops (standing r o) w
+pub lead-waiting : {text ops : List ℕ} {from o r : ℕ} {w : Option ℕ} → LeadIs text from r w → Waiting (read sum) term (λ a. read (terms a)) text ops (standing from o) ops (standing r o) w
 lead-waiting {o = o} (minus h) = let l = h o in waiting-minus l.0 l.1
 lead-waiting {o = o} (plain h l) = waiting-plain (h o) (omega arith) (λ k. omega arith)
 
@@ -97,17 +93,16 @@ module _ (text : List ℕ) (at : ℕ) (h : at < length text) (e : is_digit (get_
       let s = drop (at + 1) text in
       ap (step_in keywords) (at_byte text at h) ∙ step-word keywords b s (digit-other b e).0 ∙ word-digit keywords b s e ∙ ap decimal_at (sym (at_byte text at h))
 
-  module _ (v d : ℕ) (a : AnswerIs decimal_at decimal_left text at (decimal_word v d)) where
-    pub decimal-there : v ≤ 32767 → Read (step_in keywords) text at (decimal v) (record { at = d })
-    decimal-there l = restep digit-step (omega arith) (decimal-read a (word_small v d l)).0
+  pub decimal-there : {v d : ℕ} → AnswerIs decimal_at decimal_left text at (Decimal v (record { at = d })) → Read (step_in keywords) text at (decimal v) (record { at = d })
+  decimal-there a = restep digit-step (omega arith) (decimal-read a refl).0
 
-    pub decimal-large : 32767 < v → is_operand (step_in keywords (drop at text)) ≡ false
-    decimal-large l = ap is_operand (digit-step ∙ (wrong-read a (word-large v d l)).0)
+  pub decimal-large : {d : ℕ} → AnswerIs decimal_at decimal_left text at (Wrong (record { at = d })) → is_operand (step_in keywords (drop at text)) ≡ false
+  decimal-large a = ap is_operand (digit-step ∙ (wrong-read a refl).0)
 
 pub decimal-operand : {text ops ops' : List ℕ} {at o d n v w : ℕ} → Read (step_in keywords) text at (decimal v) (record { at = d }) → w ≡ op code_constant v
-    → ops' ≡ set ops o w → n ≡ o + 1 → OperandIs text ops at o ops' d n
+    → ops' ≡ set ops o w → n ≡ o + 1 → OperandIs text ops at o ops' (Some d) n
 unfolding values
-decimal-operand {v = v} r q e f = operand (behind r.on) (one_word (const v) refl refl r (rw q at e) f)
+decimal-operand {v = v} r q e f = operand (one_word (const v) refl refl r (rw q at e) f)
 
 -- A variable
 module _ (text : List ℕ) (at : ℕ) (e : (starts is_capital (drop at text) && not (starts is_capital (drop (at + 1) text))) ≡ true) where
@@ -128,9 +123,9 @@ module _ (text : List ℕ) (at : ℕ) (e : (starts is_capital (drop at text) && 
       }
 
 pub variable-operand : {text ops ops' : List ℕ} {at o n v w : ℕ} → Read (step_in keywords) text at (variable v) (record { at = at + 1 }) → w ≡ op code_variable v
-    → ops' ≡ set ops o w → n ≡ o + 1 → OperandIs text ops at o ops' (at + 1) n
+    → ops' ≡ set ops o w → n ≡ o + 1 → OperandIs text ops at o ops' (Some (at + 1)) n
 unfolding values
-variable-operand {v = v} r q e f = operand (behind r.on) (one_word (var v) refl refl r (rw q at e) f)
+variable-operand {v = v} r q e f = operand (one_word (var v) refl refl r (rw q at e) f)
 
 -- Neither
 starts-not : (p : ℕ → Bool) (text : List ℕ) (at : ℕ) → p 0 ≡ false → p (get_or text at 0) ≡ false → starts p (drop at text) ≡ false
@@ -164,23 +159,23 @@ module _ (s : List ℕ) (u : starts is_space s ≡ false) (l : lone s ≡ false)
   neither-step (got w t) e = neither-word u l d (word_sound keywords s t w e)
 
 pub no-operand : {text ops : List ℕ} {at o : ℕ} → starts is_space (drop at text) ≡ false → (is_digit (get_or text at 0) ≡ false)
-    → (starts is_capital (drop at text) && not (starts is_capital (drop (at + 1) text))) ≡ false → OperandIs text ops at o ops 0 o
+    → (starts is_capital (drop at text) && not (starts is_capital (drop (at + 1) text))) ≡ false → OperandIs text ops at o ops None o
 no-operand {text} {at = at} u d l =
     let s = drop at text in
     no_operand (neither-step s u (rw (drop-drop 1 at text) l) (starts-not is_digit text at refl d) (step_in keywords s) refl)
 
 -- what an operand's answer says
-pub operand_read : {text ops ops' : List ℕ} {at o r n : ℕ} → OperandIs text ops at o ops' r n → (r ≡ 0 → ⊥) → MakesAt factor text ops at o ops' r n
-operand_read (operand h y) z = y
-operand_read (no_operand h) z = absurd (z refl)
+pub operand_read : {text ops ops' : List ℕ} {at o n : ℕ} {r : Option ℕ} → OperandIs text ops at o ops' r n → is_some r ≡ true → MakesAt factor text ops at o ops' r n
+operand_read (operand y) z = y
+operand_read (no_operand h) z = absurd (false≢true z)
 
 pub record Unread (text ops : List ℕ) (at o : ℕ) (ops' : List ℕ) (n : ℕ) : Type 0 where
   pub list : ops' ≡ ops
   pub count : n ≡ o
   pub other : is_operand (step_in keywords (drop at text)) ≡ false
 
-pub operand-unread : {text ops ops' : List ℕ} {at o r n : ℕ} → OperandIs text ops at o ops' r n → r ≡ 0 → Unread text ops at o ops' n
-operand-unread (operand h y) z = absurd (h z)
+pub operand-unread : {text ops ops' : List ℕ} {at o n : ℕ} {r : Option ℕ} → OperandIs text ops at o ops' r n → is_some r ≡ false → Unread text ops at o ops' n
+operand-unread (operand y) z = absurd (true≢false z)
 operand-unread (no_operand h) z = record { list = refl; count = refl; other = h }
 
 -- what is read where none was is read from there
@@ -199,15 +194,14 @@ module _ (text : List ℕ) (at : ℕ) (e : get_or text at 0 ≡ 35) where
       let s = drop (at + 1) text in
       ap (step_in keywords) (at_byte text at hash-inside ∙ ap (λ b. b ∷ s) e) ∙ step-word keywords 35 s refl
 
-  module _ (v d : ℕ) (a : AnswerIs hex_at length text (at + 1) (hex_word (at + 1) v d)) where
-    pub hex-there : (d ≡ at + 1 → ⊥) → Read (step_in keywords) text at (hex v) (record { at = d })
-    hex-there n = restep hash-step (omega arith) (hex-read a (word_some (at + 1) v d n))
+  pub hex-there : {v d : ℕ} → AnswerIs hex_at length text (at + 1) (Hex v (record { at = d })) → Read (step_in keywords) text at (hex v) (record { at = d })
+  hex-there a = restep hash-step (omega arith) (hex-read a refl)
 
-    pub hex-none : {ops : List ℕ} {o : ℕ} → d ≡ at + 1 → MakesAt factor text ops at o ops 0 o
-    hex-none f = factor-none (absent (factor-step (drop at text) (hash-step ∙ (wrong-read a (word_none (at + 1) v d f)).0)))
+  pub hex-none : {ops : List ℕ} {o d : ℕ} → AnswerIs hex_at length text (at + 1) (Wrong (record { at = d })) → MakesAt factor text ops at o ops None o
+  hex-none a = factor-none (absent (factor-step (drop at text) (hash-step ∙ (wrong-read a refl).0)))
 
 pub hex-makes : {text ops ops' : List ℕ} {at o d n v w : ℕ} → Read (step_in keywords) text at (hex v) (record { at = d }) → w ≡ op code_constant v
-    → ops' ≡ set ops o w → n ≡ o + 1 → MakesAt factor text ops at o ops' d n
+    → ops' ≡ set ops o w → n ≡ o + 1 → MakesAt factor text ops at o ops' (Some d) n
 unfolding values
 hex-makes {v = v} r q e f = one_word (const v) refl refl r (rw q at e) f
 
@@ -216,13 +210,13 @@ module _ (text : List ℕ) (at : ℕ) (u : starts is_space (drop at text) ≡ fa
   here : at ≡ run_end is_space text at
   here = sym (end-stop is_space text at u)
 
-  pub form-symbol : (b : ℕ) → is_lone b ≡ true → length (spelt b) ≡ 1 → begins (b ∷ []) (drop at text) ≡ true → FormIs text at b
+  pub form-symbol : (b : ℕ) → is_lone b ≡ true → length (spelt b) ≡ 1 → begins (b ∷ []) (drop at text) ≡ true → FormIs text at (Some b)
   form-symbol b h l s =
       let r = sign_at text at at here (b ∷ []) b (omega arith) s (symbol-there b (drop at text) (and_left (is_symbol b) _ h) (lone-pairs b (drop 1 (drop at text)) h) s) in
       form {k = b} (rw l r.word) (rw l r.within)
 
   pub form-keyword : (c d k : ℕ) (cs : List ℕ) → ((t : List ℕ) → Keyword keywords (c ∷ d ∷ cs) k t) → length (spelt k) ≡ length (c ∷ d ∷ cs)
-      → begins (c ∷ d ∷ cs) (drop at text) ≡ true → FormIs text at k
+      → begins (c ∷ d ∷ cs) (drop at text) ≡ true → FormIs text at (Some k)
   form-keyword c d k cs h l s =
       let r = sign_at text at at here (c ∷ d ∷ cs) k (omega arith) s (keyword-there c d k cs h (drop at text) s) in
       form {k = k} (rw l r.word) (rw l r.within)
@@ -232,7 +226,7 @@ module _ (text : List ℕ) (at : ℕ) (u : starts is_space (drop at text) ≡ fa
   other_sign n k t b e f = false≢true (sym b ∙ sym (ap (λ j. begins (spelt j) (drop at text)) f) ∙ sign-spelt (drop at text) u e)
 
   pub form-none : begins (spelt 147) (drop at text) ≡ false → begins (spelt 148) (drop at text) ≡ false → begins (spelt 40) (drop at text) ≡ false
-      → begins (spelt 64) (drop at text) ≡ false → begins (spelt 152) (drop at text) ≡ false → begins (spelt 149) (drop at text) ≡ false → FormIs text at 0
+      → begins (spelt 64) (drop at text) ≡ false → begins (spelt 152) (drop at text) ≡ false → begins (spelt 149) (drop at text) ≡ false → FormIs text at None
   form-none a b c d e f =
       no_form (λ k t h. no-case (other_sign 147 k t a h but other_sign 148 k t b h but other_sign 40 k t c h but other_sign 64 k t d h but other_sign 152 k t e h
       but other_sign 149 k t f h but none_left))
@@ -241,10 +235,9 @@ found_here : {text : List ℕ} {at k d : ℕ} → step_in keywords (drop at text
     → Read (step_in keywords) text at (sign k) (record { at = at + d })
 found_here e l h = record { word = e; on = omega arith; within = l }
 
-pub form-read : {text : List ℕ} {at k : ℕ} (n : ℕ) → FormIs text at k → k ≡ n → (n ≡ 0 → ⊥) → 0 < length (spelt n)
+pub form-read : {text : List ℕ} {at k : ℕ} (n : ℕ) → FormIs text at (Some k) → k ≡ n → 0 < length (spelt n)
     → Read (step_in keywords) text at (sign n) (record { at = at + length (spelt n) })
-form-read {text} {at} n (form {k} e l) f z h = subst (λ j. Read (step_in keywords) text at (sign j) (record { at = at + length (spelt j) })) f (found_here e l (rw f h))
-form-read n (no_form g) f z h = absurd (z (sym f))
+form-read {text} {at} {k} n (form e l) f h = subst (λ j. Read (step_in keywords) text at (sign j) (record { at = at + length (spelt j) })) f (found_here e l (rw f h))
 
 -- No factor
 abbrev HashFirst : List ℕ → Token → Type 0
@@ -278,8 +271,10 @@ module _ (s : List ℕ) (u : starts is_space s ≡ false) (o : is_operand (step_
   factor-not : read factor s ≡ nothing
   factor-not = factor-step s refl ∙ none-step (step_in keywords s) refl
 
-pub rest-none : {text ops : List ℕ} {at o k : ℕ} → Rest text at → (get_or text at 0 ≡ 35 → ⊥) → FormIs text at k → NoneOf k (factor_cases read) → MakesAt factor text ops at o ops 0 o
-rest-none {text} {at = at} r b (form {k} e l) n = factor-none (absent (factor-step (drop at text) e ∙ ap (λ R. R (drop (at + length (spelt k)) text)) (no-case n)))
-rest-none {text} {at = at} r b (no_form h) n =
+pub rest-other : {text ops : List ℕ} {at o k : ℕ} → FormIs text at (Some k) → NoneOf k (factor_cases read) → MakesAt factor text ops at o ops None o
+rest-other {text} {at = at} {k = k} (form e l) n = factor-none (absent (factor-step (drop at text) e ∙ ap (λ R. R (drop (at + length (spelt k)) text)) (no-case n)))
+
+pub rest-none : {text ops : List ℕ} {at o : ℕ} → Rest text at → (get_or text at 0 ≡ 35 → ⊥) → FormIs text at None → MakesAt factor text ops at o ops None o
+rest-none {text} {at = at} r b (no_form h) =
     let first_byte : get_or text at 0 ≡ get_or (drop at text) 0 0 = rw (get_or-drop at text 0 0, add-zero) refl in
     factor-none (absent (factor-not (drop at text) r.unspaced r.other (λ f. b (first_byte ∙ f)) h))

@@ -1,13 +1,12 @@
 -- What stands next: one law for each answer. Assumes nothing.
+use Rattle.std.specs.Prelude.{Option, None, Some}
 use Prim.Native.Nat.{ℕ, ◌+◌, ◌≤◌, ◌<◌}
-use mathlib.Core.Path.{◌≡◌, refl, sym, ap, subst, ◌∙◌}
+use mathlib.Core.Path.{◌≡◌, refl, sym, ap, ◌∙◌}
 use mathlib.Core.Bool.{Bool, true, false, not, ◌&&◌, false≢true}
 use mathlib.Core.List.{List, [], ◌∷◌}
 use mathlib.Core.Option.{none, some}
 use native.Mathlib.Omega.{arith}
 use borrow.Author.Tests.{eqb-true, eqb-false, ne_eqb}
-use denote.Enum.Declared.{tag_of}
-use types.Run.{OneOf, miss}
 use lib.Dec.{eqb}
 use lib.ListN.{length, drop}
 use Rattle.nibl.specs.Bytes.{bytes, is_space, starts, none as done, each}
@@ -20,7 +19,6 @@ use Rattle.nibl.proofs.Words.{and_left, and_right}
 use Rattle.word.specs.declared.Cursor.{Cursor}
 use Rattle.word.specs.declared.Word.{Word}
 use Rattle.word.specs.declared.Word.TheVariants.{Variable, Decimal, Hex, Text, Sign, End, Wrong}
-use Rattle.word.specs.contracts.Word.{the_type}
 use Rattle.word.specs.Found.{found_step, WordIs, spelt, is_lone, PastIs, there as past_there, not_there}
 use Rattle.word.proofs.Runs.{run_end}
 use Rattle.word.proofs.Answers.{at-word}
@@ -29,53 +27,50 @@ use Rattle.word.proofs.Spelled.{sign-spelt, keyword-there, pair-there, symbol-th
 use Rattle.codes.specs.Codes.{op, code_operator, code_negate}
 use Rattle.codes.specs.Operators.{op_number}
 use Rattle.relation.specs.Makes.{stopped, refused, onto, Over, Stood, stood, Absent, absent, SignIs, Otherwise, nowhere, another, KeyIs, there, standing, made_of, JointIs, joint, alone, plainly, negated, LeadIs, minus, plain}
-use Rattle.relation.specs.declared.Made.{Made}
-use Rattle.relation.specs.declared.Made.TheVariants.{Next, NoReading}
-use Rattle.relation.specs.declared.Signed.TheVariants as signed
+use Rattle.relation.specs.Made.{Made}
 use Rattle.relation.proofs.Readers.{then_found, then-nothing, if-there, if-other}
-use Rattle.relation.proofs.States.{made_at}
 
-pub over-here : {text : List ℕ} {c d : Cursor} {o : ℕ} → c.at < d.at → d.at ≤ length text → Over text (Next c o) (Next d o)
+pub over-here : {text : List ℕ} {c d : Cursor} {o : ℕ} → c.at < d.at → d.at ≤ length text → Over text (Some (c, o)) (Some (d, o))
 over-here l h = record { low = omega arith; spare = λ k. omega arith }
 
 pub stood-over : {A : Type 0} {F : Reader A} {a : A} {text : List ℕ} {r s : Made} → Stood F a text r s → Over text r s
 stood-over (stood e l h) = over-here l h
 
 -- The word at a cursor
-module _ {text : List ℕ} {r : Made} {c : Cursor} {o : ℕ} (w : Word) (e : r ≡ Next c o) (h : WordIs keywords text c.at w) where
+module _ {text : List ℕ} {r : Made} {c : Cursor} {o : ℕ} (w : Word) (e : r ≡ Some (c, o)) (h : WordIs keywords text c.at w) where
   sign-step : a_sign (drop c.at text) ≡ on_step (found_step text w) sign_of
   unfolding a_sign
   sign-step = ap (λ (s : FrontWord). on_step s sign_of) (sym h.same)
 
 -- a word of another kind
-no_sign : (text : List ℕ) (w : Word) → OneOf (0 ∷ 1 ∷ 2 ∷ 3 ∷ 5 ∷ 6 ∷ []) (tag_of the_type w) → on_step (found_step text w) sign_of ≡ nothing
-no_sign text (Variable v p) k = refl
-no_sign text (Decimal n p) k = refl
-no_sign text (Hex n p) k = refl
-no_sign text (Text i j p) k = refl
-no_sign text (Sign n p) k = absurd (miss (0 ∷ 1 ∷ 2 ∷ 3 ∷ 5 ∷ 6 ∷ []) 4 tt k)
-no_sign text End k = refl
-no_sign text (Wrong p) k = refl
+no_sign : (text : List ℕ) (w : Word) → ((k : ℕ) (p : Cursor) → w ≡ Sign k p → ⊥) → on_step (found_step text w) sign_of ≡ nothing
+no_sign text (Variable v p) h = refl
+no_sign text (Decimal n p) h = refl
+no_sign text (Hex n p) h = refl
+no_sign text (Text i j p) h = refl
+no_sign text (Sign n p) h = absurd (h n p refl)
+no_sign text End h = refl
+no_sign text (Wrong p) h = refl
 
-pub sign-none : {text : List ℕ} {r : Made} {c : Cursor} {o : ℕ} (w : Word) → r ≡ Next c o → WordIs keywords text c.at w
-    → OneOf (0 ∷ 1 ∷ 2 ∷ 3 ∷ 5 ∷ 6 ∷ []) (tag_of the_type w) → SignIs text r signed.Other
+pub sign-none : {text : List ℕ} {r : Made} {c : Cursor} {o : ℕ} (w : Word) → r ≡ Some (c, o) → WordIs keywords text c.at w
+    → ((k : ℕ) (p : Cursor) → w ≡ Sign k p → ⊥) → SignIs text r None
 sign-none {text} w e h k = rw e (absent (sign-step w e h ∙ no_sign text w k))
 
-pub sign-found : {text : List ℕ} {r : Made} {c p : Cursor} {o k : ℕ} → r ≡ Next c o → WordIs keywords text c.at (Sign k p) → SignIs text r (signed.By k (Next p o))
+pub sign-found : {text : List ℕ} {r : Made} {c p : Cursor} {o k : ℕ} → r ≡ Some (c, o) → WordIs keywords text c.at (Sign k p) → SignIs text r (Some (k, Some (p, o)))
 sign-found e h = rw e (stood (sign-step _ e h) h.inside.0 h.inside.1)
 
-pub halted : {A : Type 0} {F : Reader A} {text : List ℕ} {r : Made} → r ≡ NoReading → Absent F text r
+pub halted : {A : Type 0} {F : Reader A} {text : List ℕ} {r : Made} → r ≡ None → Absent F text r
 halted e = rw e stopped
 
 -- The sign that must stand next
-pub key-found : {text : List ℕ} {r m : Made} {j k : ℕ} → j ≡ k → SignIs text r (signed.By j m) → KeyIs k text r m
+pub key-found : {text : List ℕ} {r m : Made} {j k : ℕ} → j ≡ k → SignIs text r (Some (j, m)) → KeyIs k text r m
 key-found e h = there (rw e at h)
 
-pub key-none : {text : List ℕ} {r : Made} (k : ℕ) → SignIs text r signed.Other → KeyIs k text r NoReading
+pub key-none : {text : List ℕ} {r : Made} (k : ℕ) → SignIs text r None → KeyIs k text r None
 key-none k stopped = stopped
 key-none k (absent {c} e) = refused {c = c} (rw e nowhere)
 
-pub key-other : {text : List ℕ} {r m : Made} {j : ℕ} (k : ℕ) → (j ≡ k → ⊥) → SignIs text r (signed.By j m) → KeyIs k text r NoReading
+pub key-other : {text : List ℕ} {r m : Made} {j : ℕ} (k : ℕ) → (j ≡ k → ⊥) → SignIs text r (Some (j, m)) → KeyIs k text r None
 key-other k d (stood {c} e l h) = refused {c = c} (rw e (another (ne_eqb _ k d)))
 
 -- Signs by their spelling
@@ -97,14 +92,12 @@ module _ (s : List ℕ) where
   other_sign k h = rw (sign-of (step_in keywords s) refl) (other_step k h (step_in keywords s) refl)
 
 -- past a symbol
-pub key-past : {text : List ℕ} {k from r : ℕ} (o : ℕ) → PastIs k text from r → KeyIs k text (standing from o) (made_of r o)
-key-past {text} {k} {from} {r} o (past_there e l h) =
-    subst (KeyIs k text (standing from o)) (sym (made_at r o (λ z. omega arith))) (there (stood (sign-of (drop from text) (got (sign k) (drop r text)) e) l h))
+pub key-past : {text : List ℕ} {k from : ℕ} {r : Option ℕ} (o : ℕ) → PastIs k text from r → KeyIs k text (standing from o) (made_of r o)
+key-past {text} {k} {from} o (past_there {r} e l h) = there (stood (sign-of (drop from text) (got (sign k) (drop r text)) e) l h)
 key-past {text} {k} {from} o (not_there h) = refused (other_sign (drop from text) k h)
 
-pub past-inside : {text : List ℕ} {k from r : ℕ} → PastIs k text from r → (r ≡ 0 → ⊥) → (from < r) × (r ≤ length text)
-past-inside (past_there e l h) z = (l, h)
-past-inside (not_there h) z = absurd (z refl)
+pub past-inside : {text : List ℕ} {k from r : ℕ} → PastIs k text from (Some r) → (from < r) × (r ≤ length text)
+past-inside (past_there e l h) = (l, h)
 
 -- Operators
 module _ (js : Joints) where
@@ -165,29 +158,30 @@ greater-alone (a ∷ c ∷ s) b f = go (eqb 62 a) (eqb 61 c) refl b f
     go false y e b f = absurd (false≢true b)
 
 module _ (js : Joints) (text : List ℕ) (from i : ℕ) (e : i ≡ run_end is_space text from) where
-  pub joint-none : {v : ℕ} → none_spelt js (drop i text) ≡ true → JointIs js text from 0 v
+  pub joint-none : none_spelt js (drop i text) ≡ true → JointIs js text from None
   joint-none h = alone (joint-past js (drop from text) (drop i text) (at-word keywords text from i e) ∙ joint-step js (drop i text) (unspaced text from i e) h (step_in keywords (drop i text)) refl)
 
-  module _ {r v : ℕ} (q : Op) (w : v ≡ op code_operator (op_number q)) where
-    joint-read : (k n : ℕ) → joint_of js k ≡ some q → Read (step_in keywords) text from (sign k) (record { at = i + n }) → r ≡ i + n → JointIs js text from r v
-    joint-read k n f d g = rw g (joint q w (λ o. stood (joint-of js (drop from text) d.word f) d.on d.within))
+  module _ {r : Option (ℕ × ℕ)} (q : Op) where
+    joint-read : (k n : ℕ) → joint_of js k ≡ some q → Read (step_in keywords) text from (sign k) (record { at = i + n })
+        → r ≡ Some (i + n, op code_operator (op_number q)) → JointIs js text from r
+    joint-read k n f d g = rw g (joint q refl (λ o. stood (joint-of js (drop from text) d.word f) d.on d.within))
 
-    pub joint-symbol : (b : ℕ) → is_lone b ≡ true → joint_of js b ≡ some q → begins (b ∷ []) (drop i text) ≡ true → r ≡ i + 1 → JointIs js text from r v
+    pub joint-symbol : (b : ℕ) → is_lone b ≡ true → joint_of js b ≡ some q → begins (b ∷ []) (drop i text) ≡ true → r ≡ Some (i + 1, op code_operator (op_number q)) → JointIs js text from r
     joint-symbol b h f s g =
         joint-read b 1 f (sign_at text from i e (b ∷ []) b (omega arith) s (symbol-there b (drop i text) (and_left (is_symbol b) _ h) (lone-pairs b (drop 1 (drop i text)) h) s)) g
 
-    pub joint-pair : (a b k : ℕ) → pairs a b ≡ some k → joint_of js k ≡ some q → begins (a ∷ b ∷ []) (drop i text) ≡ true → r ≡ i + 2 → JointIs js text from r v
+    pub joint-pair : (a b k : ℕ) → pairs a b ≡ some k → joint_of js k ≡ some q → begins (a ∷ b ∷ []) (drop i text) ≡ true → r ≡ Some (i + 2, op code_operator (op_number q)) → JointIs js text from r
     joint-pair a b k h f s g = joint-read k 2 f (sign_at text from i e (a ∷ b ∷ []) k (omega arith) s (pair-there a b k h (drop i text) s)) g
 
     pub joint-less : joint_of js 60 ≡ some q → begins (60 ∷ 61 ∷ []) (drop i text) ≡ false → begins (60 ∷ 62 ∷ []) (drop i text) ≡ false
-        → begins (60 ∷ []) (drop i text) ≡ true → r ≡ i + 1 → JointIs js text from r v
+        → begins (60 ∷ []) (drop i text) ≡ true → r ≡ Some (i + 1, op code_operator (op_number q)) → JointIs js text from r
     joint-less f x y s g = joint-read 60 1 f (sign_at text from i e (60 ∷ []) 60 (omega arith) s (symbol-there 60 (drop i text) refl (less-alone (drop i text) s x y) s)) g
 
-    pub joint-greater : joint_of js 62 ≡ some q → begins (62 ∷ 61 ∷ []) (drop i text) ≡ false → begins (62 ∷ []) (drop i text) ≡ true → r ≡ i + 1 → JointIs js text from r v
+    pub joint-greater : joint_of js 62 ≡ some q → begins (62 ∷ 61 ∷ []) (drop i text) ≡ false → begins (62 ∷ []) (drop i text) ≡ true → r ≡ Some (i + 1, op code_operator (op_number q)) → JointIs js text from r
     joint-greater f x s g = joint-read 62 1 f (sign_at text from i e (62 ∷ []) 62 (omega arith) s (symbol-there 62 (drop i text) refl (greater-alone (drop i text) s x) s)) g
 
     pub joint-keyword : (a b k : ℕ) (cs : List ℕ) → ((t : List ℕ) → Keyword keywords (a ∷ b ∷ cs) k t) → joint_of js k ≡ some q
-        → begins (a ∷ b ∷ cs) (drop i text) ≡ true → r ≡ i + length (a ∷ b ∷ cs) → JointIs js text from r v
+        → begins (a ∷ b ∷ cs) (drop i text) ≡ true → r ≡ Some (i + length (a ∷ b ∷ cs), op code_operator (op_number q)) → JointIs js text from r
     joint-keyword a b k cs h f s g =
         joint-read k (length (a ∷ b ∷ cs)) f (sign_at text from i e (a ∷ b ∷ cs) k (omega arith) s (keyword-there a b k cs h (drop i text) s)) g
 
@@ -197,16 +191,11 @@ pub record JoinedBy (js : Joints) (text : List ℕ) (at r v : ℕ) : Type 0 wher
   pub number : v ≡ op code_operator (op_number operator)
   pub next : (o : ℕ) → Stood (a_joint js) operator text (standing at o) (standing r o)
 
-pub joint-by : {js : Joints} {text : List ℕ} {at r v : ℕ} → JointIs js text at r v → (r ≡ 0 → ⊥) → JoinedBy js text at r v
-joint-by (joint q e s) h = record { operator = q; number = e; next = s }
-joint-by (alone e) h = absurd (h refl)
+pub joint-by : {js : Joints} {text : List ℕ} {at r v : ℕ} → JointIs js text at (Some (r, v)) → JoinedBy js text at r v
+joint-by (joint q e s) = record { operator = q; number = e; next = s }
 
-stood-some : {A : Type 0} {F : Reader A} {a : A} {text : List ℕ} {at r : ℕ} → Stood F a text (standing at 0) (standing r 0) → r ≡ 0 → ⊥
-stood-some (stood e l h) z = omega arith
-
-pub joint-absent : {js : Joints} {text : List ℕ} {at r v : ℕ} (o : ℕ) → JointIs js text at r v → r ≡ 0 → Absent (a_joint js) text (standing at o)
-joint-absent o (joint q e s) h = absurd (stood-some (s 0) h)
-joint-absent o (alone e) h = absent e
+pub joint-absent : {js : Joints} {text : List ℕ} {at : ℕ} (o : ℕ) → JointIs js text at None → Absent (a_joint js) text (standing at o)
+joint-absent o (alone e) = absent e
 
 -- the keywords with which no longer one begins
 pub and_word : (t : List ℕ) → Keyword keywords (bytes "AND") (number "AND") t
@@ -245,20 +234,20 @@ module _ (text : List ℕ) (from i : ℕ) (e : i ≡ run_end is_space text from)
   other-here : (b : ℕ) → begins (spelt b) (drop i text) ≡ false → Otherwise b (a_sign (drop from text))
   other-here b s = other_sign (drop from text) b (sign-not text from i e b s)
 
-  pub lead-minus : begins (45 ∷ []) (drop i text) ≡ true → LeadIs text from (i + 1) (op code_negate 0)
+  pub lead-minus : begins (45 ∷ []) (drop i text) ≡ true → LeadIs text from (i + 1) (Some (op code_negate 0))
   lead-minus s =
       let d = symbol-read 45 refl s in
       let f = sign-of (drop from text) (got (sign 45) (drop (i + 1) text)) d.word in
       minus (λ o. (onto (λ x. read-sum (drop from text) ∙ if-there "-" negated (may "+" plainly) (drop from text) f) (λ j. d.within), over-here d.on d.within))
 
   module _ (m : begins (45 ∷ []) (drop i text) ≡ false) where
-    pub lead-plus : begins (43 ∷ []) (drop i text) ≡ true → LeadIs text from (i + 1) 0
+    pub lead-plus : begins (43 ∷ []) (drop i text) ≡ true → LeadIs text from (i + 1) None
     lead-plus s =
         let d = symbol-read 43 refl s in
         let f = sign-of (drop from text) (got (sign 43) (drop (i + 1) text)) d.word in
         let h = d.on in
         plain (λ o. onto (λ x. read-sum (drop from text) ∙ if-other "-" negated (may "+" plainly) (drop from text) (other-here 45 m) ∙ if-there "+" plainly plainly (drop from text) f) (λ j. d.within)) (omega arith)
 
-    pub lead-none : begins (43 ∷ []) (drop i text) ≡ false → LeadIs text from from 0
+    pub lead-none : begins (43 ∷ []) (drop i text) ≡ false → LeadIs text from from None
     lead-none s =
         plain (λ o. onto (λ x. read-sum (drop from text) ∙ if-other "-" negated (may "+" plainly) (drop from text) (other-here 45 m) ∙ if-other "+" plainly plainly (drop from text) (other-here 43 s)) (λ j. j)) (omega arith)

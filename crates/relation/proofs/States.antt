@@ -1,33 +1,19 @@
 -- Readers from state to state: one after another, past a sign, and with an operation written. Assumes nothing.
-use Prim.Native.Nat.{ℕ, zero, suc, ◌+◌, ◌≤◌}
+use Rattle.std.specs.Prelude.{Option, None, Some}
+use Prim.Native.Nat.{ℕ, suc, ◌+◌, ◌≤◌}
 use Prim.Native.String.{String}
-use mathlib.Core.Path.{◌≡◌, refl, sym, ap, subst, ◌∙◌}
-use mathlib.Core.Bool.{Bool, true, false}
+use mathlib.Core.Path.{◌≡◌, refl, sym, ap, ◌∙◌}
 use mathlib.Core.List.{List, [], ◌∷◌, ◌++◌, append_assoc, append-nil}
 use native.Mathlib.Nat.{add-zero}
 use native.Mathlib.Omega.{arith}
-use borrow.Author.Tests.{eqb-true, eqb-false, eq-eqb, ne_eqb}
-use lib.Dec.{eqb}
 use lib.ListN.{length, set, length-append, length-set}
 use lib.Seq.{sets}
 use Rattle.nibl.specs.Words.{number}
 use Rattle.nibl.specs.found.Read.{Reader, fail, give, key, ◌>>=◌}
 use Rattle.word.specs.declared.Cursor.{Cursor}
-use Rattle.relation.specs.Makes.{ahead, need, filled, WroteOps, Written, written, Gives, stopped, refused, given, Reads, Over, Leads, onto, only, bare, stood, KeyIs, there, standing, made_of, waiting, settled, Settles, nothing_waits, last_came}
-use Rattle.relation.specs.declared.Made.{Made}
-use Rattle.relation.specs.declared.Made.TheVariants.{Next, NoReading}
+use Rattle.relation.specs.Makes.{ahead, need, filled, WroteOps, Written, written, Gives, stopped, refused, given, Reads, Over, Leads, onto, only, bare, stood, KeyIs, there, standing, waiting, settled, Settles, nothing_waits, last_came}
+use Rattle.relation.specs.Made.{Made}
 use Rattle.relation.proofs.Readers.{then_found, then-nothing, if-there, if-other}
-
--- The positions that are states
-pub made_at : (r n : ℕ) → (r ≡ 0 → ⊥) → made_of r n ≡ standing r n
-made_at r n = go r
-  where
-    go : (r : ℕ) → (r ≡ 0 → ⊥) → made_of r n ≡ standing r n
-    go zero h = absurd (h refl)
-    go (suc p) h = refl
-
-pub made_none : (r n : ℕ) → r ≡ 0 → made_of r n ≡ NoReading
-made_none r n e = rw e refl
 
 -- What was written
 sets-append : (w w' l : List ℕ) (i : ℕ) → sets l i (w ++ w') ≡ sets (sets l i w) (i + length w) w'
@@ -47,12 +33,12 @@ wrote-both {ops} {w} {w'} {o} a b = record { pos = omega (arith, length-append w
 
 -- How the states lie
 pub more-need : (k : ℕ) (text : List ℕ) (r : Made) → need k text r ≤ need (suc k) text r
-more-need k text NoReading = omega arith
-more-need k text (Next c o) = omega arith
+more-need k text None = omega arith
+more-need k text (Some (c, o)) = omega arith
 
 pub filled-need : (text : List ℕ) (r : Made) → filled r ≤ need 1 text r
-filled-need text NoReading = omega arith
-filled-need text (Next c o) = omega arith
+filled-need text None = omega arith
+filled-need text (Some (c, o)) = omega arith
 
 module _ {text : List ℕ} {r s : Made} where
   pub over-few : Over text r s → (k : ℕ) → need k text s ≤ need k text r
@@ -81,10 +67,10 @@ module _ {text : List ℕ} where
   pub key-few : {k : ℕ} {r s : Made} → KeyIs k text r s → (j : ℕ) → need j text s ≤ need j text r
   key-few {s} h j = omega (arith, key-spare h j, more-need j text s)
 
-pub written_none : {v : ℕ} {ops : List ℕ} {r : Made} → r ≡ NoReading → Written v ops r ops NoReading
+pub written_none : {v : ℕ} {ops : List ℕ} {r : Made} → r ≡ None → Written v ops r ops None
 written_none e = rw e stopped
 
-pub written_next : {v o : ℕ} {ops : List ℕ} {r : Made} {c : Cursor} → r ≡ Next c o → Written v ops r (set ops o v) (Next c (o + 1))
+pub written_next : {v o : ℕ} {ops : List ℕ} {r : Made} {c : Cursor} → r ≡ Some (c, o) → Written v ops r (set ops o v) (Some (c, (o + 1)))
 written_next e = rw e written
 
 pub written-ahead : {v : ℕ} {ops ops' : List ℕ} {r s : Made} → Written v ops r ops' s → (text : List ℕ) → ahead text s ≡ ahead text r
@@ -96,42 +82,35 @@ written-need stopped text k = omega arith
 written-need written text k = omega arith
 
 -- The operation that waited, once it has its last operand
-pub settles-ahead : {v : ℕ} {ops ops' : List ℕ} {r s : Made} → Settles v ops r ops' s → (text : List ℕ) → ahead text s ≡ ahead text r
+pub settles-ahead : {w : Option ℕ} {ops ops' : List ℕ} {r s : Made} → Settles ops w r ops' s → (text : List ℕ) → ahead text s ≡ ahead text r
 settles-ahead stopped text = refl
-settles-ahead (nothing_waits e) text = refl
-settles-ahead (last_came n) text = refl
+settles-ahead nothing_waits text = refl
+settles-ahead last_came text = refl
 
-pub settles-need : {v : ℕ} {ops ops' : List ℕ} {r s : Made} → Settles v ops r ops' s → (text : List ℕ) (k : ℕ) → need k text s ≤ need (k + waiting v) text r
+pub settles-need : {w : Option ℕ} {ops ops' : List ℕ} {r s : Made} → Settles ops w r ops' s → (text : List ℕ) (k : ℕ) → need k text s ≤ need (k + waiting w) text r
 settles-need stopped text k = omega arith
-settles-need {v} (nothing_waits e) text k = rw (eq-eqb v 0 e) (omega arith)
-settles-need {v} (last_came n) text k = rw (ne_eqb v 0 n) (omega arith)
+settles-need nothing_waits text k = omega arith
+settles-need last_came text k = omega arith
 
-pub settles-size : {v : ℕ} {ops ops' : List ℕ} {r s : Made} → Settles v ops r ops' s → length ops' ≡ length ops
+pub settles-size : {w : Option ℕ} {ops ops' : List ℕ} {r s : Made} → Settles ops w r ops' s → length ops' ≡ length ops
 settles-size stopped = refl
-settles-size (nothing_waits e) = refl
-settles-size {v} {ops} (last_came {o = o} n) = length-set ops o v
+settles-size nothing_waits = refl
+settles-size {ops = ops} (last_came {v} {o = o}) = length-set ops o v
 
-pub settles-written : {v : ℕ} {ops ops' : List ℕ} {r s : Made} → (v ≡ 0 → ⊥) → Settles v ops r ops' s → Written v ops r ops' s
-settles-written n stopped = stopped
-settles-written n (nothing_waits e) = absurd (n e)
-settles-written n (last_came m) = written
+pub settles-written : {v : ℕ} {ops ops' : List ℕ} {r s : Made} → Settles ops (Some v) r ops' s → Written v ops r ops' s
+settles-written stopped = stopped
+settles-written last_came = written
 
 -- what the code learns of it
-pub settles-here : (v : ℕ) {ops ops' : List ℕ} {at o n : ℕ} → ops' ≡ settled v ops o → n ≡ o + waiting v → Settles v ops (standing at o) ops' (standing at n)
-settles-here v {ops} {ops'} {at} {o} {n} e f = go (eqb v 0) refl
-  where
-    go : (t : Bool) → eqb v 0 ≡ t → Settles v ops (standing at o) ops' (standing at n)
-    go true h =
-        let q : n ≡ o = f ∙ rw h (omega arith) in
-        let l : ops' ≡ ops = e ∙ rw h refl in
-        rw (q, l) (nothing_waits (eqb-true v 0 h))
-    go false h =
-        let q : n ≡ o + 1 = f ∙ rw h refl in
-        let l : ops' ≡ set ops o v = e ∙ rw h refl in
-        rw (q, l) (last_came (eqb-false v 0 h))
+pub settles-here : (w : Option ℕ) {ops ops' : List ℕ} {at o n : ℕ} → ops' ≡ settled w ops o → n ≡ o + waiting w → Settles ops w (standing at o) ops' (standing at n)
+settles-here None {ops} {ops'} {at} {o} {n} e f = let q : n ≡ o = omega arith in rw (e, q) nothing_waits
+settles-here (Some v) e f = rw (e, f) last_came
 
-pub last-here : {v : ℕ} {ops ops' : List ℕ} {at o n : ℕ} → (v ≡ 0 → ⊥) → ops' ≡ set ops o v → n ≡ o + 1 → Settles v ops (standing at o) ops' (standing at n)
-last-here h e f = rw (e, f) (last_came h)
+pub last-here : {v : ℕ} {w : Option ℕ} {ops ops' : List ℕ} {at o n : ℕ} → w ≡ Some v → ops' ≡ set ops o v → n ≡ o + 1 → Settles ops w (standing at o) ops' (standing at n)
+last-here h e f = rw (h, e, f) last_came
+
+pub none-here : {w : Option ℕ} {ops : List ℕ} {at o : ℕ} → w ≡ None → Settles ops w (standing at o) ops (standing at o)
+none-here h = rw h nothing_waits
 
 pub written-here : {v : ℕ} {ops ops' : List ℕ} {at o n : ℕ} → ops' ≡ set ops o v → n ≡ o + 1 → Written v ops (standing at o) ops' (standing at n)
 written-here e f = rw (e, f) written
@@ -189,39 +168,11 @@ module _ {X A : Type 0} {R : X → Reader A} {pre : X → List ℕ} {code : A �
   pub to-state : s ≡ q → Reads R pre code text ops r ops' s → Reads R pre code text ops r ops' q
   to-state e y = rw e at y
 
--- at a position as a number
-module _ {X A : Type 0} {R : X → Reader A} {pre : X → List ℕ} {code : A → List ℕ} {text ops ops' : List ℕ} {r : Made} where
-  pub to-standing : {d n : ℕ} → (d ≡ 0 → ⊥) → Reads R pre code text ops r ops' (made_of d n) → Reads R pre code text ops r ops' (standing d n)
-  to-standing {d} {n} h y = to-state (made_at d n h) y
-
-  pub to_made : {d n : ℕ} → (d ≡ 0 → ⊥) → Reads R pre code text ops r ops' (standing d n) → Reads R pre code text ops r ops' (made_of d n)
-  to_made {d} {n} h y = to-state (sym (made_at d n h)) y
-
-  pub to_none : (d n : ℕ) → d ≡ 0 → Reads R pre code text ops r ops' (made_of d n) → Reads R pre code text ops r ops' NoReading
-  to_none d n e y = to-state (made_none d n e) y
-
-module _ {k : ℕ} {text : List ℕ} {s : Made} where
-  pub key-standing : {r n : ℕ} → (r ≡ 0 → ⊥) → KeyIs k text s (made_of r n) → KeyIs k text s (standing r n)
-  key-standing {r} {n} h y = subst (KeyIs k text s) (made_at r n h) y
-
-  pub key-gone : (r n : ℕ) → r ≡ 0 → KeyIs k text s (made_of r n) → KeyIs k text s NoReading
-  key-gone r n e y = subst (KeyIs k text s) (made_none r n e) y
-
-module _ {v : ℕ} {ops ops' : List ℕ} {s : Made} where
-  pub settles-standing : {r n : ℕ} → (r ≡ 0 → ⊥) → Settles v ops s ops' (made_of r n) → Settles v ops s ops' (standing r n)
-  settles-standing {r} {n} h y = subst (Settles v ops s ops') (made_at r n h) y
-
-  pub settles-made : {r n : ℕ} → (r ≡ 0 → ⊥) → Settles v ops s ops' (standing r n) → Settles v ops s ops' (made_of r n)
-  settles-made {r} {n} h y = subst (Settles v ops s ops') (sym (made_at r n h)) y
-
-  pub settles-gone : (r n : ℕ) → r ≡ 0 → Settles v ops s ops' (made_of r n) → Settles v ops s ops' NoReading
-  settles-gone r n e y = subst (Settles v ops s ops') (made_none r n e) y
-
 module _ {A : Type 0} {code : A → List ℕ} {text : List ℕ} where
   -- nothing is read
   pub idle : {ops : List ℕ} (s : Made) → Gives give code code text ops ops s s
-  idle NoReading = stopped
-  idle (Next c o) = given (λ a. a) [] (λ a. refl) (λ a. sym (append-nil (code a))) (λ i. i) wrote_none
+  idle None = stopped
+  idle (Some (c, o)) = given (λ a. a) [] (λ a. refl) (λ a. sym (append-nil (code a))) (λ i. i) wrote_none
 
   -- one operation is what was read
   pub single : {ops ops' : List ℕ} {r s : Made} {v : ℕ} (a : A) → code a ≡ v ∷ [] → Written v ops r ops' s → Gives (only (give a)) bare code text ops ops' r s

@@ -20,42 +20,25 @@ ghost use Rattle.relation.specs.Makes.{need, filled, standing, made_of, waiting,
 use word::{Cursor, Word, sign};
 
 // The cursor past what was read and the number of operations so far, or no reading.
-#[derive(Clone, Copy)]
-pub enum Made {
-    Next(Cursor, usize),
-    NoReading,
-}
+pub type Made = Option<(Cursor, usize)>;
 
-// A sign by its number and the state past it, where one stands next.
-#[derive(Clone, Copy)]
-pub enum Signed {
-    By(u8, Made),
-    Other,
-}
-
-// The sign that stands next.
-pub fn sign_at(text: &[u8], r: Made) -> Signed
+// The sign that stands next, by its number, and the state past it.
+pub fn sign_at(text: &[u8], r: Made) -> Option<(u8, Made)>
     ensures { SignIs text.now r result }
 {
-    let Made::Next(c, o) = r else {
-        return Signed::Other;
-    };
-    let w = word::word_at(text, c);
-    let Word::Sign(k, p) = w else {
-        return Signed::Other;
-    };
-    Signed::By(k, Made::Next(p, o))
+    let (c, o) = r?;
+    match word::word_at(text, c) {
+        Word::Sign(k, p) => Some((k, Some((p, o)))),
+        _ => None,
+    }
 }
 
 // Past the sign of this number, which must stand next.
 pub fn past_sign(text: &[u8], r: Made, k: u8) -> Made
     ensures { KeyIs k text.now r result }
 {
-    let w = sign_at(text, r);
-    let Signed::By(j, m) = w else {
-        return Made::NoReading;
-    };
-    if j == k { m } else { Made::NoReading }
+    let (j, past) = sign_at(text, r)?;
+    if j == k { past } else { None }
 }
 
 // One operation more.
@@ -63,29 +46,9 @@ pub fn write(ops: &mut [u32], r: Made, v: u32) -> Made
     requires { filled r ≤ length ops.old }
     ensures { Written v ops.old r ops.new result }
 {
-    let Made::Next(c, o) = r else {
-        return Made::NoReading;
-    };
+    let (c, o) = r?;
     ops[o] = v;
-    Made::Next(c, o + 1)
-}
-
-// The position past what was read is never 0: that says that there is no reading.
-const NONE: usize = 0;
-
-// No operation waits for its last operand. As an operation 0 would be a constant, which has no operand.
-const NOTHING: u32 = 0;
-
-fn wide(b: u8) -> u32
-    ensures { result ≡ b }
-{
-    b as u32
-}
-
-fn wide16(v: u16) -> u32
-    ensures { (result ≡ v) × (result ≤ 65535) }
-{
-    v as u32
+    Some((c, o + 1))
 }
 
 // One operation more behind the n there are.
@@ -99,117 +62,115 @@ fn put(ops: &mut [u32], n: &mut usize, v: u32)
 }
 
 // The operation that waited for its last operand, if any.
-fn settle(ops: &mut [u32], n: &mut usize, v: u32)
-    requires { n.old + waiting v ≤ length ops.old }
-    ensures { (ops.new ≡ settled v ops.old n.old) × (n.new ≡ n.old + waiting v) }
+fn settle(ops: &mut [u32], n: &mut usize, waits: Option<u32>)
+    requires { n.old + waiting waits ≤ length ops.old }
+    ensures { (ops.new ≡ settled waits ops.old n.old) × (n.new ≡ n.old + waiting waits) }
 {
-    if v == NOTHING {
-        return;
+    if let Some(v) = waits {
+        put(ops, n, v);
     }
-    put(ops, n, v);
 }
 
 // An operator that ends at a position: its operation waits for the operand behind it.
-fn joined(k: u8, past: usize, waits: &mut u32) -> usize
+fn joined(k: u8, past: usize) -> Option<(usize, u32)>
     requires { k < operator_count }
-    ensures { (result ≡ past) × (waits.new ≡ op code_operator k) }
+    ensures { result ≡ Some (past, op code_operator k) }
 {
-    *waits = codes::operation(codes::OPERATOR, wide(k));
-    past
+    Some((past, codes::operation(codes::OPERATOR, u32::from(k))))
 }
 
-// The operator that joins factors, where one stands next.
-fn times_at(text: &[u8], from: usize, waits: &mut u32) -> usize
-    ensures { JointIs factor_joints text.now from result waits.new }
+// The operator that joins factors, where one stands next, by the position past it and its operation. The three lists are
+// asked for one spelling after another, and not by a walk over a table: what is asked for is known where it is compiled,
+// and that a pair is asked for before its first symbol is proved of these lines.
+fn times_at(text: &[u8], from: usize) -> Option<(usize, u32)>
+    ensures { JointIs factor_joints text.now from result }
 {
     let i = word::space_end(text, from);
     if word::stands(text, i, b"*") {
-        return joined(codes::OPERATOR_TIMES, i + 1, waits);
+        return joined(codes::OPERATOR_TIMES, i + 1);
     }
     if word::stands(text, i, b"/") {
-        return joined(codes::OPERATOR_DIVIDE, i + 1, waits);
+        return joined(codes::OPERATOR_DIVIDE, i + 1);
     }
     if word::stands(text, i, b"AND") {
-        return joined(codes::OPERATOR_AND, i + 3, waits);
+        return joined(codes::OPERATOR_AND, i + 3);
     }
-    NONE
+    None
 }
 
 // The operator that joins terms.
-fn plus_at(text: &[u8], from: usize, waits: &mut u32) -> usize
-    ensures { JointIs term_joints text.now from result waits.new }
+fn plus_at(text: &[u8], from: usize) -> Option<(usize, u32)>
+    ensures { JointIs term_joints text.now from result }
 {
     let i = word::space_end(text, from);
     if word::stands(text, i, b"+") {
-        return joined(codes::OPERATOR_PLUS, i + 1, waits);
+        return joined(codes::OPERATOR_PLUS, i + 1);
     }
     if word::stands(text, i, b"-") {
-        return joined(codes::OPERATOR_MINUS, i + 1, waits);
+        return joined(codes::OPERATOR_MINUS, i + 1);
     }
     if word::stands(text, i, b"OR") {
-        return joined(codes::OPERATOR_OR, i + 2, waits);
+        return joined(codes::OPERATOR_OR, i + 2);
     }
-    NONE
+    None
 }
 
 // The operator that compares sums. A pair is asked for before the symbol that it begins with.
-fn compare_at(text: &[u8], from: usize, waits: &mut u32) -> usize
-    ensures { JointIs sum_joints text.now from result waits.new }
+fn compare_at(text: &[u8], from: usize) -> Option<(usize, u32)>
+    ensures { JointIs sum_joints text.now from result }
 {
     let i = word::space_end(text, from);
     if word::stands(text, i, b"=") {
-        return joined(codes::OPERATOR_EQUAL, i + 1, waits);
+        return joined(codes::OPERATOR_EQUAL, i + 1);
     }
     if word::stands(text, i, b"<=") {
-        return joined(codes::OPERATOR_AT_MOST, i + 2, waits);
+        return joined(codes::OPERATOR_AT_MOST, i + 2);
     }
     if word::stands(text, i, b"<>") {
-        return joined(codes::OPERATOR_UNEQUAL, i + 2, waits);
+        return joined(codes::OPERATOR_UNEQUAL, i + 2);
     }
     if word::stands(text, i, b"<") {
-        return joined(codes::OPERATOR_LESS, i + 1, waits);
+        return joined(codes::OPERATOR_LESS, i + 1);
     }
     if word::stands(text, i, b">=") {
-        return joined(codes::OPERATOR_AT_LEAST, i + 2, waits);
+        return joined(codes::OPERATOR_AT_LEAST, i + 2);
     }
     if word::stands(text, i, b">") {
-        return joined(codes::OPERATOR_GREATER, i + 1, waits);
+        return joined(codes::OPERATOR_GREATER, i + 1);
     }
-    NONE
+    None
 }
 
-// How a sum begins: a minus takes the whole first term, and a plus is passed over.
-fn lead_at(text: &[u8], from: usize, waits: &mut u32) -> usize
-    ensures { LeadIs text.now from result waits.new }
+// How a sum begins, and the operation that waits for its first term: a minus takes the whole of it, and a plus is passed over.
+fn lead_at(text: &[u8], from: usize) -> (usize, Option<u32>)
+    ensures { LeadIs text.now from result.0 result.1 }
 {
     let i = word::space_end(text, from);
     if word::stands(text, i, b"-") {
-        *waits = codes::NEGATE;
-        return i + 1;
+        return (i + 1, Some(codes::NEGATE));
     }
-    *waits = NOTHING;
     if word::stands(text, i, b"+") {
-        return i + 1;
+        return (i + 1, None);
     }
-    from
+    (from, None)
 }
 
 // The constant whose first digit stands at a position.
-fn decimal_at(text: &[u8], at: usize, ops: &mut [u32], n: &mut usize) -> usize
+fn decimal_at(text: &[u8], at: usize, ops: &mut [u32], n: &mut usize) -> Option<usize>
     requires { (need 0 text.now (standing at n.old) ≤ length ops.old) × (at < length text.now) × (is_digit (get_or text.now at 0) ≡ true) }
     ensures { OperandIs text.now ops.old at n.old ops.new result n.new }
 {
-    let mut v: u32 = 0;
-    let d = word::decimal_at(text, at, &mut v);
-    if word::LARGEST < v {
-        return NONE;
+    match word::decimal_at(text, at) {
+        Ok((v, d)) => {
+            put(ops, n, codes::operation(codes::CONSTANT, u32::from(v)));
+            Some(d)
+        }
+        Err(_) => None,
     }
-    put(ops, n, codes::operation(codes::CONSTANT, v));
-    d
 }
 
 // The operands that most are: a variable or a decimal constant.
-fn operand_at(text: &[u8], at: usize, ops: &mut [u32], n: &mut usize) -> usize
+fn operand_at(text: &[u8], at: usize, ops: &mut [u32], n: &mut usize) -> Option<usize>
     requires { (need 0 text.now (standing at n.old) ≤ length ops.old) × (starts is_space (drop at text.now) ≡ false) }
     ensures { OperandIs text.now ops.old at n.old ops.new result n.new }
 {
@@ -221,231 +182,201 @@ fn operand_at(text: &[u8], at: usize, ops: &mut [u32], n: &mut usize) -> usize
         put(
             ops,
             n,
-            codes::operation(codes::VARIABLE, wide(b - letter::A)),
+            codes::operation(codes::VARIABLE, u32::from(b - letter::A)),
         );
-        return at + 1;
+        return Some(at + 1);
     }
-    NONE
+    None
 }
 
 // The constant whose "#" stands at a position.
-fn hex_at(text: &[u8], at: usize, ops: &mut [u32], n: &mut usize) -> usize
+fn hex_at(text: &[u8], at: usize, ops: &mut [u32], n: &mut usize) -> Option<usize>
     requires { (need 0 text.now (standing at n.old) ≤ length ops.old) × (get_or text.now at 0 ≡ 35) }
     ensures { MakesAt factor text.now ops.old at n.old ops.new result n.new }
 {
-    let from = at + 1;
-    let mut v: u16 = 0;
-    let d = word::hex_at(text, from, &mut v);
-    if d == from {
-        return NONE;
-    }
-    put(ops, n, codes::operation(codes::CONSTANT, wide16(v)));
-    d
+    let (v, d) = word::hex_at(text, at + 1)?;
+    put(ops, n, codes::operation(codes::CONSTANT, u32::from(v)));
+    Some(d)
 }
 
-// The sign that a factor begins with at a position, by its number; 0 where none does.
-fn form_at(text: &[u8], at: usize) -> u8
+// The sign that a factor begins with at a position, by its number.
+fn form_at(text: &[u8], at: usize) -> Option<u8>
     requires { starts is_space (drop at text.now) ≡ false }
     ensures { FormIs text.now at result }
 {
     if word::stands(text, at, b"(") {
-        return sign::OPEN;
+        return Some(sign::OPEN);
     }
     if word::stands(text, at, b"@") {
-        return sign::AT;
+        return Some(sign::AT);
     }
     if word::stands(text, at, b"STAT") {
-        return sign::STAT;
+        return Some(sign::STAT);
     }
     if word::stands(text, at, b"TOP") {
-        return sign::TOP;
+        return Some(sign::TOP);
     }
     if word::stands(text, at, b"NOT") {
-        return sign::NOT;
+        return Some(sign::NOT);
     }
     if word::stands(text, at, b"MOD") {
-        return sign::MOD;
+        return Some(sign::MOD);
     }
-    0
+    None
 }
 
 // A relation, and the symbol that must stand behind it.
 #[cycle(readers)]
-fn closed(text: &[u8], at: usize, k: u8, ops: &mut [u32], n: &mut usize) -> usize
+#[inline(always)]
+fn closed(text: &[u8], at: usize, k: u8, ops: &mut [u32], n: &mut usize) -> Option<usize>
     requires { (need 0 text.now (standing at n.old) ≤ length ops.old) × (is_lone k ≡ true) }
     ensures { Closed k text.now ops.old (standing at n.old) ops.new (made_of result n.new) }
 {
-    let d = relation_at(text, at, ops, n);
-    if d == NONE {
-        return NONE;
-    }
+    let d = relation_at(text, at, ops, n)?;
     word::past_symbol(text, d, k)
 }
 
 // What stands behind MOD.
 #[cycle(readers)]
-fn modulo_at(text: &[u8], at: usize, ops: &mut [u32], n: &mut usize) -> usize
+fn modulo_at(text: &[u8], at: usize, ops: &mut [u32], n: &mut usize) -> Option<usize>
     requires { need 0 text.now (standing at n.old) ≤ length ops.old }
     ensures { Makes pairing values text.now ops.old (standing at n.old) ops.new (made_of result n.new) }
 {
-    let a = word::past_symbol(text, at, sign::OPEN);
-    if a == NONE {
-        return NONE;
-    }
-    let b = closed(text, a, sign::COMMA, ops, n);
-    if b == NONE {
-        return NONE;
-    }
-    let c = closed(text, b, sign::CLOSE, ops, n);
-    if c == NONE {
-        return NONE;
-    }
+    let a = word::past_symbol(text, at, sign::OPEN)?;
+    let b = closed(text, a, sign::COMMA, ops, n)?;
+    let c = closed(text, b, sign::CLOSE, ops, n)?;
     put(ops, n, codes::MOD);
-    c
+    Some(c)
 }
 
 // A factor that is neither a variable nor a decimal constant: another constant, STAT or TOP; a relation in parentheses;
 // "@" or NOT before a factor; MOD of two relations.
 #[cycle(readers)]
-fn factor_rest(text: &[u8], at: usize, ops: &mut [u32], n: &mut usize) -> usize
+fn factor_rest(text: &[u8], at: usize, ops: &mut [u32], n: &mut usize) -> Option<usize>
     requires { (need 0 text.now (standing at n.old) ≤ length ops.old) × Rest text.now at }
     ensures { MakesAt factor text.now ops.old at n.old ops.new result n.new }
 {
     if word::byte_at(text, at) == word::HASH {
         return hex_at(text, at, ops, n);
     }
-    match form_at(text, at) {
+    let form = form_at(text, at)?;
+    match form {
         sign::OPEN => closed(text, at + 1, sign::CLOSE, ops, n),
-        sign::AT => followed(text, at + 1, codes::BYTE, ops, n),
+        sign::AT => followed(text, at + 1, Some(codes::BYTE), ops, n),
         sign::STAT => {
             put(ops, n, codes::STAT);
-            at + 4
+            Some(at + 4)
         }
         sign::TOP => {
             put(ops, n, codes::TOP);
-            at + 3
+            Some(at + 3)
         }
-        sign::NOT => followed(text, at + 3, codes::NOT, ops, n),
+        sign::NOT => followed(text, at + 3, Some(codes::NOT), ops, n),
         sign::MOD => modulo_at(text, at + 3, ops, n),
-        _ => NONE,
+        _ => None,
     }
 }
 
 // A factor.
 #[cycle(readers)]
-fn factor_at(text: &[u8], from: usize, ops: &mut [u32], n: &mut usize) -> usize
+#[inline(always)]
+fn factor_at(text: &[u8], from: usize, ops: &mut [u32], n: &mut usize) -> Option<usize>
     requires { need 0 text.now (standing from n.old) ≤ length ops.old }
     ensures { MakesAt factor text.now ops.old from n.old ops.new result n.new }
 {
     let i = word::space_end(text, from);
-    let d = operand_at(text, i, ops, n);
-    if d != NONE {
-        return d;
+    let operand = operand_at(text, i, ops, n);
+    if operand.is_some() {
+        return operand;
     }
     factor_rest(text, i, ops, n)
 }
 
 // A factor, and the operation that waits for it, if any.
 #[cycle(readers)]
-fn followed(text: &[u8], from: usize, v: u32, ops: &mut [u32], n: &mut usize) -> usize
-    requires { need (waiting v) text.now (standing from n.old) ≤ length ops.old }
-    ensures { Followed v text.now ops.old (standing from n.old) ops.new (made_of result n.new) }
+#[inline(always)]
+fn followed(
+    text: &[u8],
+    from: usize,
+    waits: Option<u32>,
+    ops: &mut [u32],
+    n: &mut usize,
+) -> Option<usize>
+    requires { need (waiting waits) text.now (standing from n.old) ≤ length ops.old }
+    ensures { Followed waits text.now ops.old (standing from n.old) ops.new (made_of result n.new) }
 {
-    let d = factor_at(text, from, ops, n);
-    if d == NONE {
-        return NONE;
-    }
-    settle(ops, n, v);
-    d
+    let d = factor_at(text, from, ops, n)?;
+    settle(ops, n, waits);
+    Some(d)
 }
 
 // A factor, and those joined to it by * / AND.
 #[cycle(readers)]
-fn term_at(text: &[u8], from: usize, ops: &mut [u32], n: &mut usize) -> usize
+fn term_at(text: &[u8], from: usize, ops: &mut [u32], n: &mut usize) -> Option<usize>
     requires { need 0 text.now (standing from n.old) ≤ length ops.old }
     ensures { MakesAt term text.now ops.old from n.old ops.new result n.new }
 {
-    let mut waits = NOTHING;
+    let mut waits = None;
     let mut at = from;
     loop {
-        let d = followed(text, at, waits, ops, n);
-        if d == NONE {
-            return NONE;
-        }
-        at = times_at(text, d, &mut waits);
-        if at == NONE {
-            return d;
-        }
+        let d = followed(text, at, waits, ops, n)?;
+        let Some((past, v)) = times_at(text, d) else {
+            return Some(d);
+        };
+        at = past;
+        waits = Some(v);
     }
 }
 
 // A sign or none, a term, and those joined to it by + - OR.
 #[cycle(readers)]
-fn sum_at(text: &[u8], from: usize, ops: &mut [u32], n: &mut usize) -> usize
+fn sum_at(text: &[u8], from: usize, ops: &mut [u32], n: &mut usize) -> Option<usize>
     requires { need 0 text.now (standing from n.old) ≤ length ops.old }
     ensures { MakesAt sum text.now ops.old from n.old ops.new result n.new }
 {
-    let mut waits = NOTHING;
-    let mut at = lead_at(text, from, &mut waits);
+    let (mut at, mut waits) = lead_at(text, from);
     loop {
-        let d = term_at(text, at, ops, n);
-        if d == NONE {
-            return NONE;
-        }
+        let d = term_at(text, at, ops, n)?;
         settle(ops, n, waits);
-        at = plus_at(text, d, &mut waits);
-        if at == NONE {
-            return d;
-        }
+        let Some((past, v)) = plus_at(text, d) else {
+            return Some(d);
+        };
+        at = past;
+        waits = Some(v);
     }
 }
 
 // A sum, and another that it is compared with, if any.
 #[cycle(readers)]
-fn relation_at(text: &[u8], from: usize, ops: &mut [u32], n: &mut usize) -> usize
+fn relation_at(text: &[u8], from: usize, ops: &mut [u32], n: &mut usize) -> Option<usize>
     requires { need 0 text.now (standing from n.old) ≤ length ops.old }
     ensures { MakesAt relation text.now ops.old from n.old ops.new result n.new }
 {
-    let mut waits = NOTHING;
+    let mut waits = None;
     let mut at = from;
     loop {
-        let d = sum_at(text, at, ops, n);
-        if d == NONE {
-            return NONE;
+        let d = sum_at(text, at, ops, n)?;
+        if let Some(v) = waits {
+            put(ops, n, v);
+            return Some(d);
         }
-        let second = waits != NOTHING;
-        if second {
-            put(ops, n, waits);
-            return d;
-        }
-        at = compare_at(text, d, &mut waits);
-        if at == NONE {
-            return d;
-        }
+        let Some((past, v)) = compare_at(text, d) else {
+            return Some(d);
+        };
+        at = past;
+        waits = Some(v);
     }
 }
 
-// The state at a position with so many operations; no reading at 0.
-fn state_at(at: usize, n: usize) -> Made
-    ensures { result ≡ made_of at n }
-{
-    if at == NONE {
-        return Made::NoReading;
-    }
-    Made::Next(Cursor { at: at }, n)
-}
-
-// A factor from a state on.
+// A factor from a state on. It and `read_relation` stay two: which reader of the cycle is called is known where it is compiled, and as one
+// function with a closure the clause would have to say what the closure reads.
 pub fn read_factor(text: &[u8], r: Made, ops: &mut [u32]) -> Made
     requires { need 0 text.now r ≤ length ops.old }
     ensures { Makes (read factor) values text.now ops.old r ops.new result }
 {
-    let Made::Next(c, o) = r else {
-        return Made::NoReading;
-    };
-    let mut n = o;
-    let d = factor_at(text, c.at, ops, &mut n);
-    state_at(d, n)
+    let (c, mut n) = r?;
+    let at = factor_at(text, c.at, ops, &mut n)?;
+    Some((Cursor { at }, n))
 }
 
 // A relation from a state on.
@@ -453,10 +384,7 @@ pub fn read_relation(text: &[u8], r: Made, ops: &mut [u32]) -> Made
     requires { need 0 text.now r ≤ length ops.old }
     ensures { Makes (read relation) values text.now ops.old r ops.new result }
 {
-    let Made::Next(c, o) = r else {
-        return Made::NoReading;
-    };
-    let mut n = o;
-    let d = relation_at(text, c.at, ops, &mut n);
-    state_at(d, n)
+    let (c, mut n) = r?;
+    let at = relation_at(text, c.at, ops, &mut n)?;
+    Some((Cursor { at }, n))
 }

@@ -3,25 +3,69 @@
 // rounds found, which is to be the model's too.
 #![tactic(auto)]
 
-ghost use Rattle.std.specs.Prelude.{◌≡◌, ◌+◌, ◌-◌, ◌<◌, ◌≤◌, length};
+ghost use Rattle.std.specs.Prelude.{◌≡◌, ◌-◌, ◌<◌, ◌≤◌, length, IfSome};
 ghost use Rattle.table.specs.Index.{Indexed};
 
 use nibl::access::{Access, Sight};
 use nibl::{Call, ForEntry, ForStack, LineNumber, Onward, Place, PlaceStack, Session};
-use page::{Edited, FoundLine};
-use reader::MemberRead;
-use std::io;
-use std::io::Read;
-use value::Wrote;
+use page::Edited;
+use std::io::{self, Read};
 use word::{Cursor, Word};
 
 // The most bytes that are read.
 const INPUT: usize = 65536;
 
-// The works that go by a table.
-const LINES_BY_TABLE: u16 = 16;
+// A work that goes by a table.
+#[derive(Clone, Copy)]
+enum TableWork {
+    Spread,
+    Steps,
+}
 
-const STEPS_BY_TABLE: u16 = 17;
+// Any other work.
+#[derive(Clone, Copy)]
+enum Work {
+    Words,
+    Members,
+    Edits,
+    Finds,
+    Check,
+    Steps,
+    Typed,
+    // Typed with all stacks full.
+    TypedFull,
+    Alone,
+    Spread,
+    Numbers,
+    Runs,
+    Lists,
+    Saves,
+    Loads,
+}
+
+impl Work {
+    // The works by their numbers, but those that go by a table: see `sum_of`.
+    fn of(number: u16) -> Option<Work> {
+        Some(match number {
+            0 => Work::Words,
+            1 => Work::Members,
+            2..=4 => Work::Edits,
+            5..=7 => Work::Finds,
+            8 => Work::Check,
+            9 | 12 | 13 => Work::Steps,
+            10 => Work::Typed,
+            11 => Work::TypedFull,
+            14 => Work::Alone,
+            15 => Work::Spread,
+            18 => Work::Numbers,
+            19 => Work::Runs,
+            20 => Work::Lists,
+            21 => Work::Saves,
+            22 => Work::Loads,
+            _ => return None,
+        })
+    }
+}
 
 // How many bytes the values take that are written, and where the last digit is put.
 const VALUES: usize = 2000;
@@ -34,49 +78,45 @@ const CHANGED: usize = 2005;
 // A word's number, so that no word can be left unread.
 fn number(w: Word) -> u16 {
     match w {
-        Word::Variable(v, next) => v as u16,
-        Word::Decimal(n, next) => n,
-        Word::Hex(n, next) => n,
-        Word::Text(from, to, next) => 0,
-        Word::Sign(k, next) => k as u16,
-        Word::End => 0,
-        Word::Wrong(here) => 0,
+        Word::Variable(v, _) => u16::from(v),
+        Word::Decimal(n, _) | Word::Hex(n, _) => n,
+        Word::Sign(k, _) => u16::from(k),
+        Word::Text(..) | Word::End | Word::Wrong(_) => 0,
     }
 }
 
-// The position past a word, or `stop` where none stands.
-fn past(w: Word, stop: usize) -> usize {
+// The position past a word, if one stands there.
+fn past(w: Word) -> Option<usize> {
     match w {
-        Word::Variable(v, next) => next.at,
-        Word::Decimal(n, next) => next.at,
-        Word::Hex(n, next) => next.at,
-        Word::Text(from, to, next) => next.at,
-        Word::Sign(k, next) => next.at,
-        Word::End => stop,
-        Word::Wrong(here) => stop,
+        Word::Variable(_, next)
+        | Word::Decimal(_, next)
+        | Word::Hex(_, next)
+        | Word::Text(_, _, next)
+        | Word::Sign(_, next) => Some(next.at),
+        Word::End | Word::Wrong(_) => None,
     }
 }
 
 // The words of a text, one after the other; it has no more of them than bytes.
 fn words(text: &[u8]) -> u16 {
-    let stop = text.len();
     let mut sum: u16 = 0;
     let mut at = 0;
-    let mut left = stop;
-    while 0 < left {
-        let w = word::word_at(text, Cursor { at: at });
-        sum = std::num::wrapping_add_u16(sum, number(w));
-        at = past(w, stop);
-        if at == stop {
+    for _ in 0..text.len() {
+        let w = word::word_at(text, Cursor { at });
+        sum = sum.wrapping_add(number(w));
+        let Some(next) = past(w) else {
+            break;
+        };
+        if next == text.len() {
             break;
         }
-        left -= 1;
+        at = next;
     }
     sum
 }
 
 fn add(sum: u16, found: usize) -> u16 {
-    std::num::wrapping_add_u16(sum, (found % 65536) as u16)
+    sum.wrapping_add((found % 65536) as u16)
 }
 
 // Where the first member from a position on ends; at the text's end where none stands.
@@ -85,8 +125,7 @@ fn member_end(text: &[u8], from: usize, ops: &mut [u32]) -> usize
     ensures { (from ≤ result) × (result ≤ length text.now) }
 {
     let stop = text.len();
-    let m = reader::read_member(&text[from..], ops);
-    let MemberRead::Member(_, left) = m else {
+    let Ok((_, left)) = reader::read_member(&text[from..], ops) else {
         return stop;
     };
     if stop - from < left {
@@ -107,42 +146,33 @@ fn text_members(text: &[u8], ops: &mut [u32]) -> u16 {
     sum
 }
 
-fn wide(b: u8) -> usize {
-    b as usize
-}
-
-// How many bytes a record has, and 0 where none is whole.
-fn size_at(page: &[u8], at: usize) -> usize
-    requires { at < length page.now }
-    ensures { result ≤ length page.now - at }
+// How many bytes a record has, where one is whole.
+fn size_at(page: &[u8], at: usize) -> Option<usize>
+    requires { at ≤ length page.now }
+    ensures { IfSome result (λ n. (5 ≤ n) × (n ≤ length page.now - at)) }
 {
     let left = page.len() - at;
-    if left < 5 {
-        return 0;
+    if left < 5 || page[at] == nibl::END_MARK {
+        return None;
     }
-    if page[at] == nibl::END_MARK {
-        return 0;
-    }
-    let size = wide(page[at + 2]);
-    if left < size {
-        return 0;
-    }
-    size
+    let size = usize::from(page[at + 2]);
+    (5 <= size && size <= left).then_some(size)
 }
 
 // The members of a page's texts.
 fn members(page: &[u8], ops: &mut [u32]) -> u16 {
     let mut sum: u16 = 0;
     let mut at = 0;
-    while at < page.len() {
-        let size = size_at(page, at);
-        if size < 5 {
-            break;
-        }
-        sum = std::num::wrapping_add_u16(sum, text_members(&page[at + 3..at + size - 1], ops));
+    while let Some(size) = size_at(page, at) {
+        sum = sum.wrapping_add(text_members(&page[at + 3..at + size - 1], ops));
         at += size;
     }
     sum
+}
+
+// The byte at a position, if there is one.
+fn byte_at(bytes: &[u8], at: usize) -> usize {
+    bytes.get(at).copied().map_or(0, usize::from)
 }
 
 // The line in the middle of a full page gets a text; a byte behind it.
@@ -150,14 +180,8 @@ fn edit(page: &mut [u8], text: &[u8]) -> usize
     ensures { length page.new ≡ length page.old }
 {
     let mut unlent = [0u16; 1];
-    let answer = table::store_line(page, LineNumber(510), text, &mut unlent[..0]);
-    match answer {
-        Edited::Done => {
-            if 2600 < page.len() {
-                return wide(page[2600]);
-            }
-            0
-        }
+    match table::store_line(page, LineNumber(510), text, &mut unlent[..0]) {
+        Edited::Done => byte_at(page, 2600),
         _ => 0,
     }
 }
@@ -173,21 +197,18 @@ fn edits(page: &mut [u8]) -> u16
     add(add(0, a), b)
 }
 
-fn found(f: FoundLine) -> usize {
+fn found(f: Option<Onward>) -> usize {
     match f {
-        FoundLine::Nothing => 0,
-        FoundLine::At(o) => o.position() + 1,
+        None => 0,
+        Some(o) => o.position() + 1,
     }
 }
 
 // The places before the lines of a page of 200 lines.
 fn finds(page: &[u8]) -> u16 {
     let mut sum: u16 = 0;
-    let mut line: u16 = 0;
-    while line < 1400 {
-        let f = page::find_line(page, LineNumber(line));
-        sum = add(sum, found(f));
-        line += 7;
+    for k in 0..200 {
+        sum = add(sum, found(page::find_line(page, LineNumber(7 * k))));
     }
     sum
 }
@@ -197,21 +218,14 @@ fn spread(page: &[u8], table: &[u16]) -> u16
     requires { Indexed page.now table.now }
 {
     let mut sum: u16 = 0;
-    let mut line: u16 = 0;
-    while line < 660 {
-        let f = table::find_line(page, LineNumber(line), table);
-        sum = add(sum, found(f));
-        line += 3;
+    for k in 0..220 {
+        sum = add(sum, found(table::find_line(page, LineNumber(3 * k), table)));
     }
     sum
 }
 
 fn check(page: &[u8]) -> u16 {
-    if places::is_good(page, nibl::LIMIT) {
-        1
-    } else {
-        0
-    }
+    u16::from(places::is_good(page, nibl::LIMIT))
 }
 
 // A run from the program's start, lent no more than the page and its table: its steps, and variable A.
@@ -227,10 +241,9 @@ fn steps(page: &[u8], session: Session, table: &[u16]) -> u16
     if !record::fits(page, session) {
         return 0;
     }
-    let access = Access::whole();
     let sight = Sight {
         sense: 0,
-        access: access,
+        access: Access::whole(),
     };
     let mut memory = [0u8; 1];
     let mut output = [0u8; 1];
@@ -256,7 +269,7 @@ fn steps(page: &[u8], session: Session, table: &[u16]) -> u16
         b"",
         table,
     );
-    std::num::wrapping_add_u16(ran.steps, vars[0])
+    ran.steps.wrapping_add(vars[0])
 }
 
 // The CR of the line before the middle one.
@@ -294,7 +307,7 @@ fn from_the_front(budget: usize) -> Call {
         inpos: 0,
         outpos: 0,
         sense: 0,
-        budget: budget,
+        budget,
         tabled: 0,
     }
 }
@@ -317,34 +330,21 @@ fn take(page: &mut [u8], session: Session, input: &[u8]) -> u16
         &mut unlent,
     );
     let answer = ended.answer;
-    let left = ended.session;
-    let spot = std::num::wrapping_add_u16(answer.stop as u16, answer.column);
-    let sum = add(add(spot, answer.inpos), left.gosubs.depth);
-    if CHANGED < page.len() {
-        return add(sum, wide(page[CHANGED]));
-    }
-    sum
+    let spot = u16::from(answer.stop).wrapping_add(answer.column);
+    let sum = add(add(spot, answer.inpos), ended.session.gosubs.depth);
+    add(sum, byte_at(page, CHANGED))
 }
 
 // The middle line of a full page is typed anew, with the other one of two digits: the page stays as full as it was.
 fn typed(page: &mut [u8], session: Session) -> u16
     ensures { length page.new ≡ length page.old }
 {
-    if page.len() < CHANGED + 1 {
-        return 0;
-    }
-    if page[CHANGED] == b'3' {
-        return take(
-            page,
-            session,
-            b"510 PRINT \"COW\",C,\" GATE \",STAT AND 4;: REM OPEN: SHUT\r",
-        );
-    }
-    take(
-        page,
-        session,
-        b"510 PRINT \"COW\",C,\" GATE \",STAT AND 3;: REM OPEN: SHUT\r",
-    )
+    let line = match page.get(CHANGED) {
+        Some(b'3') => b"510 PRINT \"COW\",C,\" GATE \",STAT AND 4;: REM OPEN: SHUT\r",
+        Some(_) => b"510 PRINT \"COW\",C,\" GATE \",STAT AND 3;: REM OPEN: SHUT\r",
+        None => return 0,
+    };
+    take(page, session, line)
 }
 
 // A line that prints, typed on a page: the steps that it takes till the output is full or nothing is left to print, where its
@@ -366,7 +366,7 @@ fn prints(page: &mut [u8], line: &[u8]) -> u16
     );
     let answer = ended.answer;
     let sum = add(answer.steps, answer.outpos);
-    add(sum, wide(output[2000]))
+    add(sum, usize::from(output[2000]))
 }
 
 // A page and 1,024 bytes of memory are saved: the stop, where the form ends, and a byte of it.
@@ -387,8 +387,8 @@ fn saves(page: &mut [u8]) -> u16
         &mut unlent,
     );
     let answer = ended.answer;
-    let sum = add(answer.stop as u16, answer.outpos);
-    add(sum, wide(output[2000]))
+    let sum = add(u16::from(answer.stop), answer.outpos);
+    add(sum, usize::from(output[2000]))
 }
 
 // A form of a page and 1,024 bytes of memory is loaded: the stop, a byte of the page, and one of the memory.
@@ -406,21 +406,8 @@ fn loads(form: &[u8]) -> u16 {
         from_the_front(0),
         &mut unlent,
     );
-    let answer = ended.answer;
-    let sum = add(answer.stop as u16, wide(page[2000]));
-    add(sum, wide(memory[1000]))
-}
-
-fn byte_value(b: u8) -> u16 {
-    b as u16
-}
-
-// The value that stands in two bytes.
-fn value_at(bytes: &[u8], at: usize) -> u16
-    requires { at + 1 < length bytes.now }
-{
-    let high = byte_value(bytes[at]);
-    value::add(value::mul(high, 256), byte_value(bytes[at + 1]))
+    let sum = add(u16::from(ended.answer.stop), usize::from(page[2000]));
+    add(sum, usize::from(memory[1000]))
 }
 
 // The values of the first bytes are written behind them, one after the other: where they end, and the last digit.
@@ -431,18 +418,16 @@ fn numbers(bytes: &mut [u8]) -> u16
         return 0;
     }
     let mut end = VALUES;
-    let mut at = 0;
-    while at < VALUES {
-        let v = value_at(bytes, at);
-        if let Wrote::To(next) = value::write_number(bytes, end, v) {
+    for k in 0..VALUES / 2 {
+        let v = u16::from_be_bytes([bytes[2 * k], bytes[2 * k + 1]]);
+        if let Some(next) = value::write_number(bytes, end, v) {
             end = next;
         }
-        at += 2;
     }
-    if bytes.len() <= LAST_DIGIT {
-        return 0;
+    match bytes.get(LAST_DIGIT) {
+        Some(digit) => add(add(0, end), usize::from(*digit)),
+        None => 0,
     }
-    add(add(0, end), wide(bytes[LAST_DIGIT]))
 }
 
 // A line that is typed on an empty page.
@@ -451,84 +436,78 @@ fn alone(line: &[u8]) -> u16 {
     take(&mut page, Session::fresh(), line)
 }
 
-fn round(work: u16, bytes: &mut [u8], ops: &mut [u32]) -> u16
+fn round(work: Work, bytes: &mut [u8], ops: &mut [u32]) -> u16
     ensures { length bytes.new ≡ length bytes.old }
 {
-    let unlent = [0u16; 1];
     match work {
-        0 => words(bytes),
-        1 => members(bytes, ops),
-        2..=4 => edits(bytes),
-        5..=7 => finds(bytes),
-        8 => check(bytes),
-        9 | 12 | 13 => steps(bytes, Session::fresh(), &unlent[..0]),
-        10 => typed(bytes, Session::fresh()),
-        11 => typed(bytes, full()),
-        14 => alone(bytes),
-        15 => spread(bytes, &unlent[..0]),
-        18 => numbers(bytes),
-        19 => prints(bytes, b"RUN\r"),
-        20 => prints(bytes, b"LIST\r"),
-        21 => saves(bytes),
-        22 => loads(bytes),
-        _ => 0,
+        Work::Words => words(bytes),
+        Work::Members => members(bytes, ops),
+        Work::Edits => edits(bytes),
+        Work::Finds => finds(bytes),
+        Work::Check => check(bytes),
+        Work::Steps => steps(bytes, Session::fresh(), &[]),
+        Work::Typed => typed(bytes, Session::fresh()),
+        Work::TypedFull => typed(bytes, full()),
+        Work::Alone => alone(bytes),
+        Work::Spread => spread(bytes, &[]),
+        Work::Numbers => numbers(bytes),
+        Work::Runs => prints(bytes, b"RUN\r"),
+        Work::Lists => prints(bytes, b"LIST\r"),
+        Work::Saves => saves(bytes),
+        Work::Loads => loads(bytes),
     }
 }
 
 // The first byte, which is no part of the work, changes from round to round: no round's answer can be that of another.
-fn rounds(work: u16, n: u16, bytes: &mut [u8]) -> u16
+fn rounds(work: Work, n: u16, bytes: &mut [u8]) -> u16
     requires { 0 < length bytes.old }
 {
     let mut ops = [0u32; nibl::ROOM];
     let mut sum: u16 = 0;
-    let mut i: u16 = 0;
-    while i < n {
+    for i in 0..n {
         bytes[0] = (i % 256) as u8;
-        sum = std::num::wrapping_add_u16(sum, round(work, &mut bytes[1..], &mut ops));
-        i += 1;
+        sum = sum.wrapping_add(round(work, &mut bytes[1..], &mut ops));
     }
     sum
 }
 
-// The works that go by a table.
-fn round_by_table(work: u16, page: &[u8], table: &[u16]) -> u16
+fn round_by_table(work: TableWork, page: &[u8], table: &[u16]) -> u16
     requires { Indexed page.now table.now }
 {
-    if work == LINES_BY_TABLE {
-        return spread(page, table);
+    match work {
+        TableWork::Spread => spread(page, table),
+        TableWork::Steps => steps(page, Session::fresh(), table),
     }
-    steps(page, Session::fresh(), table)
 }
 
-// Their rounds: the table is made once, before the first.
-fn rounds_by_table(work: u16, n: u16, bytes: &mut [u8]) -> u16
+// The rounds by a table: it is made once, before the first.
+fn rounds_by_table(work: TableWork, n: u16, bytes: &mut [u8]) -> u16
     requires { 0 < length bytes.old }
 {
-    if 4097 < bytes.len() {
-        return 0;
-    }
-    if !places::is_good(&bytes[1..], nibl::LIMIT) {
+    if 4097 < bytes.len() || !places::is_good(&bytes[1..], nibl::LIMIT) {
         return 0;
     }
     let mut table = [0u16; nibl::range::TABLE_LEAST];
     table::refill(&bytes[1..], &mut table, 0, 0);
     let mut sum: u16 = 0;
-    let mut i: u16 = 0;
-    while i < n {
+    for i in 0..n {
         bytes[0] = (i % 256) as u8;
-        sum = std::num::wrapping_add_u16(sum, round_by_table(work, &bytes[1..], &table));
-        i += 1;
+        sum = sum.wrapping_add(round_by_table(work, &bytes[1..], &table));
     }
     sum
 }
 
-// The sum of the rounds of a work.
-fn sum_of(work: u16, n: u16, bytes: &mut [u8]) -> u16
+// The sum of the rounds of a work, by its number.
+fn sum_of(number: u16, n: u16, bytes: &mut [u8]) -> u16
     requires { 0 < length bytes.old }
 {
-    match work {
-        LINES_BY_TABLE | STEPS_BY_TABLE => rounds_by_table(work, n, bytes),
-        _ => rounds(work, n, bytes),
+    match number {
+        16 => rounds_by_table(TableWork::Spread, n, bytes),
+        17 => rounds_by_table(TableWork::Steps, n, bytes),
+        _ => match Work::of(number) {
+            Some(work) => rounds(work, n, bytes),
+            None => 0,
+        },
     }
 }
 
@@ -541,8 +520,7 @@ fn run(rt: &impl Print, input: &mut [u8]) -> io::Result<()> {
     };
     let from = past_n.at;
     if from < input.len() {
-        let sum = sum_of(work, n, &mut input[from..]);
-        println!(rt; "{sum}")?;
+        println!(rt; "{}", sum_of(work, n, &mut input[from..]))?;
     }
     Ok(())
 }

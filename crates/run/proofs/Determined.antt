@@ -15,7 +15,7 @@ pub run-determined : (budget : ℕ) (e : Env) (q : ℕ) (w : World) (page : List
 run-determined budget e q w page r s vars vars' memory memory' output output' a b =
     let x = determined (run_outcome (run_from budget e q w) page) (ran_in r vars page memory output) (ran_in s vars' page memory' output') a b in (
       λ i. record {
-        stop = (x i).answer.stop;
+        stop = record { 0 = (x i).answer.stop };
         line = (x i).answer.line;
         steps = (x i).answer.steps;
         paused = (x i).session.paused;

@@ -1,14 +1,15 @@
 -- The member that is next: what is fetched is what the program has there, and running its operations is the step. Assumes nothing.
 use Rattle.std.specs.Prelude.{if◌then◌else◌}
+use Rattle.std.specs.Prelude.{Result, Ok, Err, is_ok}
+use Rattle.reader.specs.declared.Unread.{Unread}
+use Rattle.reader.specs.declared.Unread.TheVariants as unread
 use Prim.Native.Nat.{ℕ, ◌+◌, ◌-◌, ◌≤◌}
-use mathlib.Core.Bool.{true}
+use mathlib.Core.Bool.{true, false}
 use mathlib.Core.List.{List, [], ◌∷◌}
 use mathlib.Core.Option.{none, some}
 use mathlib.Core.Path.{◌≡◌, refl, ap, ◌∙◌}
 use native.Mathlib.Omega.{arith}
 use borrow.Author.Tests.{le-leb}
-use denote.Enum.Declared.{tag_of}
-use types.Run.{OneOf}
 use lib.ListN.{length, take}
 use Rattle.nibl.specs.Tree.{Member}
 use Rattle.nibl.specs.found.Read.{found, member}
@@ -18,9 +19,6 @@ use Rattle.nibl.specs.Runs as nibl
 use Rattle.page.specs.Standing.{Readable}
 use Rattle.reader.specs.Code.{compile}
 use Rattle.reader.specs.Answers.{has_room, member_of, member_ops}
-use Rattle.reader.specs.declared.MemberRead.{MemberRead}
-use Rattle.reader.specs.declared.MemberRead.TheVariants as member_read
-use Rattle.reader.specs.contracts.MemberRead.{the_type}
 use Rattle.line.proofs.Codes.{written-front}
 use Rattle.line.proofs.Lists.{First, first, no-first, left-fits}
 use Rattle.line.proofs.Short.{member-short}
@@ -39,12 +37,12 @@ module _ (page ops text : List ℕ) (a : ℕ) (same : text ≡ line_from page a)
       let r = within.room in
       rw (le-leb (length text) (length ops) (omega arith), le-leb (length text) 65535 (omega arith)) refl
 
-  module _ (r : MemberRead) (answered : r ≡ (if has_room text ops then member_of (member text) else member_read.NoRoom)) where
+  module _ (r : Result (ℕ × ℕ) Unread) (answered : r ≡ (if has_room text ops then member_of (member text) else (Err unread.NoRoom))) where
     -- without a member there is nothing to fetch
-    pub no_member : OneOf (1 ∷ 2 ∷ []) (tag_of the_type r) → past ≡ in_operations (fetch_member page a (member (line_from page a)))
+    pub no_member : is_ok r ≡ false → past ≡ in_operations (fetch_member page a (member (line_from page a)))
     no_member k = rw (← same, no-first text ops r room answered k) refl
 
-    pub one-member : {n left : ℕ} → r ≡ member_read.Member n left → First (line_from page a) n left
+    pub one-member : {n left : ℕ} → r ≡ Ok (n, left) → First (line_from page a) n left
     one-member h = rw same at (first text ops r room answered h)
 
   module _ {n left : ℕ} (f : First (line_from page a) n left) where

@@ -1,12 +1,12 @@
 -- The member that is next in a program: what a fetch answers, however it comes by its operations.
 use Rattle.std.specs.Prelude.{ℕ, ◌+◌, ◌≤◌, ◌<◌, List, ◌≡◌, length, take}
+use Rattle.std.specs.Prelude.{Option, Some, None}
+use Rattle.nibl.specs.declared.Place.{Place}
 use Rattle.std.proofs.Math.Option.{some}
 use Rattle.nibl.specs.Runs.{line_from, text_from, fetch}
 use Rattle.nibl.specs.Runs as nibl
 use Rattle.nibl.specs.Record.{position}
 use Rattle.reader.specs.Code.{compile}
-use Rattle.run.specs.declared.Fetched.{Fetched}
-use Rattle.run.specs.declared.Fetched.TheVariants as answer
 
 -- the member's operations, the place that ends it, and that of its record's CR; or none, past the last line
 pub data Fetch : Type 0 where
@@ -22,13 +22,13 @@ in_operations (nibl.here x) = fetched (compile x.statement) x.place x.cr
 unfoldable pub fetch_of : List ℕ → ℕ → Fetch
 fetch_of page q = in_operations (fetch page q)
 
-abbrev pub fetched_in : Fetched → List ℕ → Fetch
-fetched_in answer.Past ops = past
-fetched_in (answer.Member n p cr) ops = fetched (take n ops) (position p) (position cr)
+abbrev pub fetched_in : Option (ℕ × Place × Place) → List ℕ → Fetch
+fetched_in None ops = past
+fetched_in (Some (n, p, cr)) ops = fetched (take n ops) (position p) (position cr)
 
-abbrev pub fetched_count : Fetched → ℕ
-fetched_count answer.Past = 0
-fetched_count (answer.Member n p cr) = n
+abbrev pub fetched_count : Option (ℕ × Place × Place) → ℕ
+fetched_count None = 0
+fetched_count (Some (n, p, cr)) = n
 
 -- the text that begins at a lies in the page, and there is an operation to each of its bytes
 pub record TextRoom (page : List ℕ) (a : ℕ) (ops : List ℕ) : Type 0 where

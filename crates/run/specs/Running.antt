@@ -10,12 +10,12 @@ use Rattle.record.specs.Fit.{Fit}
 use Rattle.run.specs.declared.Ran.{Ran}
 
 abbrev pub ran_to : ℕ → ℕ → ℕ → ℕ → Parts → Ran
-ran_to stop line steps paused parts = record { stop = stop; line = line; steps = steps; paused = paused; parts = parts }
+ran_to stop line steps paused parts = record { stop = record { 0 = stop }; line = line; steps = steps; paused = paused; parts = parts }
 
 -- what a run's answer says, with all that it leaves
 abbrev pub ran_in : Ran → List ℕ → List ℕ → List ℕ → List ℕ → Outcome
 ran_in r vars page memory output =
-    outcome_with (answer_of r.stop r.line r.steps r.parts.inpos r.parts.outpos 0) (session_of r.parts vars r.paused) page memory output
+    outcome_with (answer_of r.stop.0 r.line r.steps r.parts.inpos r.parts.outpos 0) (session_of r.parts vars r.paused) page memory output
 
 -- When a run may begin: on a good page of 16-bit places, with a record that fits, from a position where a run may stand, with a
 -- budget of 16 bits. The reply's slots are as many as the limit; there is an operation to each, and a value to each operation.

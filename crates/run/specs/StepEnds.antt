@@ -1,11 +1,12 @@
 -- A step of a run, and what a run leaves that goes on after so many.
 use Rattle.std.specs.Prelude.{ℕ, suc, ◌+◌, List, length}
+use Rattle.std.specs.Prelude.{Result, Ok, Err}
+use Rattle.nibl.specs.declared.Onward.{Onward}
+use Rattle.nibl.specs.declared.stop.Stop.{Stop}
 use Rattle.nibl.specs.Meaning.{World, Env, Next, on, skip, go, stop, Done, done, exec}
 use Rattle.nibl.specs.Lent.{Outcome, outcome}
 use Rattle.nibl.specs.Runs.{Ran, ran, Standing, stop_at, pausing, env_at}
 use Rattle.nibl.specs.Record.{position_of}
-use Rattle.run.specs.declared.Led.{Led}
-use Rattle.run.specs.declared.Led.TheVariants as led
 
 -- Where a step leads, the place that ends its statement, and the world then
 pub record StepEnd : Type 0 where
@@ -13,9 +14,9 @@ pub record StepEnd : Type 0 where
   pub at : ℕ
   pub world : World
 
-abbrev pub led_to : Led → Next
-led_to (led.To o) = go (position_of o)
-led_to (led.Stops n) = stop n
+abbrev pub led_to : Result Onward Stop → Next
+led_to (Ok o) = go (position_of o)
+led_to (Err s) = stop s.0
 
 abbrev pub step_end : Next → ℕ → World → StepEnd
 step_end n p w = record { next = n; at = p; world = w }

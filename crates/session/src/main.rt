@@ -5,10 +5,10 @@
 
 ghost use Rattle.std.specs.Prelude.{◌≤◌, length};
 
+use nibl::stop::Stop;
 use nibl::{Answer, Call, END_MARK, NO_LINE, Session};
 use outcome::Ended;
-use std::io;
-use std::io::Read;
+use std::io::{self, Read};
 
 // What the session lends: standard input's first bytes, a page, a memory, and for each typed line an output and a budget. It lends
 // no table of line places.
@@ -22,45 +22,25 @@ const OUTPUT: usize = 8192;
 
 const BUDGET: usize = 10000;
 
-// No CR is left in the input.
-const NO_CR: u8 = 7;
-
-fn say(rt: &impl Print, s: &[u8]) -> io::Result<()> {
-    rt.write_all(s)
-}
-
-// The first bytes of the output: those that a call wrote. The test is for the proof alone: no call answers a position past
-// the output.
+// The first bytes of the output: those that a call wrote. No call answers a position past the output.
 fn show_written(rt: &impl Print, output: &[u8], outpos: usize) -> io::Result<()> {
-    if outpos <= output.len() {
-        say(rt, &output[..outpos])?;
-    }
-    Ok(())
-}
-
-fn show_line(rt: &impl Print, line: u16) -> io::Result<()> {
-    if line == NO_LINE {
-        return say(rt, b"-");
-    }
-    rt.print(line)
+    rt.write_all(output.get(..outpos).unwrap_or(&[]))
 }
 
 // Stop number, line number or "-", and steps.
 fn show_answer(rt: &impl Print, answer: Answer) -> io::Result<()> {
-    rt.print(answer.stop)?;
-    say(rt, b" ")?;
-    show_line(rt, answer.line)?;
-    say(rt, b" ")?;
-    rt.print(answer.steps)?;
-    say(rt, b"\n")
+    print!(rt; "{} ", answer.stop)?;
+    if answer.line == NO_LINE {
+        print!(rt; "-")?;
+    } else {
+        print!(rt; "{}", answer.line)?;
+    }
+    println!(rt; " {}", answer.steps)
 }
 
 // Whether no CR was left for a typed line. INPUT's 7 has a line, is shown, and the session goes on after it.
 fn is_over(answer: Answer) -> bool {
-    if answer.stop == NO_CR {
-        return answer.line == NO_LINE;
-    }
-    false
+    Stop(answer.stop) == Stop::NO_CR && answer.line == NO_LINE
 }
 
 // One typed line, with what it wrote and answered; nothing is shown where there was none.
@@ -75,36 +55,31 @@ fn next_line(
     let mut output = [0u8; OUTPUT];
     let mut unlent = [0u16; 1];
     let given = Call {
-        inpos: inpos,
+        inpos,
         outpos: 0,
         sense: 0,
         budget: BUDGET,
         tabled: 0,
     };
     let ended = calls::take_line(rec, page, memory, input, &mut output, given, &mut unlent);
-    let answer = ended.answer;
-    if !is_over(answer) {
-        show_written(rt, &output, answer.outpos)?;
-        show_answer(rt, answer)?;
+    if !is_over(ended.answer) {
+        show_written(rt, &output, ended.answer.outpos)?;
+        show_answer(rt, ended.answer)?;
     }
     Ok(ended)
 }
 
-// Line after line, until no CR is left. A typed line takes its CR at least, so there are no more lines than bytes: the count of
-// lines that may still come, by which the loop is seen to end, never ends it before the input does.
+// Line after line, until no CR is left. A typed line takes its CR at least, so there are no more lines than bytes.
 fn lines(rt: &impl Print, page: &mut [u8], memory: &mut [u8], input: &[u8]) -> io::Result<()> {
     let mut rec = Session::fresh();
-    let mut inpos: usize = 0;
-    let mut left = input.len();
-    while 0 < left {
-        left -= 1;
+    let mut inpos = 0;
+    for _ in 0..input.len() {
         let ended = next_line(rt, rec, page, memory, input, inpos)?;
-        let answer = ended.answer;
-        if is_over(answer) {
+        if is_over(ended.answer) {
             break;
         }
         rec = ended.session;
-        inpos = answer.inpos;
+        inpos = ended.answer.inpos;
     }
     Ok(())
 }

@@ -8,6 +8,7 @@ use mathlib.Core.Option.{some}
 use native.Mathlib.Omega.{arith}
 use borrow.Author.Tests.{le-ltb}
 use lib.ListN.{length, drop, get_or}
+use Rattle.std.proofs.lemmas.List.{drop_more}
 use Rattle.nibl.specs.Values.{is, no}
 use Rattle.nibl.specs.Meaning.{stop, Done, done, went}
 use Rattle.codes.specs.Codes.{code_in, argument_in, effects, code_gosub, code_return, code_do, code_until, code_for, code_next}
@@ -71,7 +72,7 @@ module _ (s : InView) (a : Around) (short : length s.page ≤ 65535) (ops vars v
       plain-went : run_ops (env_from s a) (drop j ops) (world_from s a vars) vs ≡ went (done (way_of r) (world_from s a us)) (λ u. run_ops (env_from s a) (drop (j + 1) ops) u [])
       plain-went =
           let d = act-does given (code_in there) (rw top at e) in
-          effect-way (env_from s a) ops (world_from s a vars) vs j h (le-ltb _ _ d.1) d.2 ∙ rw d.0 refl
+          effect-way (env_from s a) (world_from s a vars) vs (drop_more ops j 0 h) (le-ltb _ _ d.1) d.2 ∙ rw d.0 refl
 
       pub plain-on : is_on r ≡ true → run_ops (env_from s a) (drop j ops) (world_from s a vars) vs ≡ run_ops (env_from s a) (drop (j + 1) ops) (world_from s a us) []
       plain-on t = plain-went ∙ went_on r _ _ t

@@ -3,14 +3,14 @@ use Prim.Native.Nat.{ℕ, ◌+◌, ◌≤◌, ◌<◌}
 use mathlib.Core.Path.{◌≡◌, refl, sym, ap, ◌∙◌}
 use mathlib.Core.Bool.{Bool, true, false}
 use mathlib.Core.List.{List, [], ◌∷◌}
-use native.Mathlib.Numerals.{add-one}
 use native.Mathlib.Omega.{arith}
 use borrow.Author.Tests.{le-leb, lt-ltb, le-ltb}
 use lib.Dec.{ltb, eqb}
 use lib.ListN.{length, drop, get_or, drop_of_length-le}
-use lib.Seq.{drop-cons}
+use Rattle.std.proofs.lemmas.List.{drop_more}
 use Rattle.nibl.specs.Values.{Result, is, no}
 use Rattle.nibl.specs.Stack.{no_place}
+use Rattle.nibl.specs.declared.stop.Stop.{Stop}
 use Rattle.nibl.specs.found.Read.{replied}
 use Rattle.nibl.specs.Meaning.{World, Env, on, skip, go, stop, Done, done, given, went, keep_in, store_at}
 use Rattle.nibl.specs.declared.Place.{Place}
@@ -75,7 +75,7 @@ module _ (lim : ℕ) (input : List ℕ) (sight : Sight) (page vs : List ℕ) (n 
   abbrev answer : Done
   answer = heard_in (world_with vars p memory output) (hearing lim input p.inpos output p.outpos) (takes_reply sight page vs n)
 
-  pub no-reply : {after : List ℕ} {i o k : ℕ} → hears (no k) i after o ≡ hearing lim input p.inpos output p.outpos
+  pub no-reply : {after : List ℕ} {i o : ℕ} {k : Stop} → hears (no k.0) i after o ≡ hearing lim input p.inpos output p.outpos
       → did_in (did (way.Stop k) (parts_at p i o)) vars memory after ≡ answer
   no-reply h = ap (λ r. heard_in (world_with vars p memory output) r (takes_reply sight page vs n)) h
 
@@ -89,6 +89,12 @@ module _ (lim : ℕ) (input : List ℕ) (sight : Sight) (page vs : List ℕ) (n 
 -- ---- one operation of a list
 
 -- an effect, by its end
+pub not_on : (r : Way) → (r ≡ way.On → ⊥) → is_on r ≡ false
+not_on way.On h = absurd (h refl)
+not_on way.Skip h = refl
+not_on (way.Go q) h = refl
+not_on (way.Stop n) h = refl
+
 pub went_on : (r : Way) (u : World) (k : World → Done) → is_on r ≡ true → went (done (way_of r) u) k ≡ k u
 went_on way.On u k h = refl
 went_on way.Skip u k h = let z : ◌≡◌ {A = ℕ} 0 1 = cc in absurd (omega arith)
@@ -101,37 +107,31 @@ went-off way.Skip u k h = refl
 went-off (way.Go q) u k h = refl
 went-off (way.Stop n) u k h = refl
 
-module _ (e : Env) (ops : List ℕ) (w : World) (vs : List ℕ) (i : ℕ) where
-  -- what stands there
-  abbrev there : ℕ
-  there = get_or ops i 0
-
-  module _ (h : i < length ops) where
-    split : drop i ops ≡ there ∷ drop (i + 1) ops
-    split = rw (add-one, drop-cons ops i 0 h) refl
-
-    value-way : ltb (code_in there) effects ≡ true → run_ops e (drop i ops) w vs ≡ given (value_step (sources_in e w) there vs) w (λ us. run_ops e (drop (i + 1) ops) w us)
+module _ (e : Env) (w : World) (vs : List ℕ) {ops : List ℕ} where
+  -- by what stands first
+  module _ {o : ℕ} {rest : List ℕ} (s : ops ≡ o ∷ rest) where
+    value-way : ltb (code_in o) effects ≡ true → run_ops e ops w vs ≡ given (value_step (sources_in e w) o vs) w (λ us. run_ops e rest w us)
     unfolding run_ops
-    value-way f = ap (λ l. run_ops e l w vs) split ∙ rw (f, run_ops) refl
+    value-way f = ap (λ l. run_ops e l w vs) s ∙ rw (f, run_ops) refl
 
-    pub value_on : {us : List ℕ} → code_in there < effects → is us ≡ value_step (sources_in e w) there vs → run_ops e (drop i ops) w vs ≡ run_ops e (drop (i + 1) ops) w us
+    pub value_on : {us : List ℕ} → code_in o < effects → is us ≡ value_step (sources_in e w) o vs → run_ops e ops w vs ≡ run_ops e rest w us
     value_on f v = value-way (lt-ltb _ _ f) ∙ rw (← v) refl
 
-    pub value-off : {n : ℕ} → code_in there < effects → no n ≡ value_step (sources_in e w) there vs → run_ops e (drop i ops) w vs ≡ done (stop n) w
+    pub value-off : {n : ℕ} → code_in o < effects → no n ≡ value_step (sources_in e w) o vs → run_ops e ops w vs ≡ done (stop n) w
     value-off f v = value-way (lt-ltb _ _ f) ∙ rw (← v) refl
 
-    last-way : ltb (code_in there) effects ≡ false → is_last (code_in there) ≡ true → run_ops e (drop i ops) w vs ≡ last_by e there (get_or vs 0 0) (drop (i + 1) ops) w
+    last-way : ltb (code_in o) effects ≡ false → is_last (code_in o) ≡ true → run_ops e ops w vs ≡ last_by e o (get_or vs 0 0) rest w
     unfolding run_ops
-    last-way f g = ap (λ l. run_ops e l w vs) split ∙ rw (f, run_ops) (rw (g, run_ops) refl)
+    last-way f g = ap (λ l. run_ops e l w vs) s ∙ rw (f, run_ops) (rw (g, run_ops) refl)
 
-    pub effect-way : ltb (code_in there) effects ≡ false → is_last (code_in there) ≡ false
-        → run_ops e (drop i ops) w vs ≡ went (effect_by e (code_in there) (argument_in there) (get_or vs 0 0) (get_or vs 1 0) (get_or vs 2 0) w) (λ u. run_ops e (drop (i + 1) ops) u [])
+    pub effect-way : ltb (code_in o) effects ≡ false → is_last (code_in o) ≡ false
+        → run_ops e ops w vs ≡ went (effect_by e (code_in o) (argument_in o) (get_or vs 0 0) (get_or vs 1 0) (get_or vs 2 0) w) (λ u. run_ops e rest u [])
     unfolding run_ops
-    effect-way f g = ap (λ l. run_ops e l w vs) split ∙ rw (f, run_ops) (rw (g, run_ops) refl)
+    effect-way f g = ap (λ l. run_ops e l w vs) s ∙ rw (f, run_ops) (rw (g, run_ops) refl)
 
-  pub run_end : length ops ≤ i → run_ops e (drop i ops) w vs ≡ done on w
+  pub run_end : ops ≡ [] → run_ops e ops w vs ≡ done on w
   unfolding run_ops
-  run_end h = rw (drop_of_length-le ops h) refl
+  run_end h = rw h refl
 
 -- the last operation of a list, where it changes the world
 went-end : (d : Done) → went d (done on) ≡ d
@@ -145,7 +145,7 @@ pub effect-ends : (e : Env) (ops : List ℕ) (w : World) (vs : List ℕ) (i : �
     → run_ops e (drop i ops) w vs ≡ d
 unfolding run_ops
 effect-ends e ops w vs i h l {d} f =
-    effect-way e ops w vs i h (le-ltb _ _ f.1) f.2
+    effect-way e w vs (drop_more ops i 0 h) (le-ltb _ _ f.1) f.2
     ∙ ap (λ (x : Done). went x (λ u. run_ops e (drop (i + 1) ops) u [])) f.0
     ∙ ap (λ (rest : List ℕ). went d (λ u. run_ops e rest u [])) (drop_of_length-le ops l)
     ∙ went-end d
@@ -155,30 +155,30 @@ module _ (lim : ℕ) (page input : List ℕ) (sight : Sight) (here : Place) wher
   abbrev env : Env
   env = env_with lim page input sight here
 
-  module _ (ops : List ℕ) (w : World) (vs : List ℕ) (i : ℕ) {slots x : ℕ} (d : Did) {vars memory output : List ℕ}
-      (h : i < length ops) (f : effects ≤ code_in (get_or ops i 0)) (l : slots ≡ lim) (top : x ≡ get_or vs 0 0)
+  module _ (w : World) (vs : List ℕ) {ops : List ℕ} {o : ℕ} {rest : List ℕ} {slots x : ℕ} (d : Did) {vars memory output : List ℕ}
+      (s : ops ≡ o ∷ rest) (f : effects ≤ code_in o) (l : slots ≡ lim) (top : x ≡ get_or vs 0 0)
     where
-      pub last-run : is_last (code_in (get_or ops i 0)) ≡ true → {rest : List ℕ} → rest ≡ drop (i + 1) ops
-          → did_in d vars memory output ≡ last_by (env_with slots page input sight no_place) (get_or ops i 0) x rest w
-          → run_ops env (drop i ops) w vs ≡ did_in d vars memory output
-      last-run g s r =
-          last-way env ops w vs i h (le-ltb _ _ f) g
-          ∙ last-any-here lim page input sight here (get_or ops i 0) (get_or vs 0 0) (drop (i + 1) ops) w
-          ∙ rw (← top, ← l, ← s) (sym r)
+      pub last-run : is_last (code_in o) ≡ true
+          → did_in d vars memory output ≡ last_by (env_with slots page input sight no_place) o x rest w
+          → run_ops env ops w vs ≡ did_in d vars memory output
+      last-run g r =
+          last-way env w vs s (le-ltb _ _ f) g
+          ∙ last-any-here lim page input sight here o (get_or vs 0 0) rest w
+          ∙ rw (← top, ← l) (sym r)
 
-      module _ {y z : ℕ} (g : is_last (code_in (get_or ops i 0)) ≡ false) (next : y ≡ get_or vs 1 0) (third : z ≡ get_or vs 2 0)
-          (r : did_in d vars memory output ≡ effect_by (env_with slots page input (unsensing sight.access) here) (code_in (get_or ops i 0)) (argument_in (get_or ops i 0)) x y z w)
+      module _ {y z : ℕ} (g : is_last (code_in o) ≡ false) (next : y ≡ get_or vs 1 0) (third : z ≡ get_or vs 2 0)
+          (r : did_in d vars memory output ≡ effect_by (env_with slots page input (unsensing sight.access) here) (code_in o) (argument_in o) x y z w)
         where
-          told : effect_by env (code_in (get_or ops i 0)) (argument_in (get_or ops i 0)) (get_or vs 0 0) (get_or vs 1 0) (get_or vs 2 0) w ≡ did_in d vars memory output
+          told : effect_by env (code_in o) (argument_in o) (get_or vs 0 0) (get_or vs 1 0) (get_or vs 2 0) w ≡ did_in d vars memory output
           told =
-              effect-any-sense lim page input sight here (code_in (get_or ops i 0)) (argument_in (get_or ops i 0)) (get_or vs 0 0) (get_or vs 1 0) (get_or vs 2 0) w
+              effect-any-sense lim page input sight here (code_in o) (argument_in o) (get_or vs 0 0) (get_or vs 1 0) (get_or vs 2 0) w
               ∙ rw (← top, ← next, ← third, ← l) (sym r)
 
-          effect-went : run_ops env (drop i ops) w vs ≡ went (did_in d vars memory output) (λ u. run_ops env (drop (i + 1) ops) u [])
-          effect-went = effect-way env ops w vs i h (le-ltb _ _ f) g ∙ rw told refl
+          effect-went : run_ops env ops w vs ≡ went (did_in d vars memory output) (λ u. run_ops env rest u [])
+          effect-went = effect-way env w vs s (le-ltb _ _ f) g ∙ rw told refl
 
-          pub effect-on : is_on d.way ≡ true → run_ops env (drop i ops) w vs ≡ run_ops env (drop (i + 1) ops) (world_with vars d.parts memory output) []
-          effect-on t = effect-went ∙ went_on d.way _ _ t
+          pub effect-on : d.way ≡ way.On → run_ops env ops w vs ≡ run_ops env rest (world_with vars d.parts memory output) []
+          effect-on t = effect-went ∙ went_on d.way _ _ (ap is_on t)
 
-          pub effect-off : is_on d.way ≡ false → run_ops env (drop i ops) w vs ≡ did_in d vars memory output
-          effect-off t = effect-went ∙ went-off d.way _ _ t
+          pub effect-off : (d.way ≡ way.On → ⊥) → run_ops env ops w vs ≡ did_in d vars memory output
+          effect-off t = effect-went ∙ went-off d.way _ _ (not_on d.way t)

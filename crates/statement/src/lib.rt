@@ -9,14 +9,13 @@ ghost use Rattle.operation.specs.Stacks.{stack_of};
 ghost use Rattle.world.specs.Hearing.{hearing, heard_in};
 ghost use Rattle.effect.specs.Worlds.{env_with, world_with, did_in};
 ghost use Rattle.table.specs.Index.{Indexed};
-ghost use Rattle.statement.specs.Lending.{Fair, is_on, takes_reply};
+ghost use Rattle.statement.specs.Lending.{Fair, takes_reply};
 ghost use Rattle.statement.specs.Plain.{RunsPlainly, LeftAt};
 
-use effect::{AtOnce, Did};
+use effect::{Did, Lines};
 use nibl::access::Sight;
 use nibl::{ForStack, Parts, Place, PlaceStack};
-use operation::{Height, Reached};
-use world::input::Reply;
+use operation::sources::Sources;
 use world::jump::Way;
 use world::{input, memory};
 
@@ -31,6 +30,9 @@ pub enum Plain {
     Counts(u32, u32, u16, u16, u16),
     Needs(usize, usize),
 }
+
+// What is lent goes list by list, here and below, and not as a struct: a `&mut [T]` parameter is known to stay as long, but of one in
+// a struct behind a `&mut` each contract and each invariant would have to say so; one built for a call and taken apart in it saves nothing.
 
 // INPUT of values: the reply's relations for the variables of the operations that follow.
 fn input_values(
@@ -53,25 +55,22 @@ fn input_values(
         (hearing (length reply.old) input.now parts.inpos output.old parts.outpos) (takes_reply sight page.now (variables_of rest.now) n) }
 {
     let r = input::ask(input, parts.inpos, output, parts.outpos, reply);
-    match r {
-        Reply::No(k, i, o) => effect::ends(Way::Stop(k), effect::at_positions(parts, i, o)),
-        Reply::Line(k, i, o) => {
-            let flags = parts.flags;
-            let way = operation::take_reply(
-                rest,
-                n as usize,
-                &reply[..k],
-                flags,
-                sight,
-                page,
-                vars,
-                memory,
-                replies,
-                values,
-            );
-            effect::ends(way, effect::at_positions(parts, i, o))
-        }
-    }
+    let way = match r.said {
+        Ok(k) => operation::take_reply(
+            rest,
+            n as usize,
+            &reply[..k],
+            parts.flags,
+            sight,
+            page,
+            vars,
+            memory,
+            replies,
+            values,
+        ),
+        Err(stop) => Way::Stop(stop),
+    };
+    effect::ends(way, effect::at_positions(parts, r.inpos, r.outpos))
 }
 
 // Whether an operation takes the rest of the list as its own.
@@ -120,27 +119,15 @@ fn last(
     )
 }
 
-fn is_on(way: Way) -> bool
-    ensures { result ≡ is_on way }
-{
-    match way {
-        Way::On => true,
-        Way::Skip => false,
-        Way::Go(_) => false,
-        Way::Stop(_) => false,
-    }
-}
-
 // What is left to do at an operation that does not act at once. Only where no more operations come behind it is a turn left to
 // the run: what it does is then the statement's end.
 fn left_at(ops: &[u32], at: usize, values: &[u16], height: usize) -> Plain
     requires { (at < length ops.now) × (height ≤ at) }
     ensures { LeftAt ops.now values.now at height result }
 {
-    if at + 1 < ops.len() {
+    let &[op] = &ops[at..] else {
         return Plain::Needs(at, height);
-    }
-    let op = ops[at];
+    };
     let code = op % codes::CODES;
     let x = operation::nth(values, height, 0);
     match code {
@@ -155,10 +142,11 @@ fn left_at(ops: &[u32], at: usize, values: &[u16], height: usize) -> Plain
     }
 }
 
-// A statement as far as it runs without the parts: its values and the operations that act at once.
+// A statement as far as it runs without the parts: its values and the operations that act at once. The loop's index is what
+// `values_first` answers, one operation or more further on.
 pub fn run_plain(
     ops: &[u32],
-    page: &[u8],
+    lines: Lines,
     flags: u8,
     sight: Sight,
     dos: PlaceStack,
@@ -166,39 +154,40 @@ pub fn run_plain(
     vars: &mut [u16],
     memory: &[u8],
     values: &mut [u16],
-    table: &[u16],
 ) -> Plain
-    requires { ((length ops.now ≤ length values.old) × (length page.now ≤ 65535) × (used page.now ≤ 65535)) × Indexed page.now table.now }
-    ensures { RunsPlainly ops.now page.now flags sight dos fors vars.old memory.now result vars.new values.new }
+    requires { (length ops.now ≤ length values.old) × (length lines.page.now ≤ 65535) × (used lines.page.now ≤ 65535) }
+    ensures { RunsPlainly ops.now lines.entry.page.now flags sight dos fors vars.old memory.now result vars.new values.new }
 {
-    let mut i: usize = 0;
+    let mut i = 0;
     loop {
-        let r = operation::values_first(ops, i, vars, flags, sight, page, memory, values);
-        match r {
-            Reached::No(n) => {
-                return Plain::Ends(Way::Stop(n));
-            }
-            Reached::To(j, height, x) => {
-                if ops.len() <= j {
+        let s = Sources {
+            vars: &*vars,
+            flags,
+            sight,
+            page: lines.page,
+            memory,
+        };
+        match operation::values_first(s, ops, i, values) {
+            Err(stop) => return Plain::Ends(Way::Stop(stop)),
+            Ok((j, height, x)) => {
+                let Some(&op) = ops.get(j) else {
                     return Plain::Ends(Way::On);
-                }
-                let op = ops[j];
+                };
                 let a = effect::act(
                     op % codes::CODES,
                     op / codes::CODES,
                     x,
-                    page,
+                    lines,
                     vars,
                     dos,
                     fors,
-                    table,
                 );
-                let AtOnce::Acts(way) = a else {
+                let Some(way) = a else {
                     return left_at(ops, j, values, height);
                 };
-                if !is_on(way) {
+                let Way::On = way else {
                     return Plain::Ends(way);
-                }
+                };
                 i = j + 1;
             }
         }
@@ -211,7 +200,7 @@ pub fn run_ops_from(
     from: usize,
     filled: usize,
     here: Place,
-    page: &[u8],
+    lines: Lines,
     input: &[u8],
     sight: Sight,
     vars: &mut [u16],
@@ -221,51 +210,37 @@ pub fn run_ops_from(
     replies: &mut [u32],
     values: &mut [u16],
     parts: Parts,
-    table: &[u16],
 ) -> Did
-    requires { (Fair page.now ops.now values.old reply.old replies.old × (filled ≤ from)) × Indexed page.now table.now }
+    requires { Fair lines.page.now ops.now values.old reply.old replies.old × (filled ≤ from) }
     ensures { did_in result vars.new memory.new output.new
-        ≡ run_ops (env_with (length reply.old) page.now input.now sight here) (drop from ops.now)
+        ≡ run_ops (env_with (length reply.old) lines.entry.page.now input.now sight here) (drop from ops.now)
         (world_with vars.old parts memory.old output.old) (stack_of values.old filled) }
 {
     let mut p = parts;
-    let mut height: usize = filled;
-    let mut i: usize = from;
-    while i < ops.len() {
-        let op = ops[i];
+    let mut height = filled;
+    let mut rest = ops.get(from..).unwrap_or(&[]);
+    while let Some((&op, behind)) = rest.split_first() {
+        rest = behind;
         let code = op % codes::CODES;
         let x = operation::nth(values, height, 0);
         if code < codes::EFFECTS {
-            let t = operation::value_step(
-                op, vars, p.flags, sight, page, memory, values, height, x,
+            let s = Sources {
+                vars: &*vars,
+                flags: p.flags,
+                sight,
+                page: lines.page,
+                memory: &*memory,
+            };
+            match operation::value_step(s, op, values, height, x) {
+                Ok((n, _)) => height = n,
+                Err(stop) => return effect::ends(Way::Stop(stop), p),
+            }
+        } else if is_last(code) {
+            return last(
+                op, x, rest, lines.page, input, sight, vars, memory, output, reply, replies,
+                values, p,
             );
-            match t {
-                Height::Top(n, _) => {
-                    height = n;
-                    i += 1;
-                }
-                Height::No(n) => {
-                    return effect::ends(Way::Stop(n), p);
-                }
-            }
         } else {
-            if is_last(code) {
-                return last(
-                    op,
-                    x,
-                    &ops[i + 1..],
-                    page,
-                    input,
-                    sight,
-                    vars,
-                    memory,
-                    output,
-                    reply,
-                    replies,
-                    values,
-                    p,
-                );
-            }
             let y = operation::nth(values, height, 1);
             let z = operation::nth(values, height, 2);
             let d = effect::effect(
@@ -275,7 +250,7 @@ pub fn run_ops_from(
                 y,
                 z,
                 here,
-                page,
+                lines,
                 input,
                 sight.access,
                 vars,
@@ -283,16 +258,12 @@ pub fn run_ops_from(
                 output,
                 reply,
                 p,
-                table,
             );
-            let way = d.way;
-            if !is_on(way) {
+            let Way::On = d.way else {
                 return d;
-            }
-            let q = d.parts;
-            p = q;
+            };
+            p = d.parts;
             height = 0;
-            i += 1;
         }
     }
     effect::ends(Way::On, p)
@@ -318,8 +289,8 @@ pub fn run_ops(
     ensures { did_in result vars.new memory.new output.new
         ≡ run_ops (env_with (length reply.old) page.now input.now sight here) ops.now (world_with vars.old parts memory.old output.old) [] }
 {
+    let lines = Lines { page, table };
     run_ops_from(
-        ops, 0, 0, here, page, input, sight, vars, memory, output, reply, replies, values, parts,
-        table,
+        ops, 0, 0, here, lines, input, sight, vars, memory, output, reply, replies, values, parts,
     )
 }

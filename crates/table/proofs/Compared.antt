@@ -12,8 +12,7 @@ use borrow.Author.Tests.{eq-eqb, ne_eqb, eqb-true, eqb-false}
 use Rattle.nibl.specs.Words.{begins}
 use Rattle.nibl.specs.Page.{Stored, records_of}
 use Rattle.nibl.specs.Table.{positions_from, describes}
-use Rattle.page.specs.Walk.{size_at}
-use Rattle.page.proofs.Walk.{by_cases, met}
+use Rattle.page.proofs.Walk.{by_cases, Met}
 use Rattle.table.proofs.Index.{describes-some}
 
 -- the first k records, up to `at`, stand where the table says
@@ -30,13 +29,13 @@ wrong : (page table : List ℕ) → 1 ≤ length table → begins (positions_fro
 wrong page table h e = sym (describes-some page table h ∙ ap (λ (b : Bool). eqb (length (records_of page)) (get_or table 0 0) && b) e ∙ and-false (eqb (length (records_of page)) (get_or table 0 0)))
 
 -- at a record of n bytes
-module _ {page table : List ℕ} {k at : ℕ} (n : ℕ) (c : Compared page table k at) (e : n ≡ size_at (drop at page)) (h : 0 < n) where
+module _ {page table : List ℕ} {k at n : ℕ} (c : Compared page table k at) (m : Met page at n) where
   more : List Stored
   more = records_of (drop (at + n) page)
 
   here : positions_from at (records_of (drop at page)) ≡ at ∷ positions_from (at + n) more
   unfolding more
-  here = let m = met page at n e h in ap (positions_from at) m.records ∙ ap (λ (x : ℕ). at ∷ positions_from (at + x) (records_of (drop (at + n) page))) m.long
+  here = ap (positions_from at) m.records ∙ ap (λ (x : ℕ). at ∷ positions_from (at + x) (records_of (drop (at + n) page))) m.long
 
   entry : k + 1 < length table → drop (k + 1) table ≡ get_or table (k + 1) 0 ∷ drop (k + 1 + 1) table
   entry r = drop-cons table (k + 1) 0 r ∙ ap (λ (x : ℕ). get_or table (k + 1) 0 ∷ drop x table) (sym (add-one (k + 1)))
@@ -54,7 +53,6 @@ module _ {page table : List ℕ} {k at : ℕ} (n : ℕ) (c : Compared page table
   pub compare-step : k + 1 < length table → get_or table (k + 1) 0 ≡ at → Compared page table (k + 1) (at + n)
   unfolding more
   compare-step r f =
-      let m = met page at n e h in
       record {
         left = sym ((λ i. begins (here i) (entry r i)) ∙ rw (eq-eqb at (get_or table (k + 1) 0) (sym f))) ∙ c.left;
         count = omega (arith, c.count, ap length m.records);

@@ -1,5 +1,7 @@
 -- One outcome: two answers that meet a public function's promise for the same arguments are equal, and so are the page and the table. Assumes nothing.
 use Prim.Native.Nat.{ℕ}
+use Rattle.std.specs.Prelude.{Option}
+use Rattle.nibl.specs.declared.Onward.{Onward}
 use mathlib.Core.Path.{◌≡◌, sym, ap, ◌∙◌}
 use mathlib.Core.Bool.{Bool}
 use mathlib.Core.List.{List}
@@ -7,7 +9,6 @@ use Rattle.nibl.specs.Page.{find}
 use Rattle.nibl.specs.Table.{describes}
 use Rattle.nibl.specs.declared.Call.{Call}
 use Rattle.nibl.proofs.Determined.{determined}
-use Rattle.page.specs.declared.FoundLine.{FoundLine}
 use Rattle.page.specs.declared.Edited.{Edited}
 use Rattle.page.specs.Walk.{found_at, reached}
 use Rattle.page.specs.Edits.{Changed, changed, store_of, delete_of, new_of}
@@ -19,7 +20,7 @@ use Rattle.table.specs.Lent.{lent_entries}
 pub describes-determined : (page table : List ℕ) (a b : Bool) → a ≡ describes page table → b ≡ describes page table → a ≡ b
 describes-determined page table = determined (describes page table)
 
-pub find-determined : (page : List ℕ) (n : ℕ) (r s : FoundLine) → found_at r ≡ reached (find page n) → found_at s ≡ reached (find page n) → r ≡ s
+pub find-determined : (page : List ℕ) (n : ℕ) (r s : Option Onward) → found_at r ≡ reached (find page n) → found_at s ≡ reached (find page n) → r ≡ s
 find-determined = page.find-determined
 
 pub refill-determined : (page table a b : List ℕ) → a ≡ kept_true page table → b ≡ kept_true page table → a ≡ b

@@ -14,10 +14,9 @@ use borrow.Author.Tests.{leb-true}
 use Rattle.nibl.specs.Page.{Stored, records_of, record_bytes, used}
 use Rattle.nibl.specs.Table.{positions_from, walk_table, refilled}
 use Rattle.page.specs.declared.Seat.{Seat}
-use Rattle.page.specs.Walk.{size_at}
 use Rattle.page.specs.Edits.{seat_of, Seatable, Seated, spliced, can_store, store_at_seat, delete_at}
 use Rattle.page.specs.Tables.{span_of}
-use Rattle.page.proofs.Walk.{by_cases, met}
+use Rattle.page.proofs.Walk.{by_cases, Met}
 use Rattle.page.proofs.Program.{both}
 use Rattle.page.proofs.Ways.{Way, here, way-span, way-records, way-to, way-kept}
 use Rattle.page.proofs.Tables.{lines-most, positions-append, walk-length, table-front}
@@ -92,16 +91,14 @@ pub fill_start : {page table : List ℕ} {k at : ℕ} → TableFront page table 
 fill_start f = record { front = f; long = refl; behind = refl }
 
 -- a turn, at a record of n bytes: there is room for its entry
-module _ {page before table : List ℕ} {k at : ℕ} (n : ℕ) (f : Filling page before table k at) (e : n ≡ size_at (drop at page)) (h : 0 < n) where
+module _ {page before table : List ℕ} {k at n : ℕ} (f : Filling page before table k at) (m : Met page at n) where
   pub fill-room : (at + 3 ≤ length page) × ((at + n ≤ length page + 1) × ((length page ≤ 4096) × (k + 1 < length table)))
   fill-room =
-      let m = met page at n e h in
       let g = f.front in
       (m.inside, (m.next, (g.short, omega (arith, lines-most page, g.count, g.short, g.long, ap length m.records))))
 
   pub fill_step : Filling page before (set table (k + 1) at) (k + 1) (at + n)
   fill_step =
-      let m = met page at n e h in
       let g = f.front in
       let room = fill-room.1.1.1 in
       let more : List Stored = records_of (drop (at + n) page) in

@@ -1,6 +1,7 @@
 pub mod Index
 pub mod Compared
 pub mod Below
+pub mod Halves
 pub mod Fronts
 pub mod Lent
 pub mod Determined

@@ -12,8 +12,8 @@ ghost use Rattle.table.specs.Lent.{lent_entries};
 ghost use Rattle.page.specs.Tables.{span_of};
 ghost use Rattle.table.specs.Spots.{below, gone_at, TableFront, Spotted};
 
-use nibl::{Call, LineNumber};
-use page::{Edited, FoundLine, Seat, found_at, line_at, number_at, size_at};
+use nibl::{Call, LineNumber, Onward};
+use page::{Edited, Records, Seat, found_at, line_at, number_at, size_at};
 
 // A line's seat, and how many lines stand before it, which is counted where there is a table.
 #[derive(Clone, Copy)]
@@ -26,48 +26,30 @@ struct Spot {
 pub fn describes(page: &[u8], table: &[u16]) -> bool
     ensures { result ≡ describes page.now table.now }
 {
-    let room = table.len();
-    if room < 1 {
+    if table.len() < 1 {
         return false;
     }
     let mut k: usize = 0;
-    let mut at: usize = 0;
-    let mut size = size_at(page, at);
-    while 0 < size {
-        if room - 1 <= k {
-            return false;
-        }
-        if table[k + 1] as usize != at {
-            return false;
-        }
+    for (at, _) in Records::of(page) {
         k += 1;
-        at += size;
-        size = size_at(page, at);
+        if table.len() <= k || usize::from(table[k]) != at {
+            return false;
+        }
     }
-    table[0] as usize == k
+    usize::from(table[0]) == k
 }
 
-// How many lines have a lower number: the search halves what it has not yet told apart.
+// How many lines have a lower number, by halves.
 fn seek(page: &[u8], n: u16, table: &[u16]) -> usize
     requires { Described page.now table.now }
     ensures { result ≡ below n (records_of page.now) }
 {
-    let mut lo: usize = 0;
-    let mut hi = table[0] as usize;
-    while lo < hi {
-        let mid = lo + (hi - lo) / 2;
-        let at = table[mid + 1] as usize;
-        if number_at(page, at) < n {
-            lo = mid + 1;
-        } else {
-            hi = mid;
-        }
-    }
-    lo
+    let count = usize::from(table[0]);
+    table[1..=count].partition_point(|at| line_at(page, usize::from(*at)) < n)
 }
 
 // The line finder: the promise is that of the page's own, which walks.
-pub fn find_line(page: &[u8], number: LineNumber, table: &[u16]) -> FoundLine
+pub fn find_line(page: &[u8], number: LineNumber, table: &[u16]) -> Option<Onward>
     requires { Indexed page.now table.now }
     ensures { found_at result ≡ reached (find page.now number.0) }
 {
@@ -76,14 +58,14 @@ pub fn find_line(page: &[u8], number: LineNumber, table: &[u16]) -> FoundLine
     }
     let n = number.0;
     let k = seek(page, n, table);
-    if table[0] as usize <= k {
-        return FoundLine::Nothing;
+    if usize::from(table[0]) <= k {
+        return None;
     }
-    let at = table[k + 1] as usize;
+    let at = usize::from(table[k + 1]);
     if number_at(page, at) == n {
         return found_at(at);
     }
-    FoundLine::Nothing
+    None
 }
 
 // Where the k-th line stands, or the next one would: after the one before it.
@@ -95,8 +77,8 @@ fn start_of(page: &[u8], table: &[u16], k: usize) -> usize
     if k < 1 {
         return 0;
     }
-    let last = table[k] as usize;
-    last + size_at(page, last)
+    let last = usize::from(table[k]);
+    last + size_at(page, last).unwrap_or(0)
 }
 
 // How many bytes of the line n stand at `at`.
@@ -104,9 +86,10 @@ fn gone_at(page: &[u8], at: usize, n: u16) -> usize
     ensures { result ≡ gone_at (drop at page.now) n }
 {
     if line_at(page, at) == n {
-        return size_at(page, at);
+        size_at(page, at).unwrap_or(0)
+    } else {
+        0
     }
-    0
 }
 
 // A line's spot: by halves, or by the page's walk where no table is lent.
@@ -115,20 +98,16 @@ fn find_spot(page: &[u8], number: LineNumber, table: &[u16]) -> Spot
     ensures { Spotted page.now table.now number.0 result }
 {
     if table.len() < 1 {
-        let walked = page::find_seat(page, number);
-        return Spot {
-            index: 0,
-            seat: walked,
-        };
+        let seat = page::find_seat(page, number);
+        return Spot { index: 0, seat };
     }
     let n = number.0;
-    let k = seek(page, n, table);
-    let at = start_of(page, table, k);
+    let index = seek(page, n, table);
+    let at = start_of(page, table, index);
     let gone = gone_at(page, at, n);
-    let seat = Seat { at: at, gone: gone };
     Spot {
-        index: k,
-        seat: seat,
+        index,
+        seat: Seat { at, gone },
     }
 }
 
@@ -142,13 +121,9 @@ pub fn refill(page: &[u8], table: &mut [u16], first: usize, from: usize)
         return;
     }
     let mut k = first;
-    let mut at = from;
-    let mut size = size_at(page, at);
-    while 0 < size {
-        table[k + 1] = at as u16;
+    for (at, _) in Records::onward(page, from) {
         k += 1;
-        at += size;
-        size = size_at(page, at);
+        table[k] = at as u16;
     }
     table[0] = k as u16;
 }
@@ -159,10 +134,9 @@ pub fn store_line(page: &mut [u8], number: LineNumber, text: &[u8], table: &mut 
     ensures result_after { changed page.new result ≡ store_of page.old number.0 text.now }
     ensures table_after { table.new ≡ kept_true page.new table.old }
 {
-    let spot = find_spot(page, number, table);
-    let seat = spot.seat;
+    let Spot { index, seat } = find_spot(page, number, table);
     let edited = page::store_at(page, seat, number, text);
-    refill(page, table, spot.index, seat.at);
+    refill(page, table, index, seat.at);
     edited
 }
 
@@ -172,10 +146,9 @@ pub fn delete_line(page: &mut [u8], number: LineNumber, table: &mut [u16]) -> Ed
     ensures result_after { changed page.new result ≡ delete_of page.old number.0 }
     ensures table_after { table.new ≡ kept_true page.new table.old }
 {
-    let spot = find_spot(page, number, table);
-    let seat = spot.seat;
+    let Spot { index, seat } = find_spot(page, number, table);
     let edited = page::delete_at(page, seat);
-    refill(page, table, spot.index, seat.at);
+    refill(page, table, index, seat.at);
     edited
 }
 
@@ -194,8 +167,5 @@ pub fn new_page(page: &mut [u8], table: &mut [u16]) -> Edited
 pub fn lent_entries(call: Call, table: &[u16]) -> usize
     ensures { result ≡ lent_entries call table.now }
 {
-    if call.tabled == 0 {
-        return 0;
-    }
-    table.len()
+    if call.tabled == 0 { 0 } else { table.len() }
 }

@@ -1,23 +1,14 @@
 -- Laws of the operators, for this crate's proofs and for callers to cite. Assumes nothing.
-use Rattle.std.specs.Prelude.{if◌then◌else◌}
-use Rattle.std.proofs.Common.{◌≡◌, ℕ, ◌+◌, ◌-◌, ◌*◌, ◌/◌, ◌^◌, ◌<◌, ◌≤◌, Bool, true, false, not, eqb, ltb, refl, lt_of_le_of_lt, le_of_lt, mul-le-mul_left, mul-lt-mul_of_pos_right, div-le_self, arith, pow_pos, pow-add, ltb-false, ltb-true, ne_eqb}
-use mathlib.Core.Path.{subst⁻¹}
-use mathlib.Core.Bool.{beq}
+use Rattle.std.specs.Prelude.{if◌then◌else◌, Result, Ok, Err}
+use Rattle.std.proofs.Common.{◌≡◌, ℕ, ◌-◌, ◌<◌, ◌≤◌, Bool, true, false, not, eqb, ltb, refl, lt_of_le_of_lt, div-le_self, arith, ltb-false, ltb-true}
 use native.Mathlib.Nat.{mod-le}
 use lib.Bits.{and_le_l, or_lt}
 use lib.ListN.{get_or-eq_default}
+use Rattle.nibl.specs.declared.stop.Stop.{Stop}
 use Rattle.nibl.specs.Tree.{Op, times, divided_by, and_bits, plus, minus, or_bits, equal, less, greater, at_most, at_least, unequal}
-use Rattle.nibl.specs.Values.{is, no, bit, less16, mod16, apply, magnitude, is_negative, differ, quotient16, sub16, unless_zero}
+use Rattle.nibl.specs.Values.{is, no, bit, less16, mod16, apply, magnitude, is_negative, differ, quotient16, unless_zero}
 use Rattle.value.specs.Operators.{value_of}
 use Rattle.codes.specs.Operators.{operators, op_of}
-use Rattle.value.specs.declared.Value.{Value}
-use Rattle.value.specs.declared.Value.TheVariants.{Is, No}
-
--- a product of two numbers of k bits has at most twice as many
-pub product-below : (k : ℕ) {a b : ℕ} → a < 2 ^ k → b < 2 ^ k → a * b < 2 ^ (k + k)
-product-below k {a} {b} ha hb =
-    subst⁻¹ (λ (n : ℕ). a * b < n) (pow-add 2 k k)
-    (lt_of_le_of_lt (mul-le-mul_left a (le_of_lt hb)) (mul-lt-mul_of_pos_right ha (pow_pos k)))
 
 magnitude-case : (P : ℕ → Type 0) (a : ℕ) → (a < 32768 → P a) → (32768 ≤ a → P (65536 - a)) → P (magnitude a)
 magnitude-case P a up down = go (ltb a 32768) refl
@@ -26,37 +17,12 @@ magnitude-case P a up down = go (ltb a 32768) refl
     go true e = up (ltb-true a 32768 e)
     go false e = down (ltb-false a 32768 e)
 
--- only 0 has the magnitude 0
-pub magnitude-pos : (b : ℕ) → (b ≡ 0 → ⊥) → b < 65536 → 0 < magnitude b
-magnitude-pos b h k = magnitude-case (λ m. 0 < m) b (λ g. omega arith) (λ g. omega arith)
-
 pub magnitude-most : (a : ℕ) → a < 65536 → magnitude a ≤ 32768
 magnitude-most a h = magnitude-case (λ m. m ≤ 32768) a (λ g. omega arith) (λ g. omega arith)
 
--- what is divided by other than 0 has a value
-pub divided : (b q : ℕ) → (b ≡ 0 → ⊥) → is q ≡ unless_zero b q
-divided b q h = rw (ne_eqb b 0 h)
-
-differ-beq : (m n : Bool) → differ m n ≡ not (beq m n)
-differ-beq true true = refl
-differ-beq true false = refl
-differ-beq false true = refl
-differ-beq false false = refl
-
--- a quotient by the signs that were found, t says whether they are the same
-pub quotient-value : (a b : ℕ) {s d q : ℕ} {m n : Bool} → s ≡ magnitude a → d ≡ magnitude b → m ≡ is_negative a → n ≡ is_negative b → (b ≡ 0 → ⊥) →
-    (t : Bool) → beq m n ≡ t → q ≡ (if t then s / d else sub16 0 (s / d)) → is q ≡ apply divided_by a b
-unfolding apply
-quotient-value a b {s} {d} {q} {m} {n} hs hd hm hn h t e k =
-    rw (k, ← hs, ← hd, ← hm, ← hn, differ-beq m n, e, ne_eqb b 0 h) (go t)
-  where
-    go : (t : Bool) → is (if t then s / d else sub16 0 (s / d)) ≡ is (if not t then sub16 0 (s / d) else s / d)
-    go true = refl
-    go false = refl
-
-pub op-last : (op : ℕ) → 11 ≤ op → op_of op ≡ unequal
+pub op_last : (op : ℕ) → 11 ≤ op → op_of op ≡ unequal
 unfolding op_of
-op-last op h = get_or-eq_default operators unequal h
+op_last op h = get_or-eq_default operators unequal h
 
 -- ---- what the operators make of 16 bits has 16 bits
 
@@ -104,8 +70,8 @@ apply-below unequal a b v ha hb e = below (bit_below (not (eqb a b))) e
 
 -- ---- an answer is determined by what it stands for
 
-pub value_same : (r s : Value) → value_of r ≡ value_of s → r ≡ s
-value_same (Is v) (Is w) e = let q : v ≡ w = cc in cc
-value_same (No m) (No n) e = let q : m ≡ n = cc in cc
-value_same (Is v) (No n) e = let z : ◌≡◌ {A = ℕ} 0 1 = cc in absurd (omega arith)
-value_same (No m) (Is w) e = let z : ◌≡◌ {A = ℕ} 0 1 = cc in absurd (omega arith)
+pub value_same : (r s : Result ℕ Stop) → value_of r ≡ value_of s → r ≡ s
+value_same (Ok v) (Ok w) e = let q : v ≡ w = cc in cc
+value_same (Err m) (Err n) e = let q : m.0 ≡ n.0 = cc in λ i. Err (record { 0 = q i })
+value_same (Ok v) (Err n) e = let z : ◌≡◌ {A = ℕ} 0 1 = cc in absurd (omega arith)
+value_same (Err m) (Ok w) e = let z : ◌≡◌ {A = ℕ} 0 1 = cc in absurd (omega arith)

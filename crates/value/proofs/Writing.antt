@@ -1,11 +1,11 @@
 -- Laws of writing items, for this crate's proofs and for callers to cite. Assumes nothing.
-use Rattle.std.proofs.Common.{◌≡◌, ℕ, suc, ◌+◌, ◌-◌, ◌<◌, ◌≤◌, Bool, true, false, not, leb, List, [], ◌∷◌, ◌++◌, length, get_or, take, drop, set, sym, refl, ap, ◌∙◌, append_assoc, append-nil, add-zero, zero-add, add-one, arith, length-drop, drop_of_length-le, length-take-le, take_all, take-suc, drop-drop, le-leb, leb-false, leb-true}
+use Rattle.std.proofs.Common.{◌≡◌, length-set, ℕ, suc, ◌+◌, ◌-◌, ◌<◌, ◌≤◌, Bool, true, leb, List, [], ◌∷◌, ◌++◌, length, get_or, take, drop, set, sym, refl, ap, ◌∙◌, append_assoc, append-nil, add-zero, zero-add, add-one, arith, length-drop, drop_of_length-le, length-take-le, take_all, take-suc, drop-drop, le-leb, leb-true}
+use Rattle.std.specs.Prelude.{Option, Some, None}
 use lib.Seq.{sets, sets-eq, set_comm}
 use borrow.Rule.Slice.PartMut.{put_mid, mid_of}
-use borrow.Author.Tests.{lt-leb, not-true, not-false}
+use borrow.Author.Tests.{lt-leb}
+use Rattle.value.proofs.Digits.{printed-length}
 use Rattle.value.specs.Writes.{Writes, wrote_of}
-use Rattle.value.specs.declared.Wrote.{Wrote}
-use Rattle.value.specs.declared.Wrote.TheVariants.{To, Full}
 
 -- two items one after the other are one
 pub sets-append : (v w l : List ℕ) (i : ℕ) → sets l i (v ++ w) ≡ sets (sets l i v) (i + length v) w
@@ -26,6 +26,12 @@ sets_more l s at i h =
     let n : length (take i s) ≡ i = length-take-le i s (omega arith) in
     rw (add-one, take-suc s i 0 h, sets-append, n)
 
+-- an item copied into the part that it fills is written in the whole
+pub copied-sets : (l item : List ℕ) (at : ℕ) → at + length item ≤ length l → put_mid at (at + length item - at) l item ≡ sets l at item
+copied-sets l item at h =
+    let n : at + length item - at ≡ length item = omega arith in
+    rw n (ap (λ r. take at l ++ (item ++ r)) (drop-drop (length item) at l) ∙ sym (sets-eq item l at h ∙ append_assoc (take at l) item (drop (at + length item) l)))
+
 -- an item written to the front of the rest of an output is written in the whole
 pub part-sets : (l item : List ℕ) (at : ℕ) → at + length item ≤ length l
     → put_mid at (length l - at) l (sets (mid_of at (length l - at) l) 0 item) ≡ sets l at item
@@ -39,36 +45,27 @@ part-sets l item at h =
     ∙ ap (λ r. take at l ++ r) (append-nil (sets (drop at l) 0 item) ∙ front)
     ∙ sym (sets-eq item l at h ∙ append_assoc (take at l) item (drop (at + length item) l))
 
--- room for so many bytes is room behind the position
-pub room-behind : (room at size : ℕ) → at ≤ room → leb size (room - at) ≡ leb (at + size) room
-room-behind room at size h = go (leb size (room - at)) refl
-  where
-    go : (t : Bool) → leb size (room - at) ≡ t → t ≡ leb (at + size) room
-    go true e = let g = leb-true size (room - at) e in sym (le-leb (at + size) room (omega arith))
-    go false e = let g = leb-false size (room - at) e in sym (lt-leb (at + size) room (omega arith))
-
 -- what a test of the room says
-module _ (r : Bool) (room at size : ℕ) (e : r ≡ leb (at + size) room) where
-  pub room_for : not r ≡ false → at + size ≤ room
-  room_for h = leb-true (at + size) room (sym e ∙ not-false r h)
+pub room_for : (r : Bool) (room at size : ℕ) → r ≡ leb (at + size) room → r ≡ true → at + size ≤ room
+room_for r room at size e t = leb-true (at + size) room (sym e ∙ t)
 
-  pub room-lacks : not r ≡ true → room < at + size
-  room-lacks h = leb-false (at + size) room (sym e ∙ not-true r h)
+-- the room of what PRINT writes
+pub ruleset rooms = (room_for, printed-length, length-set)
 
 module _ (output item : List ℕ) (at : ℕ) where
-  pub writes-whole : at + length item ≤ length output → Writes output at item (To (at + length item)) (sets output at item)
+  pub writes-whole : at + length item ≤ length output → Writes output at item (Some (at + length item)) (sets output at item)
   writes-whole h = let e = le-leb _ _ h in record { answer = rw e; output = rw e }
 
-  pub writes-none : length output < at + length item → Writes output at item Full output
+  pub writes-none : length output < at + length item → Writes output at item None output
   writes-none h = let e = lt-leb _ _ h in record { answer = rw e; output = rw e }
 
-wrote-same : (r s : Wrote) → wrote_of r ≡ wrote_of s → r ≡ s
-wrote-same (To m) (To n) e = let q : m ≡ n = cc in cc
-wrote-same Full Full e = refl
-wrote-same (To m) Full e = let z : ◌≡◌ {A = ℕ} 0 1 = cc in absurd (omega arith)
-wrote-same Full (To n) e = let z : ◌≡◌ {A = ℕ} 0 1 = cc in absurd (omega arith)
+wrote-same : (r s : Option ℕ) → wrote_of r ≡ wrote_of s → r ≡ s
+wrote-same (Some m) (Some n) e = let q : m ≡ n = cc in cc
+wrote-same None None e = refl
+wrote-same (Some m) None e = let z : ◌≡◌ {A = ℕ} 0 1 = cc in absurd (omega arith)
+wrote-same None (Some n) e = let z : ◌≡◌ {A = ℕ} 0 1 = cc in absurd (omega arith)
 
 -- the answer and the output after it are determined
-pub writes-same : {before item after after' : List ℕ} {at : ℕ} {r s : Wrote} → Writes before at item r after → Writes before at item s after'
+pub writes-same : {before item after after' : List ℕ} {at : ℕ} {r s : Option ℕ} → Writes before at item r after → Writes before at item s after'
     → (r ≡ s) × (after ≡ after')
 writes-same {r = r} {s = s} p q = (wrote-same r s (p.answer ∙ sym q.answer), p.output ∙ sym q.output)

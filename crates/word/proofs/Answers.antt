@@ -1,17 +1,14 @@
 -- One law for each answer of the word reader. Assumes nothing.
-use Rattle.std.specs.Prelude.{if◌then◌else◌}
 use Prim.Native.Nat.{ℕ, ◌+◌, ◌≤◌, ◌<◌}
 use mathlib.Core.Path.{◌≡◌, ◌∙◌, refl, ap, sym}
-use mathlib.Core.Bool.{Bool, true, false, ◌&&◌}
+use mathlib.Core.Bool.{Bool, true, false}
 use mathlib.Core.List.{List, [], ◌∷◌}
-use mathlib.Core.Option.{Option, none, some}
 use native.Mathlib.Omega.{arith}
 use borrow.Author.Tests.{eq-eqb, ne_eqb, eqb-true, eqb-false}
 use lib.Dec.{eqb}
 use lib.ListN.{length, drop, get_or, length-drop, drop_of_length-le}
 use Rattle.nibl.specs.Bytes.{class_of, class_digit, class_capital, class_quote, is_space, is_capital, is_digit, is_quotable, starts, past}
-use Rattle.nibl.specs.Words.{sign, pairs, number_or, is_symbol}
-use Rattle.nibl.specs.found.Read.{FrontWord, at_end, got, pair_or, word_step, step_in}
+use Rattle.nibl.specs.found.Read.{FrontWord, at_end, word_step, step_in}
 use Rattle.nibl.specs.found.GaveUp.{word_gave_up, gave_up}
 use Rattle.letter.proofs.Classes.{capital, digit, quote}
 use Rattle.word.specs.declared.Word.{Word}
@@ -37,46 +34,6 @@ module _ (text : List ℕ) (from to : ℕ) (e : to ≡ run_end is_quotable text 
   pub quoted-closed : to < length text → eqb (class_of (get_or text to 0)) class_quote ≡ true → AnswerIs quoted_at quoted_left text from (Text from to (record { at = to + 1 }))
   quoted-closed h f =
       record { same = rw (rest_at is_quotable text from to e, at_byte text to h, sym (quote (get_or text to 0)) ∙ f, run_at is_quotable text from to e) refl; inside = (omega arith, omega arith, omega arith, refl); stopped = tt }
-
--- A pair or a symbol
-paired : (o : Option ℕ) (a b k : ℕ) (s : List ℕ) → k ≡ number_or 0 o → (k ≡ 0 → ⊥) → pair_or o a b s ≡ got (sign k) s
-paired none a b k s e z = absurd (z e)
-paired (some n) a b k s e z = rw e refl
-
-alone : (t u v : Bool) (a b k : ℕ) (s : List ℕ) → k ≡ number_or 0 (if t then some 1 else if u then some 2 else if v then some 3 else none) → k ≡ 0
-    → pair_or (if t then some 1 else if u then some 2 else if v then some 3 else none) a b s ≡ got (sign a) (b ∷ s)
-alone true u v a b k s e z = absurd (omega arith)
-alone false true v a b k s e z = absurd (omega arith)
-alone false false true a b k s e z = absurd (omega arith)
-alone false false false a b k s e z = refl
-
-module _ (text : List ℕ) (from : ℕ) (h : from < length text) where
-  pub symbol-none : is_symbol (get_or text from 0) ≡ false → AnswerIs symbol_at length text from (Wrong (record { at = from }))
-  symbol-none e = record { same = rw (at_byte text from h, e) refl; inside = tt; stopped = omega (arith, length-drop from text) }
-
-  module _ (e : is_symbol (get_or text from 0) ≡ true) where
-    pub symbol-pair : (k : ℕ) → from + 1 < length text → k ≡ number_or 0 (pairs (get_or text from 0) (get_or text (from + 1) 0)) → (k ≡ 0 → ⊥)
-        → AnswerIs symbol_at length text from (Sign k (record { at = from + 1 + 1 }))
-    symbol-pair k l f z =
-        record {
-          same = rw (at_byte text from h, at_byte text (from + 1) l, e) (sym (paired (pairs (get_or text from 0) (get_or text (from + 1) 0)) _ _ k _ f z));
-          inside = (omega arith, omega arith);
-          stopped = tt;
-        }
-
-    pub symbol-one : (k : ℕ) → from + 1 < length text → k ≡ number_or 0 (pairs (get_or text from 0) (get_or text (from + 1) 0)) → k ≡ 0
-        → AnswerIs symbol_at length text from (Sign (get_or text from 0) (record { at = from + 1 }))
-    symbol-one k l f z =
-        let a = get_or text from 0 in
-        let b = get_or text (from + 1) 0 in
-        record {
-          same = rw (at_byte text from h, at_byte text (from + 1) l, e) (sym (alone (eqb a 60 && eqb b 61) (eqb a 62 && eqb b 61) (eqb a 60 && eqb b 62) a b k _ f z));
-          inside = (omega arith, omega arith);
-          stopped = tt;
-        }
-
-    pub symbol-last : length text ≤ from + 1 → AnswerIs symbol_at length text from (Sign (get_or text from 0) (record { at = from + 1 }))
-    symbol-last l = record { same = rw (at_byte text from h, drop_of_length-le text l, e) refl; inside = (omega arith, omega arith); stopped = tt }
 
 -- Any word, past spaces
 step-blank : (table : List (List ℕ)) (b : ℕ) (s : List ℕ) → is_space b ≡ true → step_in table (b ∷ s) ≡ step_in table s
@@ -177,6 +134,15 @@ module _ (table : List (List ℕ)) (text : List ℕ) (from i : ℕ) (e : i ≡ r
   module _ (h : i < length text) where
     stops : is_space (get_or text i 0) ≡ false
     stops = sym (ap (starts is_space) (rest_at is_space text from i e ∙ at_byte text i h)) ∙ (parted is_space (drop from text)).stops
+
+    -- a word that was read at i
+    pub found-there : (r : Word) → WordIs table text i r → WordIs table text from r
+    found-there r w =
+        record {
+          same = w.same ∙ sym at-word;
+          inside = earlier (length text) from i (omega arith) r w.inside;
+          stopped = asked (gave_up table) (gave_up table) text from i at_left r w.stopped;
+        }
 
     -- a word that was read at i or behind it, as the step that the first byte calls for
     found : (step : List ℕ → FrontWord) (left : List ℕ → ℕ) (j : ℕ) (r : Word)

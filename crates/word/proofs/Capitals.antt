@@ -1,12 +1,13 @@
 -- The word at a capital: the longest keyword that begins there, tried from its most letters down, or a letter. Assumes nothing.
+use Rattle.std.specs.Prelude.{Some, None, position, ◌==◌}
 use Prim.Native.Nat.{ℕ, zero, suc, ◌+◌, ◌-◌, ◌≤◌, ◌<◌}
 use mathlib.Core.Path.{◌≡◌, ◌∙◌, refl, ap, sym}
 use mathlib.Core.Bool.{Bool, true, false}
 use mathlib.Core.List.{List, [], ◌∷◌}
 use native.Mathlib.Omega.{arith}
-use borrow.Author.Tests.{eq-eqb, ne_eqb}
+use borrow.Author.Tests.{ne_eqb}
 use lib.ListN.{length, take, drop, get_or, length-drop}
-use lib.Seq.{slice, drop-drop, take_all}
+use lib.Seq.{drop-drop, take_all}
 use Rattle.nibl.specs.Bytes.{is_capital, starts, front, all}
 use Rattle.nibl.specs.Words.{index_in}
 use Rattle.nibl.specs.found.Read.{sign_or, letter_step, letters_step}
@@ -16,7 +17,7 @@ use Rattle.nibl.proofs.GaveUp.{most-short}
 use Rattle.word.specs.declared.Word.TheVariants.{Variable, Sign, Wrong}
 use Rattle.word.specs.Found.{AnswerIs, spellings_of, keys_of, key_of, key_index, letters_at, letters_left}
 use Rattle.word.proofs.Runs.{and_left, and_right, at_byte, between, parted, slice_front, run-cons, end-within}
-use Rattle.word.proofs.Keys.{table-short, sign_by, index_key, none_over_lem}
+use Rattle.word.proofs.Keys.{key_there, no_key, table-short, sign_by, index_key, none_over_lem}
 
 -- Of the longest run at the front of s, within its first m bytes
 record Few (p : ℕ → Bool) (m : ℕ) (s : List ℕ) : Type 0 where
@@ -107,29 +108,34 @@ module _ (b : Bool) (text : List ℕ) (from : ℕ) (h : from < length text) (c :
       }
 
   -- the keywords that end at `to`, by the number of their key
-  module _ {to : ℕ} (t : Tried (spellings_of b) text from to) (m : 1 < to - from) {q k : ℕ} (f : q ≡ key_of (slice from to text)) (g : k ≡ key_index 128 (keys_of b) q) where
-    named : letters_at (spellings_of b) (drop from text) ≡ sign_by k (drop to text) (letters_step (spellings_of b) (to - 1 - from) (drop from text))
-    named =
+  module _ {to : ℕ} (t : Tried (spellings_of b) text from to) (m : 1 < to - from) {q : ℕ} (f : q ≡ key_of (take (to - from) (drop from text))) where
+    named : (k : ℕ) → key_index 128 (keys_of b) q ≡ k
+        → letters_at (spellings_of b) (drop from text) ≡ sign_by k (drop to text) (letters_step (spellings_of b) (to - 1 - from) (drop from text))
+    named k g =
         let here = drop from text in
         let n = to - 1 - from in
         let next : from + suc n ≡ to = omega (arith, t.some) in
         let left : suc n ≡ to - from = omega arith in
-        let word : take (suc n) here ≡ slice from to text = sym (slice_front from (suc n) text) ∙ ap (λ (x : ℕ). slice from x text) next in
         let rest : drop (suc n) here ≡ drop to text = drop-drop (suc n) from text ∙ ap (λ (x : ℕ). drop x text) next in
         let letters : all is_capital (take (suc n) here) ≡ true =
         rw (take-run is_capital (suc n) here (omega (arith, t.run))) (all_take is_capital (suc n) (front is_capital here) (parted is_capital here).each) in
-        let number : key_index 128 (keys_of b) (key_of (take (suc n) here)) ≡ k = rw (word, ← f) (sym g) in
+        let number : key_index 128 (keys_of b) (key_of (take (suc n) here)) ≡ k = rw (left, ← f) g in
         t.same ∙ ap (λ (x : ℕ). letters_step (spellings_of b) x here) (sym left) ∙ letters-try (spellings_of b) here n (omega arith)
         ∙ index_key (take (suc n) here) (drop (suc n) here) (letters_step (spellings_of b) n here) letters 128 (spellings_of b) (omega arith) (table-short b)
         ∙ rw (number, rest) refl
 
-    pub tried-on : k ≡ 0 → Tried (spellings_of b) text from (to - 1)
-    tried-on z = record { some = omega arith; run = omega (arith, t.run); most = omega (arith, t.most); same = named ∙ rw (eq-eqb k 0 z) refl }
+    pub tried-on : None ≡ position (λ x. x == q) (keys_of b) → Tried (spellings_of b) text from (to - 1)
+    tried-on z = record { some = omega arith; run = omega (arith, t.run); most = omega (arith, t.most); same = named 0 (no_key 128 (keys_of b) q z) }
 
-    pub letters-sign : (k ≡ 0 → ⊥) → AnswerIs (letters_at (spellings_of b)) (letters_left (spellings_of b)) text from (Sign k (record { at = to }))
-    letters-sign z =
+    pub letters-sign : (i : ℕ) → Some i ≡ position (λ x. x == q) (keys_of b)
+        → AnswerIs (letters_at (spellings_of b)) (letters_left (spellings_of b)) text from (Sign (128 + i) (record { at = to }))
+    letters-sign i z =
         let high = end-within is_capital text from (omega arith) in
-        record { same = sym (named ∙ rw (ne_eqb k 0 z) refl); inside = (t.some, omega (arith, t.run)); stopped = tt }
+        record {
+          same = sym (named (128 + i) (key_there 128 (keys_of b) q i z).0 ∙ rw (ne_eqb (128 + i) 0 (λ e. omega arith)) refl);
+          inside = (t.some, omega (arith, t.run));
+          stopped = tt;
+        }
 
 -- where the letters that are looked at end
 pub end-near : (text : List ℕ) (from : ℕ) {end : ℕ} → length text - from ≤ 6 → end ≡ from + size text from

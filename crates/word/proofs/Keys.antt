@@ -1,15 +1,15 @@
 -- A spelling as one number: how it is made, that it tells spellings apart, and where it stands in a list. Assumes nothing.
-use Rattle.std.specs.Prelude.{if◌then◌else◌}
+use Rattle.std.specs.Prelude.{if◌then◌else◌, cond, Some, None, position, nat_lt, ◌==◌}
+use Rattle.std.specs.List.{position_or_len}
 use Prim.Native.Nat.{ℕ, suc, ◌+◌, ◌-◌, ◌*◌, ◌^◌, ◌≤◌, ◌<◌}
-use mathlib.Core.Path.{◌≡◌, refl, ap}
+use mathlib.Core.Path.{◌≡◌, ◌∙◌, refl, ap}
 use mathlib.Core.Bool.{Bool, true, false, not, ◌&&◌, ◌||◌}
 use mathlib.Core.List.{List, [], ◌∷◌, map}
 use native.Mathlib.Nat.{pow-le-pow_right}
 use native.Mathlib.Omega.{arith}
 use borrow.Author.Tests.{eqb-true, eqb-false, eq-eqb, ne_eqb, leb-true, le-leb}
 use lib.Dec.{eqb, leb}
-use lib.ListN.{length, drop, get_or, drop_of_length-le}
-use lib.Seq.{slice, slice_empty, slice-cons}
+use lib.ListN.{length, drop, get_or}
 use Rattle.nibl.specs.Bytes.{same, is_capital, all}
 use Rattle.nibl.specs.found.Read.{FrontWord, got, sign_or}
 use Rattle.nibl.specs.Words.{sign, index_from, begins, none_over}
@@ -18,18 +18,9 @@ use Rattle.nibl.proofs.Words.{or-true}
 use Rattle.word.specs.Found.{key_of, key_index, spellings_of}
 use Rattle.word.proofs.Runs.{and_left, and_right, between, at_byte}
 
-pub key-none : (t : ℕ) (text : List ℕ) → 0 ≡ key_of (slice t t text)
-key-none t text = rw slice_empty refl
-
 -- one letter more, in front
-pub key_more : (text : List ℕ) (i to k b : ℕ) → 0 < i → i ≤ to → to ≤ length text → b ≡ get_or text (i - 1) 0 → k ≡ key_of (slice i to text)
-    → k * 256 + b ≡ key_of (slice (i - 1) to text)
-key_more text i to k b z h l e f =
-    let s : suc (i - 1) ≡ i = omega arith in
-    omega (arith, ap key_of (slice-cons (i - 1) to text 0 (omega arith) l), ap (λ (n : ℕ). key_of (slice n to text)) s)
-
-pub key-zero : (n : ℕ) → 0 < 256 ^ n
-key-zero n = pow-le-pow_right {n = 256} (omega arith) {i = 0} {j = n} (omega arith)
+pub key_more : (text : List ℕ) (i k : ℕ) → i < length text → k ≡ key_of (drop (i + 1) text) → k * 256 + get_or text i 0 ≡ key_of (drop i text)
+key_more text i k h e = omega (arith, ap key_of (at_byte text i h))
 
 pub key_fits : (n k : ℕ) → k < 256 ^ n → n ≤ 5 → k < 1099511627776
 key_fits n k h l = let g : 256 ^ n ≤ 256 ^ 5 = pow-le-pow_right (omega arith) l in omega arith
@@ -37,17 +28,33 @@ key_fits n k h l = let g : 256 ^ n ≤ 256 ^ 5 = pow-le-pow_right (omega arith) 
 pub key-grows : (i to k b : ℕ) → 0 < i → i ≤ to → b < 256 → k < 256 ^ (to - i) → k * 256 + b < 256 ^ (to - (i - 1))
 key-grows i to k b z h l f = let e : to - (i - 1) ≡ suc (to - i) = omega arith in rw e (omega arith)
 
--- Along a list of keys
-pub seat-hit : (keys : List ℕ) (n i k : ℕ) → i < length keys → get_or keys i 0 ≡ k → key_index n (drop i keys) k ≡ n
-seat-hit keys n i k h e = rw (at_byte keys i h, eq-eqb (get_or keys i 0) k e) refl
+-- Where a key stands in a list of them, in the library's words
+abbrev seat : List ℕ → ℕ → ℕ
+seat keys k = position_or_len (λ x. x == k) keys
 
-pub seat-miss : (keys : List ℕ) (n i k : ℕ) → i < length keys → (get_or keys i 0 ≡ k → ⊥) → key_index (n + i) (drop i keys) k ≡ key_index (n + (i + 1)) (drop (i + 1) keys) k
-seat-miss keys n i k h e =
-    let s : n + (i + 1) ≡ suc (n + i) = omega arith in
-    rw (at_byte keys i h, s, ne_eqb (get_or keys i 0) k e) refl
+index_is : (n : ℕ) (keys : List ℕ) (k : ℕ) → key_index n keys k ≡ cond (nat_lt (seat keys k) (length keys)) (n + seat keys k) 0
+index_is n [] k = refl
+index_is n (x ∷ keys) k = go (eqb x k) (index_is (suc n) keys k)
+  where
+    go : (b : Bool) → key_index (suc n) keys k ≡ cond (nat_lt (seat keys k) (length keys)) (suc n + seat keys k) 0
+        → (if b then n else key_index (suc n) keys k) ≡ cond (nat_lt (cond (not b) (1 + seat keys k) 0) (suc (length keys))) (n + cond (not b) (1 + seat keys k) 0) 0
+    go true h = grind (arith, h)
+    go false h = grind (arith, h)
 
-pub seat-none : (keys : List ℕ) (n i k : ℕ) → length keys ≤ i → key_index n (drop i keys) k ≡ 0
-seat-none keys n i k h = rw (drop_of_length-le keys h) refl
+module _ (n : ℕ) (keys : List ℕ) (k : ℕ) where
+  pub key_there : (i : ℕ) → Some i ≡ position (λ x. x == k) keys → (key_index n keys k ≡ n + i) × (i < length keys)
+  key_there i e = go (nat_lt (seat keys k) (length keys)) refl e
+    where
+      go : (b : Bool) → nat_lt (seat keys k) (length keys) ≡ b → Some i ≡ cond b (Some (seat keys k)) None → (key_index n keys k ≡ n + i) × (i < length keys)
+      go true f e = let s : i ≡ seat keys k = cc in (grind (arith, index_is n keys k), grind arith)
+      go false f e = let z : ◌≡◌ {A = ℕ} 0 1 = cc in absurd (omega arith)
+
+  pub no_key : None ≡ position (λ x. x == k) keys → key_index n keys k ≡ 0
+  no_key e = go (nat_lt (seat keys k) (length keys)) refl e
+    where
+      go : (b : Bool) → nat_lt (seat keys k) (length keys) ≡ b → None ≡ cond b (Some (seat keys k)) None → key_index n keys k ≡ 0
+      go true f e = let z : ◌≡◌ {A = ℕ} 0 1 = cc in absurd (omega arith)
+      go false f e = index_is n keys k ∙ grind arith
 
 -- Two keys are equal where the spellings are
 digit-eq : (x y a b : ℕ) → x < 256 → y < 256 → (t u : Bool) → eqb x y ≡ t → eqb a b ≡ u → eqb (x + 256 * a) (y + 256 * b) ≡ t && u

@@ -4,7 +4,7 @@ use mathlib.Core.Path.{◌≡◌, ◌∙◌, refl, ap, sym}
 use mathlib.Core.Bool.{Bool, true, false, ◌&&◌, ◌||◌, false≢true}
 use mathlib.Core.List.{List, [], ◌∷◌}
 use native.Mathlib.Omega.{arith}
-use borrow.Author.Tests.{le-leb, lt-leb, eq-eqb, ne_eqb}
+use borrow.Author.Tests.{le-leb, lt-leb}
 use lib.Dec.{leb}
 use lib.ListN.{length, drop, get_or, length-drop}
 use Rattle.nibl.specs.Bytes.{is_digit, is_hex_digit, starts, front, past, decimal_value, hex_value}
@@ -12,22 +12,8 @@ use Rattle.nibl.specs.Words.{hex}
 use Rattle.nibl.specs.found.Read.{got, hex_step}
 use Rattle.nibl.specs.found.GaveUp.{past_largest}
 use Rattle.word.specs.declared.Word.TheVariants.{Decimal, Hex, Wrong}
-use Rattle.word.specs.Found.{hex_digit, decimal_at, decimal_left, decimal_word, hex_at, hex_word, AnswerIs}
+use Rattle.word.specs.Found.{hex_digit, decimal_at, decimal_left, hex_at, AnswerIs}
 use Rattle.word.proofs.Runs.{at_byte, between, run_end, run-cons, front-stop, end-go, end-stop, end-past, rest-stop}
-
--- the word that digits are, by their value
-pub word_small : (v at : ℕ) → v ≤ 32767 → decimal_word v at ≡ Decimal v (record { at = at })
-word_small v at h = rw (le-leb v 32767 h) refl
-
-pub word-large : (v at : ℕ) → 32767 < v → decimal_word v at ≡ Wrong (record { at = at })
-word-large v at h = rw (lt-leb v 32767 h) refl
-
--- and hex digits, by where they end
-pub word_none : (from v at : ℕ) → at ≡ from → hex_word from v at ≡ Wrong (record { at = at })
-word_none from v at e = rw (eq-eqb at from e) refl
-
-pub word_some : (from v at : ℕ) → (at ≡ from → ⊥) → hex_word from v at ≡ Hex v (record { at = at })
-word_some from v at n = rw (ne_eqb at from n) refl
 
 -- v is the value of the digits from `from` up to i, none of which passes the largest
 pub record Counted (text : List ℕ) (from v i : ℕ) : Type 0 where

@@ -1,11 +1,11 @@
 -- Where spellings, as numbers, part from a text. Assumes nothing.
 use Rattle.std.specs.Prelude.{if◌then◌else◌}
-use Prim.Native.Nat.{ℕ, suc, ◌+◌, ◌-◌, ◌*◌, ◌/◌, ◌%◌, ◌≤◌, ◌<◌}
-use mathlib.Core.Path.{◌≡◌, refl, ap, ◌∙◌}
-use mathlib.Core.Bool.{Bool, true, ◌&&◌}
+use Prim.Native.Nat.{ℕ, suc, ◌+◌, ◌*◌, ◌/◌, ◌%◌, ◌≤◌, ◌<◌}
+use mathlib.Core.Path.{◌≡◌, refl, ap}
+use mathlib.Core.Bool.{Bool, true, false, ◌&&◌}
 use mathlib.Core.List.{List, [], ◌∷◌, map}
 use native.Mathlib.Omega.{arith}
-use borrow.Author.Tests.{eq-eqb, ne_eqb, le-leb, lt-leb}
+use borrow.Author.Tests.{eq-eqb, ne_eqb, leb-false}
 use lib.Dec.{eqb, leb}
 use lib.ListN.{length, drop, get_or, drop_of_length-le}
 use Rattle.nibl.specs.Bytes.{is_capital, all}
@@ -30,18 +30,14 @@ module _ (text : List ℕ) (k i : ℕ) where
       pub part-go : k % 256 ≡ get_or text i 0 → i + 1 + key_common (k / 256) (drop (i + 1) text) ≡ i + key_common k (drop i text)
       part-go e = rw (at_byte text i h, ne_eqb k 0 n, eq-eqb (k % 256) (get_or text i 0) e) (omega arith)
 
--- Along a list of keys, from its end on
-key-next : (keys : List ℕ) (i : ℕ) → 0 < i → i ≤ length keys → drop (i - 1) keys ≡ get_or keys (i - 1) 0 ∷ drop i keys
-key-next keys i z h =
-    let e : i - 1 + 1 ≡ i = omega arith in at_byte keys (i - 1) (omega arith) ∙ ap (λ (n : ℕ). get_or keys (i - 1) 0 ∷ drop n keys) e
-
-module _ (keys s : List ℕ) (from i : ℕ) (z : 0 < i) (h : i ≤ length keys) {last end : ℕ} (l : last ≡ from + most_key (drop i keys) s)
-    (e : end ≡ from + key_common (get_or keys (i - 1) 0) s) where
-  pub last_more : last < end → end ≡ from + most_key (drop (i - 1) keys) s
-  last_more g = rw (key-next keys i z h, lt-leb (key_common (get_or keys (i - 1) 0) s) (most_key (drop i keys) s) (omega arith)) e
-
-  pub last-same : end ≤ last → last ≡ from + most_key (drop (i - 1) keys) s
-  last-same g = rw (key-next keys i z h, le-leb (key_common (get_or keys (i - 1) 0) s) (most_key (drop i keys) s) (omega arith)) l
+-- one at least
+pub most_one : (ks s : List ℕ) → 1 ≤ most_key ks s
+most_one [] s = omega arith
+most_one (k ∷ ks) s = go (leb (key_common k s) (most_key ks s)) refl (most_one ks s)
+  where
+    go : (t : Bool) → leb (key_common k s) (most_key ks s) ≡ t → 1 ≤ most_key ks s → 1 ≤ (if t then most_key ks s else key_common k s)
+    go true e h = h
+    go false e h = omega (arith, leb-false (key_common k s) (most_key ks s) e)
 
 -- A spelling's number has in common with a text what the spelling has
 key-common : (w s : List ℕ) → all is_capital w ≡ true → key_common (key_of w) s ≡ common w s

@@ -1,5 +1,5 @@
 -- The sign whose spelling stands at the front of a text, and the spelling of the sign that stands there. Assumes nothing.
-use Rattle.std.specs.Prelude.{if◌then◌else◌}
+use Rattle.std.specs.Prelude.{if◌then◌else◌, Some, None}
 use Prim.Native.Nat.{ℕ, zero, suc, ◌+◌, ◌-◌, ◌≤◌, ◌<◌}
 use mathlib.Core.Path.{◌≡◌, ◌∙◌, refl, ap, sym, subst}
 use mathlib.Core.Bool.{Bool, true, false, not, ◌||◌, false≢true}
@@ -172,12 +172,12 @@ module _ (text : List ℕ) (from i b : ℕ) (e : i ≡ run_end is_space text fro
   pub symbol-inside : get_or text i 0 ≡ b → i < length text
   symbol-inside f = byte_inside text i (λ z. symbol-some b (lone-symbol b h) (sym f ∙ z))
 
-  pub past-there : get_or text i 0 ≡ b → PastIs b text from (i + 1)
+  pub past-there : get_or text i 0 ≡ b → PastIs b text from (Some (i + 1))
   past-there f =
       let k = symbol-inside f in
       let here : begins (b ∷ []) (drop i text) ≡ true = stands_on (b ∷ []) text 0 i (omega arith) k f in
       let r = sign_at text from i e (b ∷ []) b (omega arith) here (symbol-there b (drop i text) (lone-symbol b h) (lone-pairs b (drop 1 (drop i text)) h) here) in
       there r.word r.on r.within
 
-  pub past-other : (get_or text i 0 ≡ b → ⊥) → PastIs b text from 0
+  pub past-other : (get_or text i 0 ≡ b → ⊥) → PastIs b text from None
   past-other n = not_there (sign-not text from i e b (ap (λ w. begins w (drop i text)) (spelt-symbol b (lone-symbol b h)) ∙ byte-not text i b n))

@@ -1,7 +1,8 @@
 -- What the contracts of the word reader say, beyond the definition of words.
-use Rattle.std.specs.Prelude.{ℕ, zero, suc, ◌+◌, ◌-◌, ◌*◌, ◌/◌, ◌%◌, ◌≤◌, ◌<◌, ◌≡◌, Bool, true, false, not, ◌&&◌, ◌||◌, List, [], ◌∷◌, map, eqb, leb, length, take, drop, if◌then◌else◌}
+use Rattle.std.specs.Prelude.{ℕ, zero, suc, ◌+◌, ◌-◌, ◌*◌, ◌/◌, ◌%◌, ◌≤◌, ◌<◌, ◌≡◌, Bool, true, false, not, ◌&&◌, ◌||◌, List, [], ◌∷◌, map, eqb, leb, length, take, drop, if◌then◌else◌, Option, None, Some, Result, Ok, Err}
+use Rattle.std.proofs.Math.Option as math
 use Rattle.std.proofs.Math.Seq.{slice}
-use Rattle.nibl.specs.Bytes.{class_space, class_capital, is_space, is_digit, is_capital, is_hex_digit, is_quotable, front, past, decimal_value, byte, bytes}
+use Rattle.nibl.specs.Bytes.{is_digit, is_capital, is_hex_digit, is_quotable, front, past, decimal_value, byte, bytes}
 use Rattle.nibl.specs.Words.{variable, decimal, hex, string, sign, keywords, commands, is_symbol, first_keyword, number}
 use Rattle.nibl.specs.found.Read.{FrontWord, at_end, wrong, got, letters_step, digits_step, hex_step, quoted_step, symbol_step, step_in}
 use Rattle.nibl.specs.found.GaveUp.{most_common, past_largest, gave_up}
@@ -52,13 +53,14 @@ pub record AnswerIs (step : List ℕ → FrontWord) (left : List ℕ → ℕ) (t
 abbrev pub WordIs : List (List ℕ) → List ℕ → ℕ → Word → Type 0
 WordIs table = AnswerIs (step_in table) (gave_up table)
 
--- what the runs consist of, by a class: spaces, capitals, or else what quotes may enclose
-abbrev pub passing : ℕ → ℕ → Bool
-passing kind b = if eqb kind class_space then is_space b else if eqb kind class_capital then is_capital b else is_quotable b
-
 -- the most letters that a keyword has
 abbrev pub longest_keyword : ℕ
 longest_keyword = 6
+
+-- what may be, as the code has it
+abbrev pub perhaps : {A : Type 0} → math.Option A → Option A
+perhaps math.none = None
+perhaps (math.some x) = Some x
 
 -- a spelling as one number, the first letter lowest
 abbrev pub key_of : List ℕ → ℕ
@@ -119,13 +121,15 @@ decimal_at s = digits_step (decimal_value 0 (front is_digit s)) (past is_digit s
 abbrev pub decimal_left : List ℕ → ℕ
 decimal_left s = length (past_largest 0 s)
 
--- the word that digits of the value v are, read up to a position: none where that is too large; and of hex digits from `from` on, none
--- where there are none
-abbrev pub decimal_word : ℕ → ℕ → Word
-decimal_word v at = if leb v largest then Decimal v (record { at = at }) else Wrong (record { at = at })
+-- the word that digits are, by their value and the position that they were read up to, or by that alone where the value is too large;
+-- and hex digits from `from` on, if there are any
+abbrev pub decimal_word : Result (ℕ × ℕ) ℕ → Word
+decimal_word (Ok (v, at)) = Decimal v (record { at = at })
+decimal_word (Err at) = Wrong (record { at = at })
 
-abbrev pub hex_word : ℕ → ℕ → ℕ → Word
-hex_word from v at = if eqb at from then Wrong (record { at = at }) else Hex v (record { at = at })
+abbrev pub hex_word : ℕ → Option (ℕ × ℕ) → Word
+hex_word from (Some (v, at)) = Hex v (record { at = at })
+hex_word from None = Wrong (record { at = from })
 
 -- past the "#", and past the opening quote
 abbrev pub hex_at : List ℕ → FrontWord
@@ -164,7 +168,7 @@ spelt k =
 abbrev pub is_lone : ℕ → Bool
 is_lone b = is_symbol b && not (eqb b (byte "<") || eqb b (byte ">"))
 
--- the position past the sign k where it stands next, or 0
-pub data PastIs (k : ℕ) (text : List ℕ) (from : ℕ) : ℕ → Type 0 where
-  there : {r : ℕ} → step_in keywords (drop from text) ≡ got (sign k) (drop r text) → from < r → r ≤ length text → PastIs k text from r
-  not_there : ((t : List ℕ) → step_in keywords (drop from text) ≡ got (sign k) t → ⊥) → PastIs k text from 0
+-- the position past the sign k where it stands next
+pub data PastIs (k : ℕ) (text : List ℕ) (from : ℕ) : Option ℕ → Type 0 where
+  there : {r : ℕ} → step_in keywords (drop from text) ≡ got (sign k) (drop r text) → from < r → r ≤ length text → PastIs k text from (Some r)
+  not_there : ((t : List ℕ) → step_in keywords (drop from text) ≡ got (sign k) t → ⊥) → PastIs k text from None

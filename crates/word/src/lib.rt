@@ -1,13 +1,13 @@
 // The word that stands at a cursor of a text: always the longest that fits.
 #![tactic(auto)]
 
-ghost use Rattle.std.specs.Prelude.{◌+◌, ◌-◌, ◌*◌, ◌%◌, ◌≤◌, ◌<◌, ◌≡◌, true, not, ◌&&◌, length, take, drop, get_or};
+ghost use Rattle.std.specs.Prelude.{ℕ, Bool, ◌+◌, ◌-◌, ◌*◌, ◌%◌, ◌≤◌, ◌<◌, ◌≡◌, true, false, not, ◌&&◌, ◌==◌, length, position, take, drop, get_or};
 ghost use Rattle.std.proofs.Math.Seq.{slice};
 ghost use Rattle.std.proofs.lemmas.List.Edits.{sets};
 ghost use Rattle.nibl.specs.Bytes.{is_digit, is_capital, is_hex_digit, is_space, is_quotable, starts, front, past, all};
-ghost use Rattle.nibl.specs.Words.{keywords, commands, is_symbol, pairs, number_or, first_keyword, begins};
+ghost use Rattle.nibl.specs.Words.{keywords, commands, is_symbol, pairs, begins};
 ghost use Rattle.nibl.specs.found.GaveUp.{most_common};
-ghost use Rattle.word.specs.Found.{passing, key_of, spelled_key, longest_keyword, key_index, key_common, most_key, spellings_of, keys_of, hex_digit, first_of, may_command, is_lone, PastIs};
+ghost use Rattle.word.specs.Found.{perhaps, key_of, spelled_key, longest_keyword, key_common, most_key, spellings_of, keys_of, hex_digit, first_of, may_command, is_lone, PastIs};
 ghost use Rattle.word.specs.Found.{AnswerIs, WordIs, letters_at, letters_left, decimal_at, decimal_left, decimal_word, hex_at, hex_word, quoted_at, quoted_left, symbol_at};
 
 use letter::class;
@@ -97,73 +97,34 @@ const COMMAND_FRONTS: [u64; 4] = [NEW % FRONTS, CLEAR % FRONTS, LIST % FRONTS, R
 fn is_symbol(b: u8) -> bool
     ensures { result ≡ is_symbol b }
 {
-    if b < sign::OPEN {
-        return b == sign::DOLLAR;
-    }
-    if b <= sign::MINUS {
-        return true;
-    }
-    if b < sign::COLON {
-        return b == sign::DIVIDE;
-    }
-    if b <= sign::GREATER {
-        return true;
-    }
-    b == sign::AT
+    // The ranges by themselves and first: most symbols lie in them, and one pattern of all would ask for the others first.
+    matches!(b, sign::OPEN..=sign::MINUS | sign::COLON..=sign::GREATER)
+        || matches!(b, sign::DOLLAR | sign::DIVIDE | sign::AT)
 }
 
-// Whether a byte goes on with a run of a kind: of spaces, of capitals, or else (by the class of a quote) of what
-// quotes may enclose.
-fn passes(kind: u8, b: u8) -> bool
-    ensures { result ≡ passing kind b }
+// Where the longest run from `from` on of bytes that pass ends.
+fn run_end<F: Fn(u8) -> bool>(text: &[u8], from: usize, passes: F) -> usize
+    requires { F.IsAlwaysCallable passes }
+    ensures { (p : ℕ → Bool) → ((b : ℕ) (r : Bool) → b < 256 → F.post passes b r → r ≡ p b) → result ≡ from + length (front p (drop from text.now)) }
 {
-    if kind == class::SPACE {
-        return letter::is_space(b);
-    }
-    if kind == class::CAPITAL {
-        return letter::is_capital(b);
-    }
-    letter::is_quotable(b)
-}
-
-// Where the longest run from `from` on ends.
-fn run_end(text: &[u8], from: usize, kind: u8) -> usize
-    ensures { result ≡ from + length (front (passing kind) (drop from text.now)) }
-{
-    let mut i = from;
-    while i < text.len() {
-        if !passes(kind, text[i]) {
-            break;
+    for i in from..text.len() {
+        if !passes(text[i]) {
+            return i;
         }
-        i += 1;
     }
-    i
-}
-
-fn wide(b: u8) -> u64
-    ensures { result ≡ b }
-{
-    b as u64
+    text.len().max(from)
 }
 
 // A spelling of at most 6 letters as one number, the way the lists have it.
-fn key(text: &[u8], from: usize, to: usize) -> u64
-    requires { (from ≤ to) × (to ≤ length text.now) × (to ≤ from + longest_keyword) }
-    ensures { result ≡ key_of (slice from to text.now) }
+fn key(letters: &[u8]) -> u64
+    requires { length letters.now ≤ longest_keyword }
+    ensures { result ≡ key_of letters.now }
 {
     let mut k: u64 = 0;
-    let mut i = to;
-    while from < i {
-        i -= 1;
-        k = k * 256 + wide(text[i]);
+    for i in (0..letters.len()).rev() {
+        k = k * 256 + u64::from(letters[i]);
     }
     k
-}
-
-fn lowest(k: u64) -> u8
-    ensures { result ≡ k % 256 }
-{
-    (k % 256) as u8
 }
 
 // The other way: the letters of a key at the front of a room, as many as there is room for, and how many they are.
@@ -172,36 +133,26 @@ pub fn spell(k: u64, room: &mut [u8]) -> usize
     ensures room { room.new ≡ sets room.old 0 (spelled_key (length room.old) k) }
 {
     let mut rest = k;
-    let mut n = 0;
-    while n < room.len() {
+    for (n, slot) in room.iter_mut().enumerate() {
         if rest == 0 {
-            break;
+            return n;
         }
-        room[n] = lowest(rest);
-        rest = rest / 256;
-        n += 1;
+        *slot = (rest % 256) as u8;
+        rest /= 256;
     }
-    n
+    room.len()
 }
 
-// The number of the key in a list of them: KEYWORD and its index; 0 where it is not there.
-fn index_of(keys: &[u64], k: u64) -> u8
-    requires { length keys.now ≤ 127 }
-    ensures { result ≡ key_index first_keyword keys.now k }
+// The index of a key in a list of them.
+fn index_of(keys: &[u64], k: u64) -> Option<usize>
+    ensures { result ≡ position (λ x. x == k) keys.now }
 {
-    let mut i = 0;
-    while i < keys.len() {
-        if keys[i] == k {
-            return sign::KEYWORD + i as u8;
-        }
-        i += 1;
-    }
-    0
+    keys.iter().position(|x| *x == k)
 }
 
-// The number of a keyword, or of a command at the front of an immediate line; 0 for any other key.
-fn number_of(k: u64, commands: bool) -> u8
-    ensures { result ≡ key_index first_keyword (keys_of commands) k }
+// That of a keyword, or of a command at the front of an immediate line.
+fn keyword_of(k: u64, commands: bool) -> Option<usize>
+    ensures { result ≡ position (λ x. x == k) (keys_of commands) }
 {
     if commands {
         index_of(&COMMANDS, k)
@@ -217,55 +168,41 @@ fn letters_end(text: &[u8], from: usize) -> usize
     ensures { result ≡ from + length (front is_capital (take longest_keyword (drop from text.now))) }
 {
     if text.len() - from <= LONGEST_KEYWORD {
-        return run_end(text, from, class::CAPITAL);
+        return run_end(text, from, letter::is_capital);
     }
-    run_end(&text[..from + LONGEST_KEYWORD], from, class::CAPITAL)
+    run_end(&text[..from + LONGEST_KEYWORD], from, letter::is_capital)
 }
 
 // Whether a letter stands at a position.
 fn letter_at(text: &[u8], at: usize) -> bool
     ensures { result ≡ starts is_capital (drop at text.now) }
 {
-    if at < text.len() {
-        return letter::is_capital(text[at]);
-    }
-    false
+    text.get(at).is_some_and(|b| letter::is_capital(*b))
 }
 
-// Where a spelling, as one number, and a text from `from` on part.
-fn common_end(spelling: u64, text: &[u8], from: usize) -> usize
-    ensures { result ≡ from + key_common spelling (drop from text.now) }
+// How many letters a spelling, as one number, has in common with a text.
+fn common(spelling: u64, text: &[u8]) -> usize
+    ensures { result ≡ key_common spelling text.now }
 {
     let mut k = spelling;
-    let mut i = from;
-    while i < text.len() {
-        if k == 0 {
-            break;
+    for (i, b) in text.iter().enumerate() {
+        if k == 0 || k % 256 != u64::from(*b) {
+            return i;
         }
-        if k % 256 != wide(text[i]) {
-            break;
-        }
-        k = k / 256;
-        i += 1;
+        k /= 256;
     }
-    i
+    text.len()
 }
 
-// Where the last of a list of keys and the text part, but one letter on at least: a letter may always be a variable.
-fn last_parting(keys: &[u64], text: &[u8], from: usize) -> usize
-    requires { from < length text.now }
-    ensures { result ≡ from + most_key keys.now (drop from text.now) }
+// The most letters that a key of a list has in common with a text, but one at least: a letter may always be a variable.
+fn most_common(keys: &[u64], text: &[u8]) -> usize
+    ensures { result ≡ most_key keys.now text.now }
 {
-    let mut last = from + 1;
-    let mut i = keys.len();
-    while 0 < i {
-        i -= 1;
-        let end = common_end(keys[i], text, from);
-        if last < end {
-            last = end;
-        }
+    let mut most = 1;
+    for k in keys {
+        most = most.max(common(*k, text));
     }
-    last
+    most
 }
 
 // The letter at which the last keyword parts from the letters at `from`. It is asked for only where no word stands.
@@ -274,9 +211,9 @@ fn parting(text: &[u8], from: usize, commands: bool) -> usize
     ensures { result ≡ from + most_common (spellings_of commands) (drop from text.now) }
 {
     if commands {
-        last_parting(&COMMANDS, text, from)
+        from + most_common(&COMMANDS, &text[from..])
     } else {
-        last_parting(&KEYWORDS, text, from)
+        from + most_common(&KEYWORDS, &text[from..])
     }
 }
 
@@ -290,13 +227,10 @@ fn letters(text: &[u8], from: usize, commands: bool) -> Word
     if !letter_at(text, next) {
         return Word::Variable(text[from] - letter::A, Cursor { at: next });
     }
-    let mut to = letters_end(text, from);
-    while 1 < to - from {
-        let k = number_of(key(text, from, to), commands);
-        if k != 0 {
-            return Word::Sign(k, Cursor { at: to });
+    for to in (from + 2..=letters_end(text, from)).rev() {
+        if let Some(i) = keyword_of(key(&text[from..to]), commands) {
+            return Word::Sign(sign::KEYWORD + i as u8, Cursor { at: to });
         }
-        to -= 1;
     }
     Word::Wrong(Cursor {
         at: parting(text, from, commands),
@@ -307,31 +241,27 @@ fn digit(b: u8) -> u32
     requires { is_digit b ≡ true }
     ensures { (result ≡ b - 48) × (result ≤ 9) }
 {
-    (b - nibl::ZERO) as u32
+    u32::from(b - nibl::ZERO)
 }
 
-// The value of the digits at `from`, lent, and the position past them. Once it is too large, more digits keep it so: no word goes on
-// past the digit that passes, which is the position then.
-pub fn decimal_at(text: &[u8], from: usize, value: &mut u32) -> usize
+// The value of the digits at `from` and the position past them. Once it is too large, more digits keep it so: no word goes on
+// past the digit that passes, whose position it is then.
+pub fn decimal_at(text: &[u8], from: usize) -> Result<(u16, usize), usize>
     requires { (from < length text.now) × (is_digit (get_or text.now from 0) ≡ true) }
-    ensures { AnswerIs decimal_at decimal_left text.now from (decimal_word value.new result) }
+    ensures { AnswerIs decimal_at decimal_left text.now from (decimal_word result) }
 {
     let mut v: u32 = 0;
-    let mut i = from;
-    while i < text.len() {
+    for i in from..text.len() {
         let b = text[i];
         if !letter::is_digit(b) {
-            break;
+            return Ok((v as u16, i));
         }
         v = v * 10 + digit(b);
         if LARGEST < v {
-            *value = v;
-            return i;
+            return Err(i);
         }
-        i += 1;
     }
-    *value = v;
-    i
+    Ok((v as u16, text.len()))
 }
 
 // The constant whose first digit stands at `from`.
@@ -339,12 +269,10 @@ fn decimal(text: &[u8], from: usize) -> Word
     requires { (from < length text.now) × (is_digit (get_or text.now from 0) ≡ true) }
     ensures { AnswerIs decimal_at decimal_left text.now from result }
 {
-    let mut v: u32 = 0;
-    let i = decimal_at(text, from, &mut v);
-    if LARGEST < v {
-        return Word::Wrong(Cursor { at: i });
+    match decimal_at(text, from) {
+        Ok((v, at)) => Word::Decimal(v, Cursor { at }),
+        Err(at) => Word::Wrong(Cursor { at }),
     }
-    Word::Decimal(v as u16, Cursor { at: i })
 }
 
 fn hex_digit(b: u8) -> u16
@@ -352,9 +280,9 @@ fn hex_digit(b: u8) -> u16
     ensures { (result ≡ hex_digit b) × (result ≤ 15) }
 {
     if letter::is_digit(b) {
-        return (b - nibl::ZERO) as u16;
+        return u16::from(b - nibl::ZERO);
     }
-    (b - letter::A + 10) as u16
+    u16::from(b - letter::A + 10)
 }
 
 // One hex digit more, in 16 bits: the top digit falls out.
@@ -365,23 +293,20 @@ fn shifted(v: u16, b: u8) -> u16
     v % 4096 * 16 + hex_digit(b)
 }
 
-// The low 16 bits of the value of the hex digits at `from`, lent, and the position past them: `from` where there are none.
-pub fn hex_at(text: &[u8], from: usize, value: &mut u16) -> usize
+// The low 16 bits of the value of the hex digits at `from` and the position past them, where there are any.
+pub fn hex_at(text: &[u8], from: usize) -> Option<(u16, usize)>
     requires { from ≤ length text.now }
-    ensures { AnswerIs hex_at length text.now from (hex_word from value.new result) }
+    ensures { AnswerIs hex_at length text.now from (hex_word from result) }
 {
     let mut v: u16 = 0;
-    let mut i = from;
-    while i < text.len() {
+    for i in from..text.len() {
         let b = text[i];
         if !letter::is_hex_digit(b) {
-            break;
+            return (i != from).then_some((v, i));
         }
         v = shifted(v, b);
-        i += 1;
     }
-    *value = v;
-    i
+    (text.len() != from).then_some((v, text.len()))
 }
 
 // The constant whose digits start at `from`, past the "#".
@@ -389,47 +314,36 @@ fn hex(text: &[u8], from: usize) -> Word
     requires { from ≤ length text.now }
     ensures { AnswerIs hex_at length text.now from result }
 {
-    let mut v: u16 = 0;
-    let i = hex_at(text, from, &mut v);
-    if i == from {
-        return Word::Wrong(Cursor { at: i });
+    match hex_at(text, from) {
+        Some((v, at)) => Word::Hex(v, Cursor { at }),
+        None => Word::Wrong(Cursor { at: from }),
     }
-    Word::Hex(v, Cursor { at: i })
 }
 
 // The string whose first byte stands at `from`, past the opening quote.
 fn quoted(text: &[u8], from: usize) -> Word
     ensures { AnswerIs quoted_at quoted_left text.now from result }
 {
-    let to = run_end(text, from, class::QUOTE);
-    if text.len() <= to {
+    let to = run_end(text, from, letter::is_quotable);
+    let Some(b) = text.get(to) else {
         return Word::Wrong(Cursor { at: text.len() });
-    }
-    if !letter::is_quote(text[to]) {
+    };
+    if !letter::is_quote(*b) {
         return Word::Wrong(Cursor { at: to });
     }
     Word::Text(from, to, Cursor { at: to + 1 })
 }
 
-// The number of <= >= <>; 0 where two bytes are none of them.
-fn pair(a: u8, b: u8) -> u8
-    ensures { result ≡ number_or 0 (pairs a b) }
+// The number of <= >= <>.
+fn pair(a: u8, b: u8) -> Option<u8>
+    ensures { result ≡ perhaps (pairs a b) }
 {
-    if a == sign::LESS {
-        if b == sign::EQUAL {
-            return sign::AT_MOST;
-        }
-        if b == sign::GREATER {
-            return sign::UNEQUAL;
-        }
-        return 0;
+    match (a, b) {
+        (sign::LESS, sign::EQUAL) => Some(sign::AT_MOST),
+        (sign::LESS, sign::GREATER) => Some(sign::UNEQUAL),
+        (sign::GREATER, sign::EQUAL) => Some(sign::AT_LEAST),
+        _ => None,
     }
-    if a == sign::GREATER {
-        if b == sign::EQUAL {
-            return sign::AT_LEAST;
-        }
-    }
-    0
 }
 
 // A pair or a symbol.
@@ -442,31 +356,17 @@ fn symbol(text: &[u8], from: usize) -> Word
     if !is_symbol(a) {
         return Word::Wrong(Cursor { at: from });
     }
-    if n < text.len() {
-        let k = pair(a, text[n]);
-        if k != 0 {
-            return Word::Sign(k, Cursor { at: n + 1 });
-        }
-        return Word::Sign(a, Cursor { at: n });
+    match pair(a, byte_at(text, n)) {
+        Some(k) => Word::Sign(k, Cursor { at: n + 1 }),
+        None => Word::Sign(a, Cursor { at: n }),
     }
-    Word::Sign(a, Cursor { at: n })
 }
 
-// The word at a cursor, past any spaces, by the keywords or by the commands. Every word is read here, so the loop over the
-// spaces answers by itself where the text ends: nothing is tested twice.
-fn word_in(text: &[u8], from: usize, commands: bool) -> Word
-    ensures { WordIs (spellings_of commands) text.now from result }
+// The word at a byte that is no space, by the keywords or by the commands.
+fn word_here(text: &[u8], i: usize, commands: bool) -> Word
+    requires { (i < length text.now) × (is_space (get_or text.now i 0) ≡ false) }
+    ensures { WordIs (spellings_of commands) text.now i result }
 {
-    let mut i = from;
-    loop {
-        if text.len() <= i {
-            return Word::End;
-        }
-        if !letter::is_space(text[i]) {
-            break;
-        }
-        i += 1;
-    }
     let b = text[i];
     match letter::class_by_range(b) {
         class::CAPITAL => letters(text, i, commands),
@@ -481,114 +381,101 @@ fn word_in(text: &[u8], from: usize, commands: bool) -> Word
     }
 }
 
+// The word at a cursor, past any spaces. Every word is read here, so the loop over the spaces answers by itself where the
+// text ends: nothing is tested twice.
+fn word_in(text: &[u8], from: usize, commands: bool) -> Word
+    ensures { WordIs (spellings_of commands) text.now from result }
+{
+    for i in from..text.len() {
+        if !letter::is_space(text[i]) {
+            return word_here(text, i, commands);
+        }
+    }
+    Word::End
+}
+
 // The word that stands at a cursor of any text.
 pub fn word_at(text: &[u8], c: Cursor) -> Word
     ensures { WordIs keywords text.now c.at result }
 {
-    let from = c.at;
-    word_in(text, from, false)
+    word_in(text, c.at, false)
 }
 
 // The word that stands at a cursor, where commands are the keywords: at the front of an immediate line.
 pub fn command_at(text: &[u8], c: Cursor) -> Word
     ensures { WordIs commands text.now c.at result }
 {
-    let from = c.at;
-    word_in(text, from, true)
+    word_in(text, c.at, true)
 }
 
 // Where the spaces from a position on end.
 pub fn space_end(text: &[u8], from: usize) -> usize
     ensures { result ≡ from + length (front is_space (drop from text.now)) }
 {
-    run_end(text, from, class::SPACE)
+    run_end(text, from, letter::is_space)
 }
 
-// The byte at a position; 0 where the text has ended.
+// The byte at a position; 0 where the text has ended. It is no Option: 0 is no byte of a text, and is tested as any byte is.
 pub fn byte_at(text: &[u8], at: usize) -> u8
     ensures { result ≡ get_or text.now at 0 }
 {
-    if at < text.len() {
-        return text[at];
-    }
-    0
+    text.get(at).copied().unwrap_or(0)
 }
 
 // Whether a spelling stands at a position.
 pub fn stands(text: &[u8], at: usize, spelling: &[u8]) -> bool
     ensures { result ≡ begins spelling.now (drop at text.now) }
 {
-    let mut i = 0;
-    while i < spelling.len() {
+    // `starts_with` of the rest was tried and is slower: where one spelling after another is asked for, the byte at a
+    // position is then not read once for all of them.
+    for (i, b) in spelling.iter().enumerate() {
         let k = at + i;
-        if text.len() <= k {
+        if text.len() <= k || text[k] != *b {
             return false;
         }
-        if text[k] != spelling[i] {
-            return false;
-        }
-        i += 1;
     }
     true
 }
 
-// Past a symbol that begins no pair, where it stands next; 0 where it does not.
-pub fn past_symbol(text: &[u8], from: usize, b: u8) -> usize
+// Past a symbol that begins no pair, where it stands next.
+pub fn past_symbol(text: &[u8], from: usize, b: u8) -> Option<usize>
     requires { is_lone b ≡ true }
     ensures { PastIs b text.now from result }
 {
     let i = space_end(text, from);
     if byte_at(text, i) == b {
-        return i + 1;
+        return Some(i + 1);
     }
-    0
+    None
 }
 
 // Whether a variable stands at a position: a letter that no letter follows.
 pub fn is_variable(text: &[u8], at: usize) -> bool
     ensures { result ≡ (starts is_capital (drop at text.now) && not (starts is_capital (drop (at + 1) text.now))) }
 {
-    if !letter_at(text, at) {
-        return false;
-    }
-    !letter_at(text, at + 1)
+    letter_at(text, at) && !letter_at(text, at + 1)
 }
 
-// The first byte of the word at a cursor, past any spaces; 0 where nothing but spaces follows.
+// The first byte of the word at a cursor, past any spaces; 0 where nothing but spaces follows, as `first_of` has it.
 pub fn first_at(text: &[u8], c: Cursor) -> u8
     ensures { result ≡ first_of (past is_space (drop c.at text.now)) }
 {
-    let from = c.at;
-    let i = run_end(text, from, class::SPACE);
-    if text.len() <= i {
-        return 0;
-    }
-    text[i]
+    byte_at(text, space_end(text, c.at))
 }
 
 // Whether nothing but spaces stands from a cursor on.
 pub fn is_blank(text: &[u8], c: Cursor) -> bool
     ensures { result ≡ all is_space (drop c.at text.now) }
 {
-    let from = c.at;
-    let i = run_end(text, from, class::SPACE);
-    if text.len() <= i {
-        return true;
-    }
-    false
+    text.len() <= space_end(text, c.at)
 }
 
 // Whether a command may stand at a cursor, past any spaces, by its first letters: at less cost than a look for the word.
 pub fn may_command(text: &[u8], c: Cursor) -> bool
     ensures { result ≡ may_command (past is_space (drop c.at text.now)) }
 {
-    let from = c.at;
-    let i = run_end(text, from, class::SPACE);
-    if !letter_at(text, i) {
-        return false;
-    }
-    if text.len() - i < FRONT {
-        return false;
-    }
-    index_of(&COMMAND_FRONTS, key(text, i, i + FRONT)) != 0
+    let i = space_end(text, c.at);
+    letter_at(text, i)
+        && FRONT <= text.len() - i
+        && index_of(&COMMAND_FRONTS, key(&text[i..i + FRONT])).is_some()
 }

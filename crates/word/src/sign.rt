@@ -1,5 +1,6 @@
 // The numbers of signs: a keyword's is KEYWORD and its index in the list of keywords, a command's KEYWORD and its
-// index in that of commands, a pair's is one of 1 to 3, and a symbol's is its byte.
+// index in that of commands, a pair's is one of 1 to 3, and a symbol's is its byte. They are no enum: readers promise an answer for any
+// number that is asked for (`past_sign` of crate relation), and a word's number is the definition's.
 pub const KEYWORD: u8 = 128;
 
 pub const LET: u8 = 128;

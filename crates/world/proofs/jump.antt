@@ -1,3 +1,3 @@
-pub mod Vars
+pub mod Fors
 pub mod Worlds
 pub mod Determined

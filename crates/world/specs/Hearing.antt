@@ -1,5 +1,7 @@
 -- What asking does: the reply or its stop number, the output and both positions.
 use Rattle.std.specs.Prelude.{ℕ, ◌+◌, List, length, take, drop, if◌then◌else◌}
+use Rattle.std.specs.Prelude.{Result as Res, Ok, Err}
+use Rattle.nibl.specs.declared.stop.Stop.{Stop}
 use Rattle.std.proofs.Math.Option.{Option, none, some}
 use Rattle.std.proofs.lemmas.List.Edits.{sets}
 use Rattle.nibl.specs.Bytes.{bytes}
@@ -9,7 +11,6 @@ use Rattle.nibl.specs.Meaning.{World, with_output, with_inpos, stop, Done, done}
 use Rattle.letter.specs.Slots.{held}
 use Rattle.value.specs.Writes.{item_fits}
 use Rattle.world.specs.declared.input.Reply.{Reply}
-use Rattle.world.specs.declared.input.Reply.TheVariants as reply
 
 pub record Heard : Type 0 where
   pub answer : Result (List ℕ)
@@ -20,15 +21,22 @@ pub record Heard : Type 0 where
 abbrev pub hears : Result (List ℕ) → ℕ → List ℕ → ℕ → Heard
 hears a i o p = record { answer = a; inpos = i; output = o; outpos = p }
 
+-- what a reply is, in the slots
+abbrev pub said_in : Res ℕ Stop → List ℕ → Result (List ℕ)
+said_in (Ok n) slots = is (take n slots)
+said_in (Err s) slots = no s.0
+
 -- what an answer says, by the slots and the output that it leaves
 abbrev pub heard : Reply → List ℕ → List ℕ → Heard
-heard (reply.Line n i p) slots o = hears (is (take n slots)) i o p
-heard (reply.No n i p) slots o = hears (no n) i o p
+heard r slots o = hears (said_in r.said slots) r.inpos o r.outpos
+
+abbrev pub count_of : Res ℕ Stop → ℕ
+count_of (Ok n) = n
+count_of (Err s) = 0
 
 -- how many bytes of the slots are the reply
 abbrev pub reply_count : Reply → ℕ
-reply_count (reply.Line n i p) = n
-reply_count (reply.No n i p) = 0
+reply_count r = count_of r.said
 
 -- a line that was gathered: 7 where no CR is left, 6 where it is over-long
 abbrev pub heard_line : Option Gathered → ℕ → List ℕ → ℕ → Heard

@@ -1,9 +1,6 @@
--- `sum` is safe and ends: what is left stays below 16,777,213.
-use Rattle.std.proofs.Common.{length, ◌-◌, ◌<◌}
+-- `sum` is safe: what is left stays below 16,777,213.
+use Rattle.std.proofs.Common.{◌<◌}
 use Rattle.call_table.proofs.sum.Given as goal
 
-abbrev pub invariant-loop-i : goal.invariant-loop-i
-invariant-loop-i l = l.sum < 16777213
-
-abbrev pub decreases-loop-i : goal.decreases-loop-i
-decreases-loop-i l = length l.bytes - l.i
+abbrev pub invariant-loop-b : goal.invariant-loop-b
+invariant-loop-b l = l.sum < 16777213

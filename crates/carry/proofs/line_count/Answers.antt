@@ -1,39 +1,27 @@
-use mathlib.Core.Path.{ap}
-use native.Mathlib.Omega.{arith}
-use lib.ListN.{length}
-use Rattle.page.proofs.Walk.{met, past}
-use Rattle.page.proofs.Tables.{lines-most}
+-- `line_count` meets its contract: a record an item. Assumes nothing.
+use Rattle.std.proofs.Common.{◌≡◌, ℕ, suc, ◌+◌, List, [], ◌∷◌, length, drop, Option, None, sym, ap, subst, ◌∙◌}
+use Rattle.std.specs.Iterator.{Yields, Drains}
+use Rattle.nibl.specs.Page.{records_of}
+use Rattle.page.specs.Walk.{Steps}
+use Rattle.page.specs.declared.Records.{Records}
+use Rattle.page.proofs.Walk.{Met, stepped, stayed}
 use Rattle.carry.proofs.line_count.Goals as goal
 
-pub loop-size-init : goal.loop-size-init
-loop-size-init c = (c.size_at-size.ensures, (omega arith, omega arith))
+-- a call of `next`
+abbrev gives : Records → Option (ℕ × ℕ) → Records → Type 0
+gives s r t = Steps s.page.now s.at r t.page.now t.at
 
-pub overflow_add-k : goal.overflow_add-k
-overflow_add-k c =
-    let l = c.loop-size in
-    let m = met c.args.page.now l.at l.size l.invariant.0 c.loop-size-test.true in
-    omega (arith, m.next, m.inside, lines-most c.args.page.now)
+walked : (p : List ℕ) (xs : List (ℕ × ℕ)) (s t u : Records) → s.page.now ≡ p → Yields gives s xs t → gives t None u → length xs ≡ length (records_of (drop s.at p))
+walked p [] s t u e y n =
+    let end : gives s None u = subst (λ (k : Records). gives k None u) (sym y) n in sym (ap length (stayed e end))
+walked p ((i, k) ∷ xs) s t u e (j, g, y) n =
+    let m : Met p s.at k = stepped e g in
+    let page : j.page.now ≡ p = g.0 ∙ e in
+    let next : j.at ≡ s.at + k = g.1.1.1 in
+    ap suc (walked p xs j t u page y n ∙ ap (λ (a : ℕ). length (records_of (drop a p))) next) ∙ sym (ap length m.records)
 
-pub overflow_add-at : goal.overflow_add-at
-overflow_add-at c =
-    let l = c.loop-size in
-    let m = met c.args.page.now l.at l.size l.invariant.0 c.loop-size-test.true in
-    omega (arith, m.next, m.inside)
-
-pub loop-size-smaller : goal.loop-size-smaller
-loop-size-smaller c =
-    let l = c.loop-size in
-    let m = met c.args.page.now l.at l.size l.invariant.0 c.loop-size-test.true in
-    omega (arith, m.next, m.inside)
-
-pub loop-size-preserved : goal.loop-size-preserved
-loop-size-preserved c =
-    let l = c.loop-size in
-    let m = met c.args.page.now l.at l.size l.invariant.0 c.loop-size-test.true in
-    (c.size_at-size-in-loop-size.ensures, (m.next, omega (arith, ap length m.records, l.invariant.1.1)))
+counted : (p : List ℕ) (s : Records) {n : ℕ} → s.page.now ≡ p → s.at ≡ 0 → (xs : List (ℕ × ℕ)) × Drains gives s xs × (n ≡ length xs) → n ≡ length (records_of p)
+counted p s e z (xs, (u, (t, y, n)), l) = l ∙ walked p xs s t u e y n ∙ ap (λ (a : ℕ). length (records_of (drop a p))) z
 
 pub returns : goal.returns
-returns c =
-    let p = c.args.page.now in
-    let l = c.loop-size in
-    omega (arith, l.invariant.1.1, ap length (past p l.at l.size l.invariant.0 c.loop-size-test.false))
+returns c = counted c.args.page.now c.of.result c.of.ensures.0 c.of.ensures.1 c.count.ensures.ran

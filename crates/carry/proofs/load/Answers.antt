@@ -3,7 +3,6 @@ use mathlib.Core.Path.{sym, ap, ◌∙◌}
 use Rattle.nibl.specs.Typing.{limit}
 use Rattle.nibl.specs.found.Form.{form_in}
 use Rattle.nibl.specs.Lent.{Lent, lent_all}
-use Rattle.carry.proofs.Opening.{opened-at, opened-no}
 use Rattle.carry.proofs.Loading.{holding, any-output, load-1, load-form, load-no, page-range, table-range}
 use Rattle.carry.proofs.load.Goals as goal
 
@@ -18,16 +17,16 @@ load_opened-requires c =
     let a = c.args in
     let x : Lent = lent_all a.rec a.page.now a.memory.now a.input.now a.output.now a.call a.table.now in
     let r = sym c.load_in_range.ensures ∙ c.if-not-load_in_range.false in
-    record { opened = opened-at c.in-Form.is c.open_form.ensures; paged = page-range x r; long = table-range x r }
+    record { opened = c.in-Ok.ensures; paged = page-range x r; long = table-range x r }
 
-pub returns-in-No : goal.returns-in-No
-returns-in-No c =
+pub returns-in-Err : goal.returns-in-Err
+returns-in-Err c =
     let a = c.args in
     let x : Lent = lent_all a.rec a.page.now a.memory.now a.input.now a.output.now a.call a.table.now in
-    rw c.stopped-in-No.ensures (load-no x (sym c.load_in_range.ensures ∙ c.if-not-load_in_range.false) (opened-no c.in-No.is c.open_form.ensures))
+    rw c.stopped-in-Err.ensures (load-no x (sym c.load_in_range.ensures ∙ c.if-not-load_in_range.false) c.in-Err.ensures)
 
-pub returns-in-Form : goal.returns-in-Form
-returns-in-Form c =
+pub returns-in-Ok : goal.returns-in-Ok
+returns-in-Ok c =
     let a = c.args in
     let x : Lent = lent_all a.rec a.page.now a.memory.now a.input.now a.output.now a.call a.table.now in
     ap (holding a.rec a.page.now a.memory.now a.input.now a.output.now a.call a.table.now) c.load_opened.ensures

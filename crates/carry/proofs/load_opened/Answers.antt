@@ -10,23 +10,9 @@ use Rattle.nibl.specs.Record.{loaded_session}
 use Rattle.nibl.specs.Page.{onto}
 use Rattle.nibl.specs.Lent.{Lent, lent_all, left_all, answer_of, no_line}
 use Rattle.nibl.specs.Calls.{table_past}
-use Rattle.value.specs.declared.Wrote.{Wrote}
-use Rattle.value.specs.Writes.{Writes}
 use Rattle.table.proofs.Lent.{table_kept}
-use Rattle.carry.proofs.Forms.{written}
-use Rattle.carry.proofs.Values.{sets-all}
 use Rattle.carry.proofs.Loading.{no_room, loads-whole, page-left}
 use Rattle.carry.proofs.load_opened.Goals as goal
-
--- the memory is the form's, whole
-held : (form memory : List ℕ) {after : List ℕ} {r : Wrote} (from : ℕ) → length form - from ≡ length memory
-    → Writes memory 0 (take (length form - from) (drop from form)) r after → after ≡ drop from form
-held form memory from m w =
-    let n : ℕ = length form - from in
-    let rest : List ℕ = drop from form in
-    let all : take n rest ≡ rest = take_all n rest (omega (arith, length-drop from form)) in
-    let long : length (take n rest) ≡ length memory = ap length all ∙ length-drop from form ∙ m in
-    written w (omega (arith, long)) ∙ sets-all memory (take n rest) long ∙ all
 
 pub returns-then-page-end : goal.returns-then-page-end
 returns-then-page-end c =
@@ -43,9 +29,9 @@ returns c =
     let room = c.if-page-end.false in
     let page : c.put_program.new.page ≡ onto a.page.now o.records =
     page-left limit x a.end o c.put_program.new.page (take (a.end - 56) (drop 56 a.form.now)) refl c.put_program.ensures in
-    let memory : c.write_item.new.output ≡ drop (a.end + 2) a.form.now = held a.form.now a.memory.now (a.end + 2) m c.write_item.ensures in
+    let memory : c.copy_from_slice.new.self ≡ drop (a.end + 2) a.form.now = c.copy_from_slice.ensures.after ∙ take_all (length a.form.now - (a.end + 2)) (drop (a.end + 2) a.form.now) (omega (arith, length-drop (a.end + 2) a.form.now)) in
     let table = table_kept a.call c.put_program.new.page a.table.now c.refill.new.table c.lent_entries-entries.ensures c.requires.long c.refill.ensures in
     rw (c.stopped-2.ensures, c.loaded.ensures)
-    ((λ i. left_all (answer_of 0 no_line 0 a.call.inpos a.call.outpos 0) (loaded_session a.rec (c.form_values-vars.ensures i)) (page i)
+    ((λ i. left_all (answer_of 0 no_line 0 a.call.inpos a.call.outpos 0) (loaded_session a.rec (c.form_values.ensures i)) (page i)
     (memory i) [] ((table ∙ ap (λ (p : List ℕ). table_past a.call p a.table.now) page) i))
     ∙ sym (loads-whole limit x a.end o m room))

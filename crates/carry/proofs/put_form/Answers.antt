@@ -4,8 +4,9 @@ use mathlib.Core.Path.{◌≡◌, sym, ap, ◌∙◌}
 use mathlib.Core.Bool.{true}
 use mathlib.Core.List.{List, ◌∷◌, ◌++◌}
 use native.Mathlib.Omega.{arith}
-use lib.ListN.{length, take}
+use lib.ListN.{length, take, drop, length-drop}
 use lib.Seq.{sets, length-sets, length-take-le}
+use borrow.Rule.Slice.PartMut.{put_mid}
 use mir.Syntax.{w16}
 use borrow.Kind.Array.{e_int, good_length}
 use Rattle.nibl.specs.Typing.{limit}
@@ -14,9 +15,7 @@ use Rattle.nibl.specs.Saved.{RuleSet, two_bytes, values_bytes, records_bytes, co
 use Rattle.page.specs.Standing.{Bytes}
 use Rattle.page.proofs.Laid.{good-fits}
 use Rattle.page.proofs.Tables.{lines-most}
-use Rattle.value.specs.declared.Wrote.{Wrote}
-use Rattle.value.specs.Writes.{Writes}
-use Rattle.carry.proofs.Forms.{written, used-least, good-records, head_of, form-pieces}
+use Rattle.carry.proofs.Forms.{part-put, used-least, good-records, head_of, form-pieces}
 use Rattle.carry.proofs.put_form.Goals as goal
 
 -- the page: its bytes, and how many of them are its records'
@@ -35,10 +34,11 @@ module _ (page : List ℕ) {u : ℕ} (e : u ≡ used page) where
 sets-long : (output item : List ℕ) (at : ℕ) {after : List ℕ} → after ≡ sets output at item → length after ≡ length output
 sets-long output item at h = ap length h ∙ length-sets output at item
 
-recorded : (page output head : List ℕ) (at m : ℕ) {u : ℕ} {before after : List ℕ} {r : Wrote} → u ≡ used page → Bytes page → is_good limit page ≡ true
-    → at + 56 + used page + m ≤ length output → before ≡ sets output at head → Writes before (at + 56) (take (u - 2) page) r after → after ≡ sets before (at + 56) (take (u - 2) page)
-recorded page output head at m e b g room h w =
-    written w (omega (arith, part-long page e b g, least page e, sets-long output head at h))
+recorded : (page output head : List ℕ) (at m k : ℕ) {u : ℕ} {before part : List ℕ} → u ≡ used page → Bytes page → is_good limit page ≡ true
+    → at + 56 + used page + m ≤ length output → before ≡ sets output at head → k ≡ u - 2 → part ≡ take (u - 2) page → put_mid (at + 56) k before part ≡ sets before (at + 56) (take (u - 2) page)
+recorded page output head at m k {u = u} {before = before} e b g room h f p =
+    ap (put_mid (at + 56) k before) p
+    ∙ part-put before (take (u - 2) page) (at + 56) (f ∙ sym (part-long page e b g)) (omega (arith, part-long page e b g, least page e, sets-long output head at h))
 
 pub overflow_sub-end : goal.overflow_sub-end
 overflow_sub-end c = least c.args.page.now c.used_bytes-end.ensures
@@ -46,8 +46,18 @@ overflow_sub-end c = least c.args.page.now c.used_bytes-end.ensures
 pub overflow_cast-line_count : goal.overflow_cast-line_count
 overflow_cast-line_count c = omega (arith, c.line_count.ensures, lines-most c.args.page.now, c.requires.paged)
 
-pub slice_bounds-write_item-end : goal.slice_bounds-write_item-end
-slice_bounds-write_item-end c = sym (part-long c.args.page.now c.used_bytes-end.ensures (λ i. omega (arith, c.type_inv.page i)) c.requires.good)
+pub slice_bounds-copy_from_slice-end-2 : goal.slice_bounds-copy_from_slice-end-2
+slice_bounds-copy_from_slice-end-2 c = sym (part-long c.args.page.now c.used_bytes-end.ensures (λ i. omega (arith, c.type_inv.page i)) c.requires.good)
+
+pub copy_from_slice-requires : goal.copy_from_slice-requires
+copy_from_slice-requires c =
+    let a = c.args in
+    let u = c.used_bytes-end in
+    let o = c.put_head.new.output in
+    let k = a.at + 56 + (u.result - 2) - (a.at + 56) in
+    let p = part-long a.page.now u.ensures (λ i. omega (arith, c.type_inv.page i)) c.requires.good in
+    let kept = sets-long a.output.now (form_number ∷ 26 ∷ (values_bytes a.vars ++ two_bytes c.line_count.result)) a.at c.put_head.ensures in
+    omega (arith, p, length-take-le k (drop (a.at + 56) o) (omega (arith, length-drop (a.at + 56) o, kept, c.requires.room, u.ensures, least a.page.now u.ensures)))
 
 pub put_counted-requires : goal.put_counted-requires
 put_counted-requires c =
@@ -56,7 +66,7 @@ put_counted-requires c =
     let u = c.used_bytes-end in
     let b : Bytes a.page.now = λ i. omega (arith, c.type_inv.page i) in
     let head : List ℕ = form_number ∷ 26 ∷ (values_bytes a.vars ++ two_bytes c.line_count.result) in
-    let e = recorded a.page.now a.output.now head a.at (length a.memory.now) u.ensures b d.good d.room c.put_head.ensures c.write_item.ensures in
+    let e = recorded a.page.now a.output.now head a.at (length a.memory.now) (a.at + 56 + (u.result - 2) - (a.at + 56)) u.ensures b d.good d.room c.put_head.ensures (omega arith) c.copy_from_slice.ensures.after in
     let kept = sets-long c.put_head.new.output (take (u.result - 2) a.page.now) (a.at + 56) e in
     (omega (arith, d.small), omega (arith, d.room, u.ensures, least a.page.now u.ensures, kept, sets-long a.output.now head a.at c.put_head.ensures))
 
@@ -73,7 +83,7 @@ returns c =
     let head : List ℕ = form_number ∷ 26 ∷ (values_bytes a.vars ++ two_bytes c.line_count.result) in
     let h : c.put_head.new.output ≡ sets a.output.now a.at (head_of carried count) =
     c.put_head.ensures ∙ ap (λ (n : ℕ). sets a.output.now a.at (form_number ∷ 26 ∷ (values_bytes a.vars ++ two_bytes n))) c.line_count.ensures in
-    let e = recorded a.page.now a.output.now head a.at (length a.memory.now) u.ensures b d.good d.room c.put_head.ensures c.write_item.ensures in
+    let e = recorded a.page.now a.output.now head a.at (length a.memory.now) (a.at + 56 + (u.result - 2) - (a.at + 56)) u.ensures b d.good d.room c.put_head.ensures (omega arith) c.copy_from_slice.ensures.after in
     c.put_counted.ensures
     ∙ ap (λ (o : List ℕ). sets o (a.at + 56 + end) (counted a.memory.now)) (e ∙ (λ i. sets (h i) (a.at + 56) (p i)))
     ∙ form-pieces carried count a.output.now a.at end (sym (part-long a.page.now u.ensures b d.good) ∙ ap length p)

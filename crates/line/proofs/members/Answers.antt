@@ -1,22 +1,21 @@
-use mathlib.Core.Path.{sym, ◌∙◌}
+use mathlib.Core.Path.{sym, ap, ◌∙◌}
 use native.Mathlib.Omega.{arith}
 use lib.ListN.{length, drop, length-drop}
-use borrow.Enum.Refused.{opened}
-use Rattle.line.proofs.Lists.{no-first-at, first-at, left-fits, list-none, list-ends, list_on, met-here, met-not}
+use Rattle.std.specs.Prelude.{is_some}
+use Rattle.line.proofs.Lists.{was-ok, no-first-at, first-at, left-fits, list-none, list-ends, list_on, met-now}
 use Rattle.line.proofs.members.Goals as goal
-use Rattle.line.proofs.members.Goals.{then-end-p, else-end-p}
 
-pub returns-in_default : goal.returns-in_default
-returns-in_default c =
+pub returns-in_err-left : goal.returns-in_err-left
+returns-in_err-left c =
     let text = c.args.text.now in
     let at = c.loop-left.at in
-    sym (c.loop-left.invariant.2 ∙ list-none c.loop-left.met (length text) c.args.p (drop at text) (no-first-at text c.loop-left.ops c.args.ops.now at _ c.requires c.loop-left.invariant.1 c.read_member-m.ensures.value (opened c.in_default.in_default-own.keys2)))
+    rw c.from_residual.ensures (sym (c.loop-left.invariant.2 ∙ list-none c.loop-left.met (length text) c.args.p (drop at text) (no-first-at text c.loop-left.ops c.args.ops.now at _ c.requires c.loop-left.invariant.1 c.read_member.ensures.value (sym c.ok.ensures.variant ∙ ap is_some c.in_err-left.was))))
 
 pub overflow_sub-end : goal.overflow_sub-end
 overflow_sub-end c =
     let text = c.args.text.now in
     let at = c.loop-left.at in
-    omega (arith, left-fits (first-at text c.loop-left.ops c.args.ops.now at _ c.requires c.loop-left.invariant.1 c.read_member-m.ensures.value c.in-Member.is), length-drop at text)
+    omega (arith, left-fits (first-at text c.loop-left.ops c.args.ops.now at _ c.requires c.loop-left.invariant.1 c.read_member.ensures.value (was-ok c.read_member.result c.ok.ensures.value c.in_ok-left.was)), length-drop at text)
 
 pub returns-then-last : goal.returns-then-last
 returns-then-last c =
@@ -25,13 +24,13 @@ returns-then-last c =
     let met = c.loop-left.met in
     let p = c.args.p in
     let n = length text in
-    sym (c.loop-left.invariant.2 ∙ list-ends text at p met c.if-end-p.met (first-at text c.loop-left.ops c.args.ops.now at _ c.requires c.loop-left.invariant.1 c.read_member-m.ensures.value c.in-Member.is) (elim c.if-end-p.branch [ then-end-p w ↦ met-here met n p _ w.if-end-p.true ∙ sym w.met-is | else-end-p w ↦ met-not met n p _ w.if-end-p.false ∙ sym w.met-is ]) c.if-last.true)
+    sym (c.loop-left.invariant.2 ∙ list-ends text at p met _ (first-at text c.loop-left.ops c.args.ops.now at _ c.requires c.loop-left.invariant.1 c.read_member.ensures.value (was-ok c.read_member.result c.ok.ensures.value c.in_ok-left.was)) (met-now met n p _) c.if-last.true)
 
 pub loop-left-smaller : goal.loop-left-smaller
 loop-left-smaller c =
     let text = c.args.text.now in
     let at = c.loop-left.at in
-    omega (arith, left-fits (first-at text c.loop-left.ops c.args.ops.now at _ c.requires c.loop-left.invariant.1 c.read_member-m.ensures.value c.in-Member.is), length-drop at text)
+    omega (arith, left-fits (first-at text c.loop-left.ops c.args.ops.now at _ c.requires c.loop-left.invariant.1 c.read_member.ensures.value (was-ok c.read_member.result c.ok.ensures.value c.in_ok-left.was)), length-drop at text)
 
 pub loop-left-preserved : goal.loop-left-preserved
 loop-left-preserved c =
@@ -40,5 +39,5 @@ loop-left-preserved c =
     let met = c.loop-left.met in
     let p = c.args.p in
     let n = length text in
-    let f = (first-at text c.loop-left.ops c.args.ops.now at _ c.requires c.loop-left.invariant.1 c.read_member-m.ensures.value c.in-Member.is) in
-    (omega (arith, left-fits f, length-drop at text), omega (arith, c.read_member-m.auto.ops), c.loop-left.invariant.2 ∙ list_on text at p met c.if-end-p.met f (elim c.if-end-p.branch [ then-end-p w ↦ met-here met n p _ w.if-end-p.true ∙ sym w.met-is | else-end-p w ↦ met-not met n p _ w.if-end-p.false ∙ sym w.met-is ]) c.loop-left.invariant.0 c.if-last.false)
+    let f = (first-at text c.loop-left.ops c.args.ops.now at _ c.requires c.loop-left.invariant.1 c.read_member.ensures.value (was-ok c.read_member.result c.ok.ensures.value c.in_ok-left.was)) in
+    (omega (arith, left-fits f, length-drop at text), omega (arith, c.read_member.auto.ops), c.loop-left.invariant.2 ∙ list_on text at p met _ f (met-now met n p _) c.loop-left.invariant.0 c.if-last.false)

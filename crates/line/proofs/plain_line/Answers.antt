@@ -11,14 +11,14 @@ use Rattle.line.proofs.plain_line.Goals as goal
 pub returns-in-End : goal.returns-in-End
 returns-in-End c =
     let a = c.args in
-    let d = plain-blank a.text.now (blank-end c.in-End.is c.word_at-w.ensures) in
+    let d = plain-blank a.text.now (blank-end c.in-End.is c.word_at.ensures) in
     record { value = sym (ap (kind_of (length a.text.now)) d); ops_after = c.clear.ensures ∙ sym (ap (line_ops a.ops.now) d) }
 
 pub returns-in-Decimal : goal.returns-in-Decimal
 returns-in-Decimal c =
     let text = c.args.text.now in
     let ops = c.args.ops.now in
-    let w = c.word_at-w in
+    let w = c.word_at in
     let l = c.numbered_line in
     let d = plain-number text (unblank w.result (undone c.in-Decimal.is) w.ensures) (decimal-found c.in-Decimal.is w.ensures) in
     record { value = l.ensures.value ∙ sym (ap (kind_of (length text)) d); ops_after = l.ensures.ops_after ∙ sym (numbered-silent ops c.in-Decimal.n (drop c.in-Decimal.c.at text)) ∙ sym (ap (line_ops ops) d) }
@@ -26,7 +26,7 @@ returns-in-Decimal c =
 pub returns-in_default : goal.returns-in_default
 returns-in_default c =
     let text = c.args.text.now in
-    let w = c.word_at-w in
+    let w = c.word_at in
     let k = (opened c.in_default.in_default-own.keys3) in
     let i = c.immediate in
     let ks : List ℕ = 0 ∷ 2 ∷ 3 ∷ 4 ∷ 6 ∷ [] in

@@ -1,12 +1,10 @@
+use Prim.Native.Nat.{◌+◌, ◌-◌}
 use mathlib.Core.Path.{◌≡◌}
-use lib.ListN.{length, drop}
+use lib.ListN.{drop}
 use Rattle.nibl.specs.found.Read.{replied}
 use Rattle.line.specs.Answers.{list_of}
 use Rattle.line.proofs.relations.Given as goal
 
-abbrev pub invariant-loop-k : goal.invariant-loop-k
-invariant-loop-k l =
-    (length l.ops ≡ length l.initial.ops) × (list_of (replied l.n l.text) ≡ list_of (replied l.k (drop l.at l.text)))
-
-abbrev pub decreases-loop-k : goal.decreases-loop-k
-decreases-loop-k l = l.k
+-- so many relations are left, and what is left decides
+abbrev pub invariant-loop : goal.invariant-loop
+invariant-loop l = list_of (replied l.n l.text) ≡ list_of (replied (l.n + 1 - l.counter) (drop l.at l.text))

@@ -1,5 +1,5 @@
 use Prim.Native.Nat.{ℕ}
-use mathlib.Core.Path.{refl, sym, ap, subst, ◌∙◌}
+use mathlib.Core.Path.{sym, ap, subst, ◌∙◌}
 use lib.ListN.{length, replicate}
 use Rattle.nibl.specs.found.Read.{read, relation}
 use Rattle.relation.specs.Code.{values}
@@ -17,14 +17,14 @@ returns-in_default c =
     let d = relation-none text c.args.c (subst (Makes (read relation) values _ _ _ _) c.in_default.is c.read_relation-r.ensures) in
     record { value = opened _ e (sym (ap (relation_of (length text)) d)); ops_after = opened _ e (c.clear.ensures ∙ ap (λ (n : ℕ). replicate n 0) c.read_relation-r.auto.ops ∙ sym (ap (relation_ops c.args.ops.now) d)) }
 
-pub returns-in-Next-s : goal.returns-in-Next-s
-returns-in-Next-s c =
+pub returns-in-Some-past_sign : goal.returns-in-Some-past_sign
+returns-in-Some-past_sign c =
     let e = sym c.has_room.ensures ∙ not-false _ c.if-not-has_room.false-raw in
-    let a = relation-comma (subst (Makes (read relation) values _ _ _ _) c.in-Next.is c.read_relation-r.ensures) (key-told refl c.in-Next-s.is c.past_sign-s.ensures) in
+    let a = relation-comma (subst (Makes (read relation) values _ _ _ _) c.in-Some.is c.read_relation-r.ensures) (key-told c.in-Some.is c.in-Some-past_sign.is c.past_sign.ensures) in
     record { value = opened _ e a.0; ops_after = opened _ e a.1 }
 
-pub returns-in-NoReading : goal.returns-in-NoReading
-returns-in-NoReading c =
+pub returns-in-None : goal.returns-in-None
+returns-in-None c =
     let e = sym c.has_room.ensures ∙ not-false _ c.if-not-has_room.false-raw in
-    let a = relation-bare (subst (Makes (read relation) values _ _ _ _) c.in-Next.is c.read_relation-r.ensures) (key-told refl c.in-NoReading.is c.past_sign-s.ensures) in
+    let a = relation-bare (subst (Makes (read relation) values _ _ _ _) c.in-Some.is c.read_relation-r.ensures) (key-told c.in-Some.is c.in-None.is c.past_sign.ensures) in
     record { value = opened _ e a.0; ops_after = opened _ e a.1 }

@@ -1,8 +1,8 @@
 -- `typed_line` meets its contract: by what was gathered. Assumes nothing.
-use Prim.Native.Nat.{ℕ, ◌+◌, ◌≤◌}
+use Prim.Native.Nat.{ℕ}
 use mathlib.Core.Bool.{Bool, true, false}
 use mathlib.Core.List.{List}
-use mathlib.Core.Option.{Option, none, some}
+use mathlib.Core.Option.{Option}
 use mathlib.Core.Path.{◌≡◌, refl, sym, ap, subst, ◌∙◌}
 use native.Mathlib.Omega.{arith}
 use lib.ListN.{length, take, drop}
@@ -26,7 +26,7 @@ use Rattle.outcome.specs.declared.Ended.{Ended}
 use Rattle.table.specs.Index.{kept_true}
 use Rattle.table.proofs.Index.{kept_same}
 use Rattle.obey.proofs.Typed.{Hears, no_cr, too_long, heard, Holds, holds, read_as}
-use Rattle.obey.proofs.typed_line.Goals.{After-gather-g}
+use Rattle.obey.proofs.typed_line.Goals.{After-gather}
 use Rattle.obey.proofs.typed_line.Goals as goal
 
 -- 7, and 5 for an over-long line
@@ -49,7 +49,7 @@ ends-line x lim {n = n} {slots = slots} h =
     ∙ ap (λ (b : Bool). elim b [ true ↦ refused_line lim (begun x g.taken) x.page | false ↦ obey_read x.call.budget (lent_env lim x) (begun x g.taken) (column_of g.line.bytes) (typed g.line.bytes) ]) h.whole)
 
 -- past gathering: what was lent, and the line in its slots
-module _ (r : After-gather-g) where
+module _ (r : After-gather) where
   abbrev all : Lent
   all = lent_all r.args.rec r.args.page.now r.args.memory.now r.args.input.now r.args.output.now r.args.call r.args.table.now
 
@@ -60,46 +60,46 @@ module _ (r : After-gather-g) where
   by-limit n e = ap (λ (k : ℕ). gather k (drop r.args.call.inpos r.args.input.now)) e
 
   -- by the answer that is known
-  hears : {k : Gathering} → r.gather-g.result ≡ k → Hears r.args.call.inpos k line_of
-  hears e = heard (r.gather-g.ensures.answer ∙ ap (answer r.args.call.inpos) (by-limit (length r.args.line.now) r.requires.0.1)) e
+  hears : {k : Gathering} → r.gather.result ≡ k → Hears r.args.call.inpos k line_of
+  hears e = heard (r.gather.ensures.answer ∙ ap (answer r.args.call.inpos) (by-limit (length r.args.line.now) r.requires.0.1)) e
 
-  kept : {next n : ℕ} → r.gather-g.result ≡ gathering.Line next n → Holds r.args.call.inpos next n r.gather-g.new.line line_of
+  kept : {next n : ℕ} → r.gather.result ≡ gathering.Line next n → Holds r.args.call.inpos next n r.gather.new.line line_of
   kept e =
-      holds (length r.args.line.now) r.gather-g.new.line (hears e)
-      (r.gather-g.ensures.slots ∙ ap (held (length r.args.line.now)) (by-limit (length r.args.line.now) r.requires.0.1))
+      holds (length r.args.line.now) r.gather.new.line (hears e)
+      (r.gather.ensures.slots ∙ ap (held (length r.args.line.now)) (by-limit (length r.args.line.now) r.requires.0.1))
 
   -- where nothing was obeyed the table is as it was
   still : r.args.table.now ≡ kept_true r.args.page.now r.args.table.now
   still = sym (kept_same r.requires.1)
 
-  as_long : length r.gather-g.new.line ≡ length r.args.reply.now
-  as_long = r.gather-g.auto.line ∙ r.requires.0.1
+  as_long : length r.gather.new.line ≡ length r.args.reply.now
+  as_long = r.gather.auto.line ∙ r.requires.0.1
 
 pub slice_bounds-read_typed-end : goal.slice_bounds-read_typed-end
-slice_bounds-read_typed-end c = (kept (goal.at.slice_bounds-read_typed-end c).After-gather-g c.in-Line.is).few
+slice_bounds-read_typed-end c = (kept (goal.at.slice_bounds-read_typed-end c).After-gather c.in-Line.is).few
 
 pub slice_bounds-read_typed-end-in-Line : goal.slice_bounds-read_typed-end-in-Line
-slice_bounds-read_typed-end-in-Line c = sym (length-take-le _ c.gather-g.new.line (kept (goal.at.slice_bounds-read_typed-end-in-Line c).After-gather-g c.in-Line.is).few)
+slice_bounds-read_typed-end-in-Line c = sym (length-take-le _ c.gather.new.line (kept (goal.at.slice_bounds-read_typed-end-in-Line c).After-gather c.in-Line.is).few)
 
 pub read_typed-kind-requires : goal.read_typed-kind-requires
 read_typed-kind-requires c =
-    let r = (goal.at.read_typed-kind-requires c).After-gather-g in
+    let r = (goal.at.read_typed-kind-requires c).After-gather in
     let h = (kept r c.in-Line.is).few in
-    let e = length-take-le _ c.gather-g.new.line h in
+    let e = length-take-le _ c.gather.new.line h in
     let l = as_long r in
     let p = c.requires.0.0.room in
     let q = c.requires.0.0.short in
     (omega arith, omega arith)
 
 pub slice_bounds-obey-end : goal.slice_bounds-obey-end
-slice_bounds-obey-end c = (kept (goal.at.slice_bounds-obey-end c).After-gather-g c.in-Line.is).few
+slice_bounds-obey-end c = (kept (goal.at.slice_bounds-obey-end c).After-gather c.in-Line.is).few
 
 pub slice_bounds-obey-end-in-Line : goal.slice_bounds-obey-end-in-Line
-slice_bounds-obey-end-in-Line c = sym (length-take-le _ c.gather-g.new.line (kept (goal.at.slice_bounds-obey-end-in-Line c).After-gather-g c.in-Line.is).few)
+slice_bounds-obey-end-in-Line c = sym (length-take-le _ c.gather.new.line (kept (goal.at.slice_bounds-obey-end-in-Line c).After-gather c.in-Line.is).few)
 
 pub obey-requires : goal.obey-requires
 obey-requires c =
-    let r = (goal.at.obey-requires c).After-gather-g in
+    let r = (goal.at.obey-requires c).After-gather in
     let l = c.requires.0.0 in
     let a = c.requires.0.2 in
     let k = c.requires.0.3 in
@@ -108,7 +108,7 @@ obey-requires c =
     let u = c.unpaused-in-Line.ensures in
     let d = ap (λ (k : Call). k.budget) c.at.ensures in
     let h = (kept r c.in-Line.is).few in
-    let e = length-take-le _ c.gather-g.new.line h in
+    let e = length-take-le _ c.gather.new.line h in
     let n = as_long r in
     let p = l.room in
     let q = l.short in
@@ -124,13 +124,13 @@ obey-requires c =
 
 pub overflow_cast-line : goal.overflow_cast-line
 overflow_cast-line c =
-    let l = as_long (goal.at.overflow_cast-line c).After-gather-g in
+    let l = as_long (goal.at.overflow_cast-line c).After-gather in
     let q = c.requires.0.0.short in
     omega arith
 
 pub returns-in-NoCr : goal.returns-in-NoCr
 returns-in-NoCr c =
-    let r = (goal.at.returns-in-NoCr c).After-gather-g in
+    let r = (goal.at.returns-in-NoCr c).After-gather in
     let a = c.args in
     record {
       output_after = ap (λ (e : Ended). ended_in e a.page.now a.memory.now a.output.now) c.stopped.ensures ∙ ends-none (all r) (length a.reply.now) (hears r c.in-NoCr.is);
@@ -139,13 +139,13 @@ returns-in-NoCr c =
 
 pub returns-in-TooLong : goal.returns-in-TooLong
 returns-in-TooLong c =
-    let r = (goal.at.returns-in-TooLong c).After-gather-g in
+    let r = (goal.at.returns-in-TooLong c).After-gather in
     let a = c.args in
     let at = c.in-TooLong.at in
     record {
       output_after = ap (λ (e : Ended). ended_in e a.page.now a.memory.now a.output.now)
           (c.refused.ensures
-          ∙ ap (λ (x : Session). refused (length c.gather-g.new.line) x at a.call.outpos) c.unpaused.ensures
+          ∙ ap (λ (x : Session). refused (length c.gather.new.line) x at a.call.outpos) c.unpaused.ensures
           ∙ ap (λ (n : ℕ). refused n (unpaused a.rec) at a.call.outpos) (as_long r))
           ∙ ends-long (all r) (length a.reply.now) (hears r c.in-TooLong.is);
       table_after = still r;
@@ -153,11 +153,11 @@ returns-in-TooLong c =
 
 pub returns-in-Line : goal.returns-in-Line
 returns-in-Line c =
-    let r = (goal.at.returns-in-Line c).After-gather-g in
+    let r = (goal.at.returns-in-Line c).After-gather in
     let a = c.args in
     let x = c.unpaused-in-Line in
     let lim = length a.reply.now in
-    let t : List ℕ = take c.in-Line.n c.gather-g.new.line in
+    let t : List ℕ = take c.in-Line.n c.gather.new.line in
     record {
       output_after = c.obey.ensures.output_after
           ∙ ap (λ (k : Call). obey_read k.budget (env_with lim a.page.now a.input.now (sight_of k) (place mark)) (world_at x.result a.memory.now a.output.now k.inpos k.outpos) (column_of t) (typed t)) c.at.ensures

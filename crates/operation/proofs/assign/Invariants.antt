@@ -2,7 +2,6 @@
 -- what was asked of the reader
 -- it always reads a relation
 -- its operations stand in the list, and the stack has room for their values
-use Prim.Native.Nat.{◌-◌}
 use mathlib.Core.Path.{◌≡◌}
 use lib.ListN.{length}
 use Rattle.nibl.specs.found.Read.{replied}
@@ -11,10 +10,7 @@ use Rattle.operation.specs.Stacks.{sources, assigning}
 use Rattle.operation.proofs.Replies.{Remains}
 use Rattle.operation.proofs.assign.Given as goal
 
-abbrev pub invariant-loop-i : goal.invariant-loop-i
-invariant-loop-i l =
+abbrev pub invariant-loop-op : goal.invariant-loop-op
+invariant-loop-op l =
     (length l.vars ≡ length l.initial.vars) × (length l.ops ≡ length l.initial.ops) × (length l.values ≡ length l.initial.values)
-    × Remains l.n l.text l.rest (assigning (sources l.initial.vars l.flags l.sight l.page l.memory) (variables_of l.rest) (replied l.n l.text)) (sources l.vars l.flags l.sight l.page l.memory) l.c.at l.i
-
-abbrev pub decreases-loop-i : goal.decreases-loop-i
-decreases-loop-i l = length l.rest - l.i
+    × Remains l.n l.text l.rest (assigning (sources l.initial.vars l.flags l.sight l.page l.memory) (variables_of l.rest) (replied l.n l.text)) (sources l.vars l.flags l.sight l.page l.memory) l.c.at l.op-index

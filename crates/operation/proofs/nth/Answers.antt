@@ -1,14 +1,11 @@
 -- `nth` meets its contract: past the stack or the array there is 0. Assumes nothing.
+use Rattle.std.proofs.Common.{rules}
 use mathlib.Core.Path.{sym}
-use native.Mathlib.Omega.{arith}
-use Rattle.operation.proofs.Stacks.{nth_in, nth-out, nth_past}
+use Rattle.operation.proofs.Stacks.{nth_in, nth-out}
 use Rattle.operation.proofs.nth.Goals as goal
 
-pub returns-then-height-k : goal.returns-then-height-k
-returns-then-height-k c = let a = c.args in sym (nth-out a.values.now a.height a.k c.if-height-k.true)
+pub returns-then-k-height : goal.returns-then-k-height
+returns-then-k-height c = let a = c.args in rw (nth_in a.values.now a.height a.k c.if-k-height.true) (search rules)
 
-pub returns-then-i-values : goal.returns-then-i-values
-returns-then-i-values c = let a = c.args in sym (nth_in a.values.now a.height a.k (omega arith))
-
-pub returns-else-i-values : goal.returns-else-i-values
-returns-else-i-values c = let a = c.args in sym (nth_past a.values.now a.height a.k (omega arith) c.if-i-values.false)
+pub returns-else-k-height : goal.returns-else-k-height
+returns-else-k-height c = let a = c.args in sym (nth-out a.values.now a.height a.k c.if-k-height.false)

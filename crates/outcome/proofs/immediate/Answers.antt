@@ -1,5 +1,6 @@
 -- `immediate` meets its contract: by the way that the statement goes. Assumes nothing.
 use Prim.Native.Nat.{ℕ}
+use Rattle.std.proofs.Common.{inl, inr}
 use mathlib.Core.List.{[]}
 use mathlib.Core.Path.{◌≡◌, sym, ap, subst, ◌∙◌}
 use native.Mathlib.Omega.{arith}
@@ -120,22 +121,15 @@ pub returns-in-On : goal.returns-in-On
 returns-in-On c =
     let r = (goal.at.returns-in-On c).After-session-next in
     let d = c.run_ops-d in
-    ends r c.in-On.is
-    (ap (λ (e : Ended). ended_in e c.args.page.now d.new.memory d.new.output) (c.stopped.ensures ∙ ap (λ (x : Session). stopped 0 x d.result.parts.inpos d.result.parts.outpos) c.session-next.ensures))
-
-pub returns-in-Skip : goal.returns-in-Skip
-returns-in-Skip c =
-    let r = (goal.at.returns-in-Skip c).After-session-next in
-    let d = c.run_ops-d in
-    ends r c.in-Skip.is
-    (ap (λ (e : Ended). ended_in e c.args.page.now d.new.memory d.new.output) (c.stopped-in-Skip.ensures ∙ ap (λ (x : Session). stopped 0 x d.result.parts.inpos d.result.parts.outpos) c.session-next.ensures))
+    let e = ap (λ (e : Ended). ended_in e c.args.page.now d.new.memory d.new.output) (c.stopped.ensures ∙ ap (λ (x : Session). stopped 0 x d.result.parts.inpos d.result.parts.outpos) c.session-next.ensures) in
+    elim c.in-On.is [ inl h ↦ ends r h e | inr h ↦ ends r h e ]
 
 pub returns-in-Stop : goal.returns-in-Stop
 returns-in-Stop c =
     let r = (goal.at.returns-in-Stop c).After-session-next in
     let d = c.run_ops-d in
     ends r c.in-Stop.is
-    (ap (λ (e : Ended). ended_in e c.args.page.now d.new.memory d.new.output) (c.stopped-in-Stop.ensures ∙ ap (λ (x : Session). stopped c.in-Stop.k x d.result.parts.inpos d.result.parts.outpos) c.session-next.ensures))
+    (ap (λ (e : Ended). ended_in e c.args.page.now d.new.memory d.new.output) (c.stopped-in-Stop.ensures ∙ ap (λ (x : Session). stopped c.in-Stop.k.0 x d.result.parts.inpos d.result.parts.outpos) c.session-next.ensures))
 
 pub returns-in-Go : goal.returns-in-Go
 returns-in-Go c =

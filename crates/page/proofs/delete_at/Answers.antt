@@ -11,15 +11,15 @@ use Rattle.page.proofs.Edits.{delete-absent, delete-endless, delete-done}
 use Rattle.page.proofs.Moves.{part-spliced, front-spliced}
 use Rattle.page.proofs.delete_at.Goals as goal
 
-pub returns-then-gone-lt1 : goal.returns-then-gone-lt1
-returns-then-gone-lt1 c = delete-absent c.args.page.now c.args.seat c.if-gone-lt1.true
+pub returns-then-gone-eq0 : goal.returns-then-gone-eq0
+returns-then-gone-eq0 c = delete-absent c.args.page.now c.args.seat (omega arith)
 
 -- the used bytes of the whole page, which the walk from the seat on gives
-pub returns-then-room-top : goal.returns-then-room-top
-returns-then-room-top c =
+pub returns-then-page-top : goal.returns-then-page-top
+returns-then-page-top c =
     let a = c.args in
     let k : c.used_from-top.result ≡ used a.page.now = c.used_from-top.ensures ∙ c.requires.rest in
-    delete-endless a.page.now a.seat c.if-gone-lt1.false (omega arith)
+    delete-endless a.page.now a.seat (omega arith) (omega arith)
 
 pub returns : goal.returns
 returns c =
@@ -32,4 +32,4 @@ returns c =
     ap (λ (l : List ℕ). changed l edited.Done)
     (part-spliced a.page.now [] c.shift.new.s s.at s.gone x (omega arith) (c.shift.ensures ∙ front-spliced q [] s.gone (x - s.at))
     ∙ ap (λ (n : ℕ). spliced a.page.now s.at s.gone n []) k)
-    ∙ delete-done a.page.now s c.if-gone-lt1.false (omega arith)
+    ∙ delete-done a.page.now s (omega arith) (omega arith)

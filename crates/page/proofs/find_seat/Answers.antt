@@ -7,7 +7,7 @@ use borrow.Author.Tests.{eq-eqb, ne_eqb, lt-ltb, le-ltb}
 use Rattle.nibl.specs.Page.{records_of, line_at, length_at, used_by, used, size}
 use Rattle.page.specs.Edits.{Seated, seat_in, seat_of}
 use Rattle.page.specs.Walk.{record_at, cut}
-use Rattle.page.proofs.Walk.{Stood, stood, stops, cut_in, cut_most, drop-cut, not-true, size_is}
+use Rattle.page.proofs.Walk.{Stood, stood, stops, cut_in, cut_most, drop-cut, not-true, size_is, size-said}
 use Rattle.page.proofs.Edits.{seated}
 use Rattle.page.proofs.find_seat.Goals as goal
 
@@ -33,8 +33,8 @@ returns-then-line-n c =
     let q = drop l.at a.page.now in
     let m : Stood a.page.now l.at (length_at q) = stood _ _ _ refl (sym c.has_record.ensures ∙ c.loop-line-test.true) in
     let e = sym c.number_at-line.ensures ∙ c.if-line-n.true in
-    let s = c.size_at-size.ensures ∙ size_is q (not-true _ (sym c.has_record.ensures ∙ c.loop-line-test.true)) in
-    here a.page.now n l.at c.size_at-size.result m l.invariant.0 l.invariant.1 (rw (m.records, le-ltb (line_at q) n (omega arith), eq-eqb (line_at q) n e, s))
+    let s = c.unwrap_or-size.ensures ∙ size-said q c.size_at.result c.size_at.ensures ∙ size_is q (not-true _ (sym c.has_record.ensures ∙ c.loop-line-test.true)) in
+    here a.page.now n l.at c.unwrap_or-size.result m l.invariant.0 l.invariant.1 (rw (m.records, le-ltb (line_at q) n (omega arith), eq-eqb (line_at q) n e, s))
 
 pub returns-then-n-line : goal.returns-then-n-line
 returns-then-n-line c =
@@ -74,7 +74,7 @@ returns c =
     let p = a.page.now in
     let n = a.number.0 in
     let e = stops p l.at (sym c.has_record.ensures ∙ c.loop-line-test.false) in
-    let r = c.reach-end.ensures in
+    let r = c.reach.ensures in
     seated
     (ap (λ (x : ℕ). record { at = x; gone = 0 }) r ∙ ap (seat_in n (cut p l.at)) (sym e) ∙ l.invariant.0)
     (omega (arith, r, cut_most p l.at))

@@ -1,18 +1,17 @@
 -- `line_from` meets its contract: what is passed up to the CR is the text. Assumes nothing.
-use Prim.Native.Nat.{ℕ, ◌-◌}
-use mathlib.Core.Path.{◌≡◌, ap, ◌∙◌}
-use native.Mathlib.Omega.{arith}
-use lib.ListN.{length, take, drop}
-use Rattle.nibl.specs.Runs.{line_from}
-use Rattle.nibl.specs.Bytes.{not_cr}
-use Rattle.page.proofs.Texts.{line-inside, front-part}
+use Rattle.std.proofs.Common.{◌≡◌, ◌∙◌, ap, ℕ, ◌-◌, ◌==◌, List, Option, drop, take, length}
+use Rattle.std.specs.List.{position}
+use Rattle.std.specs.Option.{unwrap_or}
+use Rattle.page.proofs.Texts.{rest_is, first-part}
 use Rattle.page.proofs.line_from.Goals as goal
-
-pub slice_bounds-result-end-2 : goal.slice_bounds-result-end-2
-slice_bounds-result-end-2 c = let a = c.args in omega (arith, c.text_end-e.ensures, line-inside a.s.now a.at (omega arith))
 
 pub returns : goal.returns
 returns c =
-    let a = c.args in
-    let e : c.text_end-e.result - a.at ≡ length (line_from a.s.now a.at) = omega (arith, c.text_end-e.ensures) in
-    ap (λ (n : ℕ). take n (drop a.at a.s.now)) e ∙ front-part not_cr (drop a.at a.s.now)
+    let s = c.args.s.now in
+    let q = drop c.args.at s in
+    let r : take (length s - c.min.result) (drop c.min.result s) ≡ q = rw c.min.ensures (rest_is s c.args.at) in
+    let e : c.unwrap_or.result ≡ unwrap_or (position (λ (b : ℕ). b == 13) q) (length q) =
+    c.unwrap_or.ensures
+    ∙ ap (λ (o : Option ℕ). unwrap_or o (length (take (length s - c.min.result) (drop c.min.result s)))) c.find_cr.ensures
+    ∙ ap (λ (l : List ℕ). unwrap_or (position (λ (b : ℕ). b == 13) l) (length l)) r in
+    (λ i. take (e i) (r i)) ∙ first-part q

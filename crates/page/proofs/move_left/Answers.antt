@@ -10,10 +10,7 @@ pub loop-i-preserved : goal.loop-i-preserved
 loop-i-preserved c =
     let l = c.loop-i in
     let a = c.args in (
-      omega arith,
-      (
-        length-set l.s (a.to + l.i) (get_or l.s (a.from + l.i) 0) ∙ l.invariant.1.0,
-        ap (λ (x : List ℕ). set x (a.to + l.i) (get_or x (a.from + l.i) 0)) l.invariant.1.1
-            ∙ left_step a.s.now a.from a.to l.i (omega arith) (omega arith),
-      ),
+      length-set l.s (a.to + l.i) (get_or l.s (a.from + l.i) 0) ∙ l.invariant.0,
+      ap (λ (x : List ℕ). set x (a.to + l.i) (get_or x (a.from + l.i) 0)) l.invariant.1
+          ∙ left_step a.s.now a.from a.to l.i (omega arith) (omega arith),
     )

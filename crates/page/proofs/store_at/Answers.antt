@@ -10,6 +10,7 @@ use Rattle.page.specs.declared.Edited.TheVariants as edited
 use Rattle.page.proofs.Edits.{store-endless, store_long, store-full, store-done}
 use Rattle.page.proofs.Moves.{part-spliced}
 use Rattle.page.proofs.store_at.Goals as goal
+use Rattle.page.proofs.store_at.Goals.{then-page-top-via-then-page-top, then-page-top-via-else-page-top+then-size-gt-MOST, then-page-top-via-else-page-top+else-size-gt-MOST+then-page-top-2}
 
 -- an edit of the part from the seat on, by the number of bytes that stay behind it, is one of the page
 part-kept : (p r last : List ℕ) (at gone top : ℕ) → at ≤ length p → at + gone ≤ top
@@ -18,21 +19,18 @@ part-kept p r last at gone top h k e =
     let f : gone + (top - gone - at) ≡ top - at = omega arith in
     part-spliced p r last at gone top h (e ∙ ap (λ (n : ℕ). spliced (take (length p - at) (drop at p)) 0 gone n r) f)
 
--- the used bytes of the whole page, which the walk from the seat on gives
-pub returns-then-room-top : goal.returns-then-room-top
-returns-then-room-top c =
+pub returns-then-page-top : goal.returns-then-page-top
+returns-then-page-top c =
     let a = c.args in
     let k : c.used_from-top.result ≡ used a.page.now = c.used_from-top.ensures ∙ c.requires.rest in
-    store-endless a.page.now a.seat a.number.0 a.text.now (omega arith)
+    elim c.then-page-top.branch [
+      | then-page-top-via-then-page-top w ↦ store-endless a.page.now a.seat a.number.0 a.text.now (omega arith)
+      | then-page-top-via-else-page-top+then-size-gt-MOST w ↦ store_long a.page.now a.seat a.number.0 a.text.now (omega arith) (omega arith)
+      | then-page-top-via-else-page-top+else-size-gt-MOST+then-page-top-2 w ↦ store-full a.page.now a.seat a.number.0 a.text.now (omega arith) (omega arith) (omega arith)
+    ]
 
-pub returns-then-size-gt-MOST : goal.returns-then-size-gt-MOST
-returns-then-size-gt-MOST c =
-    let a = c.args in
-    let k : c.used_from-top.result ≡ used a.page.now = c.used_from-top.ensures ∙ c.requires.rest in
-    store_long a.page.now a.seat a.number.0 a.text.now (omega arith) c.if-size-gt-MOST.true
-
-pub returns-then-kept-size : goal.returns-then-kept-size
-returns-then-kept-size c =
+pub returns : goal.returns
+returns c =
     let a = c.args in
     let h = c.requires in
     let k : c.used_from-top.result ≡ used a.page.now = c.used_from-top.ensures ∙ c.requires.rest in
@@ -43,10 +41,3 @@ returns-then-kept-size c =
     (part-kept a.page.now (record_bytes r) c.put_in.new.s s.at s.gone x (omega arith) (omega arith) c.put_in.ensures
     ∙ ap (λ (n : ℕ). spliced a.page.now s.at s.gone n (record_bytes r)) k)
     ∙ store-done a.page.now s a.number.0 a.text.now (omega arith) (omega arith) (omega arith)
-
-pub returns : goal.returns
-returns c =
-    let a = c.args in
-    let h = c.requires in
-    let k : c.used_from-top.result ≡ used a.page.now = c.used_from-top.ensures ∙ c.requires.rest in
-    store-full a.page.now a.seat a.number.0 a.text.now (omega arith) (omega arith) (omega arith)

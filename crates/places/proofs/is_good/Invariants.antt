@@ -1,5 +1,4 @@
 -- `is_good` meets its contract: each record passed leaves the page as good as it is from there on. Assumes nothing.
--- a record that may stand here was found
 use Prim.Native.Nat.{◌-◌, ◌≤◌}
 use mathlib.Core.Path.{◌≡◌}
 use lib.ListN.{length, drop}

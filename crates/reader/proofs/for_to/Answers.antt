@@ -10,24 +10,24 @@ use Rattle.reader.proofs.Ways.{for-is, for-none}
 use Rattle.reader.proofs.for_to.Goals as goal
 
 pub returns-in_default : goal.returns-in_default
-returns-in_default c = for-none (unvariable c.kind_at-w.result c.kind_at-w.ensures (opened c.in_default.in_default-own.keys2))
+returns-in_default c = for-none (unvariable c.kind_at.result c.kind_at.ensures (opened c.in_default.in_default-own.keys2))
 
 pub read_relation-a-requires : goal.read_relation-a-requires
 read_relation-a-requires c =
-    let h = heads-variable (subst (KindIs _ _) c.in-Variable.is c.kind_at-w.ensures) in
+    let h = heads-variable (subst (KindIs _ _) c.in-Variable.is c.kind_at.ensures) in
     let a = room-key (room-over c.requires (stood-over h)) c.past_sign-e.ensures in
     (room-low {i = 0} (omega arith) a).fits
 
 pub read_relation-b-requires : goal.read_relation-b-requires
 read_relation-b-requires c =
-    let h = heads-variable (subst (KindIs _ _) c.in-Variable.is c.kind_at-w.ensures) in
+    let h = heads-variable (subst (KindIs _ _) c.in-Variable.is c.kind_at.ensures) in
     let a = room-key (room-over c.requires (stood-over h)) c.past_sign-e.ensures in
     let b = room-key (room-reads a c.read_relation-a.ensures c.read_relation-a.auto.ops) c.past_sign-t.ensures in
     (room-low {i = 0} (omega arith) b).fits
 
 pub step-s-requires : goal.step-s-requires
 step-s-requires c =
-    let h = heads-variable (subst (KindIs _ _) c.in-Variable.is c.kind_at-w.ensures) in
+    let h = heads-variable (subst (KindIs _ _) c.in-Variable.is c.kind_at.ensures) in
     let a = room-key (room-over c.requires (stood-over h)) c.past_sign-e.ensures in
     let b = room-key (room-reads a c.read_relation-a.ensures c.read_relation-a.auto.ops) c.past_sign-t.ensures in
     let d = room-reads b c.read_relation-b.ensures c.read_relation-b.auto.ops in
@@ -35,7 +35,7 @@ step-s-requires c =
 
 pub write-requires : goal.write-requires
 write-requires c =
-    let h = heads-variable (subst (KindIs _ _) c.in-Variable.is c.kind_at-w.ensures) in
+    let h = heads-variable (subst (KindIs _ _) c.in-Variable.is c.kind_at.ensures) in
     let a = room-key (room-over c.requires (stood-over h)) c.past_sign-e.ensures in
     let b = room-key (room-reads a c.read_relation-a.ensures c.read_relation-a.auto.ops) c.past_sign-t.ensures in
     let d = room-reads b c.read_relation-b.ensures c.read_relation-b.auto.ops in
@@ -43,5 +43,5 @@ write-requires c =
 
 pub returns : goal.returns
 returns c =
-    let h = heads-variable (subst (KindIs _ _) c.in-Variable.is c.kind_at-w.ensures) in
-    for-is (omega (arith, c.operation.ensures, c.wide.ensures)) h c.past_sign-e.ensures c.read_relation-a.ensures c.past_sign-t.ensures c.read_relation-b.ensures c.step-s.ensures c.write.ensures
+    let h = heads-variable (subst (KindIs _ _) c.in-Variable.is c.kind_at.ensures) in
+    for-is (omega (arith, c.operation.ensures)) h c.past_sign-e.ensures c.read_relation-a.ensures c.past_sign-t.ensures c.read_relation-b.ensures c.step-s.ensures c.write.ensures

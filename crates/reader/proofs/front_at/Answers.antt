@@ -6,18 +6,18 @@ use Rattle.reader.proofs.Ways.{front-assigns, front-symbol, front-if, front-keyw
 use Rattle.reader.proofs.front_at.Goals as goal
 
 pub returns-then-k-lt-KEYWORD : goal.returns-then-k-lt-KEYWORD
-returns-then-k-lt-KEYWORD c = front-symbol c.if-k-lt-KEYWORD.true (subst (KindIs _ _) c.in-Sign.is c.kind_at-w.ensures)
+returns-then-k-lt-KEYWORD c = front-symbol c.if-k-lt-KEYWORD.true (subst (KindIs _ _) c.in-Sign.is c.kind_at.ensures)
 
 pub returns-then-k : goal.returns-then-k
-returns-then-k c = front-if c.if-k.true (subst (KindIs _ _) c.in-Sign.is c.kind_at-w.ensures)
+returns-then-k c = front-if c.if-k.true (subst (KindIs _ _) c.in-Sign.is c.kind_at.ensures)
 
 pub returns-in-Variable : goal.returns-in-Variable
 returns-in-Variable c =
-    front-assigns (omega (arith, c.operation.ensures, c.wide.ensures)) (subst (KindIs _ _) c.in-Variable.is c.kind_at-w.ensures)
+    front-assigns (omega (arith, c.operation.ensures)) (subst (KindIs _ _) c.in-Variable.is c.kind_at.ensures)
 
 pub returns-else-k : goal.returns-else-k
 returns-else-k c =
-    front-keyword (omega (arith, c.if-k-lt-KEYWORD.false)) c.if-k.false (subst (KindIs _ _) c.in-Sign.is c.kind_at-w.ensures)
+    front-keyword (omega (arith, c.if-k-lt-KEYWORD.false)) c.if-k.false (subst (KindIs _ _) c.in-Sign.is c.kind_at.ensures)
 
 pub returns-in_default : goal.returns-in_default
-returns-in_default c = front-none c.kind_at-w.result c.kind_at-w.ensures c.in_default.in_default-own.keys3
+returns-in_default c = front-none c.kind_at.result c.kind_at.ensures c.in_default.in_default-own.keys3

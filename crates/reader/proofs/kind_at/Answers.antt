@@ -10,13 +10,13 @@ pub returns-in_default : goal.returns-in_default
 returns-in_default c = kind-none c.in_default.is
 
 pub returns-in-Variable : goal.returns-in-Variable
-returns-in-Variable c = kind-variable c.in-Next.is (subst (WordIs keywords _ _) c.in-Variable.is c.word_at-w.ensures)
+returns-in-Variable c = kind-variable c.in-Some.is (subst (WordIs keywords _ _) c.in-Variable.is c.word_at.ensures)
 
 pub returns-in-Text : goal.returns-in-Text
-returns-in-Text c = kind-text c.in-Next.is (subst (WordIs keywords _ _) c.in-Text.is c.word_at-w.ensures)
+returns-in-Text c = kind-text c.in-Some.is (subst (WordIs keywords _ _) c.in-Text.is c.word_at.ensures)
 
 pub returns-in-Sign : goal.returns-in-Sign
-returns-in-Sign c = kind-sign c.in-Next.is (subst (WordIs keywords _ _) c.in-Sign.is c.word_at-w.ensures)
+returns-in-Sign c = kind-sign c.in-Some.is (subst (WordIs keywords _ _) c.in-Sign.is c.word_at.ensures)
 
-pub returns-in_default-w : goal.returns-in_default-w
-returns-in_default-w c = kind-other c.in-Next.is c.word_at-w.result c.word_at-w.ensures (opened c.in_default-w.in_default-w-own.keys4)
+pub returns-in_default-word_at : goal.returns-in_default-word_at
+returns-in_default-word_at c = kind-other c.in-Some.is c.word_at.result c.word_at.ensures (opened c.in_default-word_at.in_default-word_at-own.keys4)

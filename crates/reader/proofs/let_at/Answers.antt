@@ -7,10 +7,10 @@ use Rattle.reader.proofs.let_at.Goals as goal
 
 pub returns-in-Variable : goal.returns-in-Variable
 returns-in-Variable c =
-    let-variable _ (omega (arith, c.operation.ensures, c.wide.ensures)) (subst (KindIs _ _) c.in-Variable.is c.kind_at-w.ensures) c.assigned.ensures
+    let-variable _ (omega (arith, c.operation.ensures)) (subst (KindIs _ _) c.in-Variable.is c.kind_at.ensures) c.assigned.ensures
 
 pub returns-in-Sign : goal.returns-in-Sign
-returns-in-Sign c = let-sign (subst (KindIs _ _) c.in-Sign.is c.kind_at-w.ensures) c.let_form.ensures
+returns-in-Sign c = let-sign (subst (KindIs _ _) c.in-Sign.is c.kind_at.ensures) c.let_form.ensures
 
 pub returns-in_default : goal.returns-in_default
-returns-in_default c = let-none c.kind_at-w.result c.kind_at-w.ensures c.in_default.in_default-own.keys3
+returns-in_default c = let-none c.kind_at.result c.kind_at.ensures c.in_default.in_default-own.keys3

@@ -9,8 +9,8 @@ use borrow.Enum.Refused.{opened}
 use Rattle.reader.proofs.with_variable.Goals as goal
 
 pub returns-in_default : goal.returns-in_default
-returns-in_default c = missing (unvariable c.kind_at-w.result c.kind_at-w.ensures (opened c.in_default.in_default-own.keys2))
+returns-in_default c = missing (unvariable c.kind_at.result c.kind_at.ensures (opened c.in_default.in_default-own.keys2))
 
 pub returns : goal.returns
 returns c =
-    variable-is _ (omega (arith, c.operation.ensures, c.wide.ensures)) (heads-variable (subst (KindIs _ _) c.in-Variable.is c.kind_at-w.ensures)) c.write.ensures
+    variable-is _ (omega (arith, c.operation.ensures)) (heads-variable (subst (KindIs _ _) c.in-Variable.is c.kind_at.ensures)) c.write.ensures

@@ -29,20 +29,20 @@ decreases-sum_at l = 8 * suc (length l.text.now - l.from) + 4
 abbrev pub decreases-term_at : goal.decreases-term_at
 decreases-term_at l = 8 * suc (length l.text.now - l.from) + 3
 
-abbrev pub invariant-relation_at-loop-from : goal.invariant-relation_at-loop-from
-invariant-relation_at-loop-from l = Relating l.text l.initial.ops (standing l.from l.initial.n) l.ops (standing l.at l.n) l.waits
+abbrev pub invariant-relation_at-loop-d : goal.invariant-relation_at-loop-d
+invariant-relation_at-loop-d l = Relating l.text l.initial.ops (standing l.from l.initial.n) l.ops (standing l.at l.n) l.waits
 
-abbrev pub decreases-relation_at-loop-from : goal.decreases-relation_at-loop-from
-decreases-relation_at-loop-from l = length l.text - l.at
+abbrev pub decreases-relation_at-loop-d : goal.decreases-relation_at-loop-d
+decreases-relation_at-loop-d l = length l.text - l.at
 
-abbrev pub invariant-sum_at-loop-from : goal.invariant-sum_at-loop-from
-invariant-sum_at-loop-from l = Waiting (read sum) term (λ a. read (terms a)) l.text l.initial.ops (standing l.from l.initial.n) l.ops (standing l.at l.n) l.waits
+abbrev pub invariant-sum_at-loop-d : goal.invariant-sum_at-loop-d
+invariant-sum_at-loop-d l = Waiting (read sum) term (λ a. read (terms a)) l.text l.initial.ops (standing l.from l.initial.n) l.ops (standing l.at l.n) l.waits
 
-abbrev pub decreases-sum_at-loop-from : goal.decreases-sum_at-loop-from
-decreases-sum_at-loop-from l = length l.text - l.at
+abbrev pub decreases-sum_at-loop-d : goal.decreases-sum_at-loop-d
+decreases-sum_at-loop-d l = length l.text - l.at
 
-abbrev pub invariant-term_at-loop-from : goal.invariant-term_at-loop-from
-invariant-term_at-loop-from l = Waiting (read term) factor (λ a. read (factors a)) l.text l.initial.ops (standing l.from l.initial.n) l.ops (standing l.at l.n) l.waits
+abbrev pub invariant-term_at-loop-d : goal.invariant-term_at-loop-d
+invariant-term_at-loop-d l = Waiting (read term) factor (λ a. read (factors a)) l.text l.initial.ops (standing l.from l.initial.n) l.ops (standing l.at l.n) l.waits
 
-abbrev pub decreases-term_at-loop-from : goal.decreases-term_at-loop-from
-decreases-term_at-loop-from l = length l.text - l.at
+abbrev pub decreases-term_at-loop-d : goal.decreases-term_at-loop-d
+decreases-term_at-loop-d l = length l.text - l.at

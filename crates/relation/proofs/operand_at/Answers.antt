@@ -8,7 +8,7 @@ use Rattle.relation.proofs.operand_at.Goals as goal
 pub returns-then-is_variable : goal.returns-then-is_variable
 returns-then-is_variable c =
     let t = variable-there c.args.text.now c.args.at (sym c.is_variable.ensures ∙ c.if-is_variable.true) in
-    let v = c.operation.ensures ∙ ap (op code_variable) (c.wide.ensures ∙ ap (λ b. b - 65) c.byte_at-b.ensures) in
+    let v = c.operation.ensures ∙ ap (op code_variable) (c.from.ensures ∙ ap (λ b. b - 65) c.byte_at-b.ensures) in
     variable-operand t v c.put.ensures.0 c.put.ensures.1
 
 pub returns : goal.returns

@@ -9,19 +9,19 @@ pub returns-then-stands : goal.returns-then-stands
 returns-then-stands c =
     let a = c.args in
     let i = c.space_end-i in
-    joint-symbol term_joints a.text.now a.from _ i.ensures plus c.joined.ensures.1 43 refl refl (sym c.stands.ensures ∙ c.if-stands.true) c.joined.ensures.0
+    joint-symbol term_joints a.text.now a.from _ i.ensures plus 43 refl refl (sym c.stands.ensures ∙ c.if-stands.true) c.joined.ensures
 
 pub returns-then-stands-2 : goal.returns-then-stands-2
 returns-then-stands-2 c =
     let a = c.args in
     let i = c.space_end-i in
-    joint-symbol term_joints a.text.now a.from _ i.ensures minus c.joined-then-stands-2.ensures.1 45 refl refl (sym c.stands-2.ensures ∙ c.if-stands-2.true) c.joined-then-stands-2.ensures.0
+    joint-symbol term_joints a.text.now a.from _ i.ensures minus 45 refl refl (sym c.stands-2.ensures ∙ c.if-stands-2.true) c.joined-then-stands-2.ensures
 
 pub returns-then-stands-3 : goal.returns-then-stands-3
 returns-then-stands-3 c =
     let a = c.args in
     let i = c.space_end-i in
-    joint-keyword term_joints a.text.now a.from _ i.ensures or_bits c.joined-then-stands-3.ensures.1 79 82 151 ([]) or_word refl (sym c.stands-3.ensures ∙ c.if-stands-3.true) c.joined-then-stands-3.ensures.0
+    joint-keyword term_joints a.text.now a.from _ i.ensures or_bits 79 82 151 ([]) or_word refl (sym c.stands-3.ensures ∙ c.if-stands-3.true) c.joined-then-stands-3.ensures
 
 pub returns : goal.returns
 returns c =

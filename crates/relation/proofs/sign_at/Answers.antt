@@ -1,21 +1,13 @@
-use mathlib.Core.Path.{subst}
-use Rattle.nibl.specs.Words.{keywords}
-use Rattle.word.specs.Found.{WordIs}
+use Rattle.std.proofs.Common.{◌≡◌, None, rules}
 use Rattle.relation.proofs.Signs.{halted, sign-none, sign-found}
-use borrow.Author.Rules.{rules}
-use borrow.Enum.Refused.{Among, opened}
-use denote.Enum.Declared.{tag_of}
-use Rattle.std.proofs.Common.{[], ◌∷◌}
-use Rattle.word.specs.contracts.Word.{the_type}
 use Rattle.relation.proofs.sign_at.Goals as goal
 
+pub returns-in_err-c : goal.returns-in_err-c
+returns-in_err-c c =
+    let e : c.from_residual.result ≡ None = search rules in rw e (halted c.in_err-c.was)
+
+pub returns-in-Sign : goal.returns-in-Sign
+returns-in-Sign c = sign-found c.in_ok-c.was c.in-Sign.ensures
+
 pub returns-in_default : goal.returns-in_default
-returns-in_default c = halted c.in_default.is
-
-pub returns-in_default-w : goal.returns-in_default-w
-returns-in_default-w c =
-    let k : Among (0 ∷ 1 ∷ 2 ∷ 3 ∷ 5 ∷ 6 ∷ []) (tag_of the_type c.word_at-w.result) = search rules in
-    sign-none c.word_at-w.result c.in-Next.is c.word_at-w.ensures (opened k)
-
-pub returns : goal.returns
-returns c = sign-found c.in-Next.is (subst (WordIs keywords _ _) c.in-Sign.is c.word_at-w.ensures)
+returns-in_default c = sign-none c.word_at.result c.in_ok-c.was c.word_at.ensures c.in_default.not-Sign

@@ -9,19 +9,19 @@ pub returns-then-stands : goal.returns-then-stands
 returns-then-stands c =
     let a = c.args in
     let i = c.space_end-i in
-    joint-symbol factor_joints a.text.now a.from _ i.ensures times c.joined.ensures.1 42 refl refl (sym c.stands.ensures ∙ c.if-stands.true) c.joined.ensures.0
+    joint-symbol factor_joints a.text.now a.from _ i.ensures times 42 refl refl (sym c.stands.ensures ∙ c.if-stands.true) c.joined.ensures
 
 pub returns-then-stands-2 : goal.returns-then-stands-2
 returns-then-stands-2 c =
     let a = c.args in
     let i = c.space_end-i in
-    joint-symbol factor_joints a.text.now a.from _ i.ensures divided_by c.joined-then-stands-2.ensures.1 47 refl refl (sym c.stands-2.ensures ∙ c.if-stands-2.true) c.joined-then-stands-2.ensures.0
+    joint-symbol factor_joints a.text.now a.from _ i.ensures divided_by 47 refl refl (sym c.stands-2.ensures ∙ c.if-stands-2.true) c.joined-then-stands-2.ensures
 
 pub returns-then-stands-3 : goal.returns-then-stands-3
 returns-then-stands-3 c =
     let a = c.args in
     let i = c.space_end-i in
-    joint-keyword factor_joints a.text.now a.from _ i.ensures and_bits c.joined-then-stands-3.ensures.1 65 78 150 (68 ∷ []) and_word refl (sym c.stands-3.ensures ∙ c.if-stands-3.true) c.joined-then-stands-3.ensures.0
+    joint-keyword factor_joints a.text.now a.from _ i.ensures and_bits 65 78 150 (68 ∷ []) and_word refl (sym c.stands-3.ensures ∙ c.if-stands-3.true) c.joined-then-stands-3.ensures
 
 pub returns : goal.returns
 returns c =

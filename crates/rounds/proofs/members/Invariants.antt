@@ -1,6 +1,9 @@
 -- `members` is safe and ends: a record a turn.
-use Rattle.std.proofs.Common.{length, ◌-◌}
+use Rattle.std.proofs.Common.{length, ◌-◌, ◌≤◌}
 use Rattle.rounds.proofs.members.Given as goal
 
-abbrev pub decreases-loop-at : goal.decreases-loop-at
-decreases-loop-at l = length l.page - l.at
+abbrev pub invariant-loop-size : goal.invariant-loop-size
+invariant-loop-size l = l.at ≤ length l.page
+
+abbrev pub decreases-loop-size : goal.decreases-loop-size
+decreases-loop-size l = length l.page - l.at

@@ -1,5 +1,5 @@
--- `rounds_by_table` is safe and ends: the table is made of the page, and a round's stamp is no part of that.
-use Rattle.std.proofs.Common.{◌≡◌, ◌-◌, ◌<◌, length}
+-- `rounds_by_table` is safe: the table is made of the page, and a round's stamp is no part of that.
+use Rattle.std.proofs.Common.{◌≡◌, ◌<◌, length}
 use Rattle.table.specs.Index.{Indexed}
 use Rattle.rounds.proofs.Stamped.{behind}
 use Rattle.rounds.proofs.rounds_by_table.Given as goal
@@ -10,6 +10,3 @@ invariant-loop-i l = record {
   same_length : length l.bytes ≡ length l.initial.bytes;
   indexed : Indexed (behind l.bytes) l.table;
 }
-
-abbrev pub decreases-loop-i : goal.decreases-loop-i
-decreases-loop-i l = l.n - l.i

@@ -1,4 +1,5 @@
 -- `run_steps` meets its contract: what is left of the run, after the steps so far, leaves what the whole run does. Assumes nothing.
+use Rattle.std.specs.Prelude.{Result, Ok, Err}
 use Prim.Native.Nat.{ℕ, ◌+◌, ◌-◌, ◌<◌}
 use mathlib.Core.List.{List, [], ◌∷◌}
 use mathlib.Core.Path.{◌≡◌, refl, sym, ap, ◌∙◌}
@@ -12,6 +13,7 @@ use Rattle.nibl.specs.Runs.{stop_at, run_from, run_outcome}
 use Rattle.nibl.specs.declared.Place.{Place}
 use Rattle.nibl.specs.declared.Parts.{Parts}
 use Rattle.nibl.specs.declared.Onward.{Onward}
+use Rattle.nibl.specs.declared.stop.Stop.{Stop}
 use Rattle.page.specs.Standing.{Stands}
 use Rattle.page.proofs.Standing.{stands-inside, fetches-read}
 use Rattle.record.specs.Fit.{Fit}
@@ -21,8 +23,6 @@ use Rattle.operation.specs.Operations.{run_ops}
 use Rattle.effect.specs.Worlds.{world_with, env_with, did, did_in}
 use Rattle.statement.specs.Plain.{Around}
 use Rattle.statement.proofs.Plainly.{plain-ends, plain-calls, plain-loops, plain-counts, plain-needs, plain-within}
-use Rattle.run.specs.declared.Led.{Led}
-use Rattle.run.specs.declared.Led.TheVariants as by
 use Rattle.run.specs.StepEnds.{StepEnd, led_to, done_end, step_of, tally}
 use Rattle.run.specs.Running.{ran_to, ran_in, pause_of}
 use Rattle.run.proofs.Starts.{ready-fair}
@@ -66,13 +66,13 @@ module _ (j : Joined-r) where
   from = position_of j.loop-count.q
 
   abbrev at : Place
-  at = j.in-Member.at
+  at = j.in-Some.at
 
   abbrev cr : Place
-  cr = j.in-Member.cr
+  cr = j.in-Some.cr
 
   abbrev ops : List ℕ
-  ops = take j.in-Member.count j.fetch-f.new.ops
+  ops = take j.in-Some.count j.fetch.new.ops
 
   abbrev vars-plain : List ℕ
   vars-plain = j.run_plain-r.new.vars
@@ -85,7 +85,7 @@ module _ (j : Joined-r) where
   around = record {
     lim = length j.loop-count.reply;
     input = j.args.input.now;
-    here = j.in-Member.at;
+    here = j.in-Some.at;
     gosubs = j.loop-count.p.gosubs;
     inpos = j.loop-count.p.inpos;
     outpos = j.loop-count.p.outpos;
@@ -93,7 +93,7 @@ module _ (j : Joined-r) where
   }
 
   abbrev runs : Done
-  runs = run_ops (env_with (length j.loop-count.reply) j.args.page.now j.args.input.now j.args.sight j.in-Member.at) (take j.in-Member.count j.fetch-f.new.ops) (world_with j.loop-count.vars j.loop-count.p j.loop-count.memory j.loop-count.output) []
+  runs = run_ops (env_with (length j.loop-count.reply) j.args.page.now j.args.input.now j.args.sight j.in-Some.at) (take j.in-Some.count j.fetch.new.ops) (world_with j.loop-count.vars j.loop-count.p j.loop-count.memory j.loop-count.output) []
 
   abbrev Came : (vars memory output reply replies values : List ℕ) → Parts → Way → Type 0
   Came vars memory output reply replies values p way =
@@ -147,11 +147,11 @@ module _ (j : Joined-r) where
             w.vars-is w.memory-is w.output-is w.reply-is w.replies-is w.values-is w.p-is w.way'-is
       ]
 
-  fetches : NextMember j.args.page.now (position_of j.loop-count.q) (take j.in-Member.count j.fetch-f.new.ops) (position j.in-Member.at) (position j.in-Member.cr)
-  fetches = fetch-found j.args.page.now (position_of j.loop-count.q) (rw j.in-Member.is at j.fetch-f.ensures.0)
+  fetches : NextMember j.args.page.now (position_of j.loop-count.q) (take j.in-Some.count j.fetch.new.ops) (position j.in-Some.at) (position j.in-Some.cr)
+  fetches = fetch-found j.args.page.now (position_of j.loop-count.q) (rw j.in-Some.is at j.fetch.ensures.0)
 
   abbrev t : StepEnd
-  t = done_end (did_in (did j.match-r.way' j.match-r.p) j.match-r.vars j.match-r.memory j.match-r.output) (position j.in-Member.at) (position j.in-Member.cr)
+  t = done_end (did_in (did j.match-r.way' j.match-r.p) j.match-r.vars j.match-r.memory j.match-r.output) (position j.in-Some.at) (position j.in-Some.cr)
 
   -- the step, by what its operations did; the slots of the line are as many as before
   is-step : t ≡ step_of env fetches.it world
@@ -163,7 +163,7 @@ module _ (j : Joined-r) where
   some_left : j.loop-count.left ≡ 0 → ⊥
   some_left = j.if-left-eq0.false
 
-  place-small : position j.in-Member.at < 65535
+  place-small : position j.in-Some.at < 65535
   place-small =
       let b = j.requires.0 in
       let i = step-inside lim env b.short b.good from fetches.it j.loop-count.invariant.1 fetches.fetches world j.loop-count.invariant.2 t is-step in
@@ -174,7 +174,7 @@ module _ (j : Joined-r) where
   still-fits = let b = j.requires.0 in step_fits lim env b.short b.good from fetches.it j.loop-count.invariant.1 fetches.fetches world j.loop-count.invariant.2 t is-step
 
   -- where its way leads: on
-  module _ {led : Led} (leads : led_to led ≡ t.next) {o : Onward} (e : led ≡ by.To o) where
+  module _ {led : Result Onward Stop} (leads : led_to led ≡ t.next) {o : Onward} (e : led ≡ Ok o) where
     g : t.next ≡ go (position_of o)
     g = sym leads ∙ ap led_to e
 
@@ -185,18 +185,18 @@ module _ (j : Joined-r) where
     goes_on = let b = j.requires.0 in step-goes lim env b.short b.good from fetches.it j.loop-count.invariant.1 fetches.fetches world j.loop-count.invariant.2 t is-step j.loop-count.left j.loop-count.steps some_left (position_of o) g
 
   -- or to a stop, of which the answer says what the whole run comes to
-  stops_so : {led : Led} → led_to led ≡ t.next → {i : ℕ} → led ≡ by.Stops i
+  stops_so : {led : Result Onward Stop} → led_to led ≡ t.next → {i : Stop} → led ≡ Err i
       → (let b = j.args in
       let m = j.match-r in
-      ran_in (ran_to i (stop_at i (line_of page (position j.in-Member.at) ∷ [])) (j.loop-count.steps + 1) (pause_of i (position j.in-Member.at)) m.p) m.vars page m.memory m.output
+      ran_in (ran_to i.0 (stop_at i.0 (line_of page (position j.in-Some.at) ∷ [])) (j.loop-count.steps + 1) (pause_of i.0 (position j.in-Some.at)) m.p) m.vars page m.memory m.output
       ≡ run_outcome (run_from b.budget env (position_of b.from) (world_with b.vars.now b.parts b.memory.now b.output.now)) page)
   stops_so leads {i} e =
       let b = j.requires.0 in
       let m = j.match-r in
-      stop-told i (stop_at i (line_of page (position j.in-Member.at) ∷ [])) (j.loop-count.steps + 1) (position j.in-Member.at) m.p m.vars page m.memory m.output
+      stop-told i.0 (stop_at i.0 (line_of page (position j.in-Some.at) ∷ [])) (j.loop-count.steps + 1) (position j.in-Some.at) m.p m.vars page m.memory m.output
       ∙ sym
       (j.loop-count.invariant.10
-      ∙ step-stops lim env b.short b.good from fetches.it j.loop-count.invariant.1 fetches.fetches world j.loop-count.invariant.2 t is-step j.loop-count.left j.loop-count.steps some_left i (sym leads ∙ ap led_to e))
+      ∙ step-stops lim env b.short b.good from fetches.it j.loop-count.invariant.1 fetches.fetches world j.loop-count.invariant.2 t is-step j.loop-count.left j.loop-count.steps some_left i.0 (sym leads ∙ ap led_to e))
 
 pub loop-count-init : goal.loop-count-init
 loop-count-init c =
@@ -216,8 +216,8 @@ loop-count-init c =
       tally-none (run_from a.budget e (position_of a.from) (world_with a.vars.now a.parts a.memory.now a.output.now)) a.page.now,
     )
 
-pub fetch-f-requires : goal.fetch-f-requires
-fetch-f-requires c =
+pub fetch-requires : goal.fetch-requires
+fetch-requires c =
     let b = c.requires.0 in
     let r = b.room in
     let i = c.loop-count.invariant.9 in
@@ -232,7 +232,7 @@ returns-in_default c =
     let b = c.requires.0 in
     let l = c.loop-count in
     let q = position_of l.q in
-    let t = fetch-past a.page.now q (rw c.in_default.is at c.fetch-f.ensures.0) (λ x h. fetches-read (length a.reply.now) a.page.now b.short b.good q x l.invariant.1 h) in
+    let t = fetch-past a.page.now q (rw c.in_default.is at c.fetch.ensures.0) (λ x h. fetches-read (length a.reply.now) a.page.now b.short b.good q x l.invariant.1 h) in
     rw c.run_ends.ensures (sym (l.invariant.10 ∙ ends-out (env_with (length a.reply.now) a.page.now a.input.now a.sight (place mark)) q (world_with l.vars l.p l.memory l.output) l.steps l.left t))
 
 pub pause-requires : goal.pause-requires
@@ -247,7 +247,7 @@ returns-then-left-eq0 c =
     let a = c.args in
     let l = c.loop-count in
     let q = position_of l.q in
-    let f = fetch-found a.page.now q (rw c.in-Member.is at c.fetch-f.ensures.0) in
+    let f = fetch-found a.page.now q (rw c.in-Some.is at c.fetch.ensures.0) in
     rw (c.run_ends-then-left-eq0.ensures, c.pause.ensures)
     (sym (l.invariant.10 ∙ ends-dry (env_with (length a.reply.now) a.page.now a.input.now a.sight (place mark)) q (world_with l.vars l.p l.memory l.output) l.steps l.left f.it c.if-left-eq0.true f.fetches))
 
@@ -256,19 +256,19 @@ run_plain-r-requires c =
     let f = ready-fair c.requires.0 in
     let t = f.top in
     let s = f.stack in
-    let n = rw c.in-Member.is at c.fetch-f.ensures.1 in
-    let k = c.fetch-f.auto.ops in
-    let few = length-take-le c.in-Member.count c.fetch-f.new.ops (omega arith) in
+    let n = rw c.in-Some.is at c.fetch.ensures.1 in
+    let k = c.fetch.auto.ops in
+    let few = length-take-le c.in-Some.count c.fetch.new.ops (omega arith) in
     let i = c.loop-count.invariant.8 in
     let o = c.loop-count.invariant.9 in
-    ((omega arith, f.places, omega arith), c.requires.1)
+    (omega arith, f.places, omega arith)
 
 pub run_ops_from-d-requires : goal.run_ops_from-d-requires
 run_ops_from-d-requires c =
     let f = ready-fair c.requires.0 in
-    let n = rw c.in-Member.is at c.fetch-f.ensures.1 in
-    let k = c.fetch-f.auto.ops in
-    let few = length-take-le c.in-Member.count c.fetch-f.new.ops (omega arith) in
+    let n = rw c.in-Some.is at c.fetch.ensures.1 in
+    let k = c.fetch.auto.ops in
+    let few = length-take-le c.in-Some.count c.fetch.new.ops (omega arith) in
     let i = c.loop-count.invariant in
     let a = i.6 in
     let b = i.7 in
@@ -279,11 +279,8 @@ run_ops_from-d-requires c =
     let r = f.reply_ops in
     let u = f.reply_values in
     let w = f.short in (
-      (
-        record { places = f.places; top = f.top; stack = omega arith; reply_ops = omega arith; reply_values = omega arith; short = omega arith },
-        plain-within c.run_plain-r.ensures c.in-Needs.is,
-      ),
-      c.requires.1,
+      record { places = f.places; top = f.top; stack = omega arith; reply_ops = omega arith; reply_values = omega arith; short = omega arith },
+      plain-within c.run_plain-r.ensures c.in-Needs.is,
     )
 
 pub loop-count-preserved : goal.loop-count-preserved
@@ -292,7 +289,7 @@ loop-count-preserved c =
     let k = came j in
     let i = c.loop-count.invariant in
     let g = c.led_by.ensures in
-    let e = c.in-To.is in
+    let e = c.in-Ok.is in
     let h = c.if-left-eq0.false in (
       omega arith,
       stands j g e,
@@ -303,12 +300,12 @@ loop-count-preserved c =
       k.reply-kept,
       k.replies-kept,
       k.values-kept,
-      c.fetch-f.auto.ops ∙ i.9,
+      c.fetch.auto.ops ∙ i.9,
       i.10 ∙ goes_on j g e,
     )
 
 pub stops-requires : goal.stops-requires
 stops-requires c = let h = place-small (goal.at.stops-requires c).Joined-r in omega arith
 
-pub returns-in-Stops : goal.returns-in-Stops
-returns-in-Stops c = rw c.stops.ensures (stops_so (goal.at.returns-in-Stops c).Joined-r c.led_by.ensures c.in-Stops.is)
+pub returns-in-Err : goal.returns-in-Err
+returns-in-Err c = rw c.stops.ensures (stops_so (goal.at.returns-in-Err c).Joined-r c.led_by.ensures c.in-Err.is)

@@ -11,9 +11,9 @@ use Rattle.statement.specs.Plain.{view_of}
 use Rattle.statement.proofs.Plainly.{Reaches}
 use Rattle.statement.proofs.run_plain.Given as goal
 
-abbrev pub invariant-loop-n : goal.invariant-loop-n
-invariant-loop-n l =
-    (length l.vars ≡ length l.initial.vars) × (length l.values ≡ length l.initial.values) × Reaches (view_of l.page l.flags l.sight l.dos l.fors l.memory) l.ops l.initial.vars l.i l.vars
+abbrev pub invariant-loop-stop : goal.invariant-loop-stop
+invariant-loop-stop l =
+    (length l.vars ≡ length l.initial.vars) × (length l.values ≡ length l.initial.values) × Reaches (view_of l.lines.page.now l.flags l.sight l.dos l.fors l.memory) l.ops l.initial.vars l.i l.vars
 
-abbrev pub decreases-loop-n : goal.decreases-loop-n
-decreases-loop-n l = length l.ops - l.i
+abbrev pub decreases-loop-stop : goal.decreases-loop-stop
+decreases-loop-stop l = length l.ops - l.i

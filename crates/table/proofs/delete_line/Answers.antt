@@ -15,8 +15,8 @@ use Rattle.table.proofs.delete_line.Goals as goal
 pub refill-requires : goal.refill-requires
 refill-requires c =
     λ h. let a = c.args in
-    let spot = c.find_spot-spot.result in
-    let at = c.find_spot-spot.ensures in
+    let spot = c.find_spot-index.result in
+    let at = c.find_spot-index.ensures in
     let page = a.page.now in
     let n = a.number.0 in
     let is : c.delete_at-edited.new.page ≡ (delete_at page spot.seat).page = sym (page-is c.delete_at-edited.new.page c.delete_at-edited.result) ∙ (λ i. (c.delete_at-edited.ensures i).page) in
@@ -27,4 +27,4 @@ pub returns : goal.returns
 unfolding delete_of
 returns c =
     let a = c.args in
-    record { result_after = c.delete_at-edited.ensures ∙ ap (delete_at a.page.now) c.find_spot-spot.ensures.seated.is; table_after = c.refill.ensures }
+    record { result_after = c.delete_at-edited.ensures ∙ ap (delete_at a.page.now) c.find_spot-index.ensures.seated.is; table_after = c.refill.ensures }

@@ -1,47 +1,33 @@
-use mathlib.Core.Path.{sym}
+use Prim.Native.Nat.{ℕ}
+use mathlib.Core.Path.{sym, ap, ◌∙◌}
 use native.Mathlib.Omega.{arith}
-use Rattle.page.proofs.Walk.{met, past}
+use lib.Dec.{eqb}
+use Rattle.page.proofs.Walk.{stepped, stayed}
 use Rattle.table.proofs.Index.{describes-none}
-use Rattle.table.proofs.Compared.{compare-start, compare-short, compare-other, compare-step, compare-end}
+use Rattle.table.proofs.Compared.{compare-short, compare-other, compare-step, compare-end}
 use Rattle.table.proofs.describes.Goals as goal
+use Rattle.table.proofs.describes.Goals.{then-table-k-via-then-table-k, then-table-k-via-else-table-k+then-from-at}
 
-pub returns-then-room-lt1 : goal.returns-then-room-lt1
-returns-then-room-lt1 c = let a = c.args in sym (describes-none a.page.now a.table.now c.if-room-lt1.true)
-
-pub loop-size-init : goal.loop-size-init
-loop-size-init c =
-    let a = c.args in
-    (compare-start a.page.now a.table.now c.if-room-lt1.false, c.size_at-size.ensures)
-
-pub returns-then-room-k : goal.returns-then-room-k
-returns-then-room-k c =
-    let l = c.loop-size in
-    compare-short l.size l.invariant.0 l.invariant.1 c.loop-size-test.true (omega (arith, c.if-room-k.true, l.invariant.0.room))
+pub returns-then-table-lt1 : goal.returns-then-table-lt1
+returns-then-table-lt1 c = let a = c.args in sym (describes-none a.page.now a.table.now c.if-table-lt1.true)
 
 pub returns-then-table-k : goal.returns-then-table-k
 returns-then-table-k c =
-    let l = c.loop-size in
-    compare-other l.size l.invariant.0 l.invariant.1 c.loop-size-test.true (omega (arith, c.if-room-k.false)) c.if-table-k.true
+    let l = c.loop-at.invariant in
+    let s = c.in-Some.ensures.steps in
+    let m = stepped l.0 s in
+    elim c.then-table-k.branch [
+      | then-table-k-via-then-table-k w ↦ compare-short l.1 m (omega arith)
+      | then-table-k-via-else-table-k+then-from-at w ↦ compare-other l.1 m (omega arith) (λ f. w.if-from-at.true (w.from.ensures ∙ f ∙ sym s.1.0))
+    ]
 
-pub overflow_add-at : goal.overflow_add-at
-overflow_add-at c =
-    let l = c.loop-size in
-    let m = met c.args.page.now l.at l.size l.invariant.1 c.loop-size-test.true in
-    omega (arith, m.inside, m.next)
-
-pub loop-size-smaller : goal.loop-size-smaller
-loop-size-smaller c =
-    let l = c.loop-size in
-    let m = met c.args.page.now l.at l.size l.invariant.1 c.loop-size-test.true in
-    omega (arith, m.inside, m.next, c.loop-size-test.true)
-
-pub loop-size-preserved : goal.loop-size-preserved
-loop-size-preserved c =
-    let l = c.loop-size in
-    (compare-step l.size l.invariant.0 l.invariant.1 c.loop-size-test.true (omega (arith, c.if-room-k.false)) c.if-table-k.false, c.size_at-size-in-loop-size.ensures)
+pub loop-at-preserved : goal.loop-at-preserved
+loop-at-preserved c =
+    let l = c.loop-at.invariant in
+    let s = c.in-Some.ensures.steps in
+    (s.0 ∙ l.0, rw s.1.1.1 (compare-step l.1 (stepped l.0 s) (omega arith) (sym c.from.ensures ∙ c.if-from-at.false ∙ s.1.0)))
 
 pub returns : goal.returns
 returns c =
-    let l = c.loop-size in
-    let a = c.args in
-    compare-end l.invariant.0 (past a.page.now l.at l.size l.invariant.1 c.loop-size-test.false)
+    let l = c.loop-at.invariant in
+    ap (λ (n : ℕ). eqb n c.loop-at.k) c.from-2.ensures ∙ compare-end l.1 (stayed l.0 c.in-None.ensures.steps)

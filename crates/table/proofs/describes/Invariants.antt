@@ -1,14 +1,7 @@
 -- `describes` meets its contract: each turn compares the entry of the record that it is at. Assumes nothing.
--- what a turn knows of the record that it is at
-use Prim.Native.Nat.{◌+◌, ◌-◌}
 use mathlib.Core.Path.{◌≡◌}
-use lib.ListN.{length, drop}
-use Rattle.page.specs.Walk.{size_at}
 use Rattle.table.proofs.Compared.{Compared}
 use Rattle.table.proofs.describes.Given as goal
 
-abbrev pub invariant-loop-size : goal.invariant-loop-size
-invariant-loop-size l = Compared l.page l.table l.k l.at × (l.size ≡ size_at (drop l.at l.page))
-
-abbrev pub decreases-loop-size : goal.decreases-loop-size
-decreases-loop-size l = length l.page + 1 - l.at
+abbrev pub invariant-loop-at : goal.invariant-loop-at
+invariant-loop-at l = (l.at-iterator.page.now ≡ l.page) × Compared l.page l.table l.k l.at-iterator.at

@@ -11,14 +11,14 @@ use Rattle.table.proofs.find_spot.Goals as goal
 
 pub start_of-at-requires : goal.start_of-at-requires
 start_of-at-requires c =
-    record { described = described c.requires c.if-table-lt1.false; k_in_bounds = omega (arith, c.seek-k.ensures, below-most c.args.number.0 (records_of c.args.page.now)) }
+    record { described = described c.requires c.if-table-lt1.false; k_in_bounds = omega (arith, c.seek-index.ensures, below-most c.args.number.0 (records_of c.args.page.now)) }
 
 pub returns : goal.returns
 returns c =
     let a = c.args in
     let d = described c.requires c.if-table-lt1.false in
-    let e = c.start_of-at.ensures ∙ ap (λ (j : ℕ). span_of (take j (records_of a.page.now))) c.seek-k.ensures in
+    let e = c.start_of-at.ensures ∙ ap (λ (j : ℕ). span_of (take j (records_of a.page.now))) c.seek-index.ensures in
     record {
       seated = seat-found a.page.now d.rising a.number.0 _ e c.gone_at-gone.ensures;
-      index = λ h. c.seek-k.ensures;
+      index = λ h. c.seek-index.ensures;
     }

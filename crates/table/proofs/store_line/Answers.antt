@@ -16,8 +16,8 @@ use Rattle.table.proofs.store_line.Goals as goal
 pub refill-requires : goal.refill-requires
 refill-requires c =
     λ h. let a = c.args in
-    let spot = c.find_spot-spot.result in
-    let at = c.find_spot-spot.ensures in
+    let spot = c.find_spot-index.result in
+    let at = c.find_spot-index.ensures in
     let page = a.page.now in
     let n = a.number.0 in
     let is : c.store_at-edited.new.page ≡ (store_at_seat page spot.seat n a.text.now).page = sym (page-is c.store_at-edited.new.page c.store_at-edited.result) ∙ (λ i. (c.store_at-edited.ensures i).page) in
@@ -28,4 +28,4 @@ pub returns : goal.returns
 unfolding store_of
 returns c =
     let a = c.args in
-    record { result_after = c.store_at-edited.ensures ∙ ap (λ (s : Seat). store_at_seat a.page.now s a.number.0 a.text.now) c.find_spot-spot.ensures.seated.is; table_after = c.refill.ensures }
+    record { result_after = c.store_at-edited.ensures ∙ ap (λ (s : Seat). store_at_seat a.page.now s a.number.0 a.text.now) c.find_spot-index.ensures.seated.is; table_after = c.refill.ensures }

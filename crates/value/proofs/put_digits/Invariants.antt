@@ -1,11 +1,6 @@
 -- `put_digits` meets its contract. The loop's invariant: `Putting`. Assumes nothing.
--- a power of ten is not 0
-use Rattle.std.proofs.Common.{◌-◌}
 use Rattle.value.specs.Digits.{Putting}
 use Rattle.value.proofs.put_digits.Given as goal
 
 abbrev pub invariant-loop-next : goal.invariant-loop-next
 invariant-loop-next l = Putting l.initial.rest l.count l.n l.rest l.left l.next
-
-abbrev pub decreases-loop-next : goal.decreases-loop-next
-decreases-loop-next l = l.count - l.next

@@ -1,9 +1,8 @@
-use Rattle.std.proofs.Common.{◌<◌, length, arith, length-set}
-use Rattle.value.proofs.Writing.{sets_more}
+-- `write_item` meets its contract: the item is copied into the part that it fills. Assumes nothing.
+use Rattle.value.proofs.Writing.{room_for, copied-sets, writes-whole}
 use Rattle.value.proofs.write_item.Goals as goal
 
-pub loop-i-preserved : goal.loop-i-preserved
-loop-i-preserved c =
-    let l = c.loop-i in
-    let h : l.i < length c.args.item.now = omega arith in
-    (omega arith, simp length-set l.invariant.1, rw l.invariant.2 (sets_more _ _ _ _ h))
+pub returns : goal.returns
+returns c =
+    let h = room_for _ _ _ _ c.has_room.ensures c.if-not-has_room.false in
+    rw (c.copy_from_slice.ensures.after, copied-sets _ _ _ h) (writes-whole _ _ _ h)

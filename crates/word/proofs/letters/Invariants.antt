@@ -5,6 +5,3 @@ use Rattle.word.proofs.letters.Given as goal
 
 abbrev pub invariant-loop-to : goal.invariant-loop-to
 invariant-loop-to l = Tried (spellings_of l.commands) l.text l.from l.to
-
-abbrev pub decreases-loop-to : goal.decreases-loop-to
-decreases-loop-to l = l.to

@@ -1,28 +1,29 @@
 -- `word::may_command` meets its contract: by where the run of spaces ends. Assumes nothing.
--- a capital stands where the spaces end
-use Prim.Native.Nat.{◌<◌}
-use mathlib.Core.Path.{sym, ◌∙◌}
-use native.Mathlib.Omega.{arith}
-use lib.ListN.{length}
-use Rattle.nibl.specs.Bytes.{is_capital}
-use Rattle.word.proofs.Firsts.{starts-in, front-other, front-short, front_at}
+use Rattle.std.proofs.Common.{◌-◌, length, sym, ◌∙◌, arith, leb-true, leb-false}
+use Rattle.std.proofs.lemmas.Bool.{false≢true}
+use Rattle.word.proofs.Firsts.{front-other, front-short, front_at}
 use Rattle.word.proofs.may_command.Goals as goal
+use Rattle.word.proofs.may_command.Goals.{then-letter_at, else-letter_at}
 
-pub returns-then-not-letter_at : goal.returns-then-not-letter_at
-returns-then-not-letter_at c =
+pub returns-then-text-i-ge-FRONT : goal.returns-then-text-i-ge-FRONT
+returns-then-text-i-ge-FRONT c =
     let a = c.args in
-    let e = c.run_end-i in
-    front-other a.text.now a.c.at e.result e.ensures (sym c.letter_at.ensures ∙ c.if-not-letter_at.true)
+    let e = c.space_end-i in
+    elim c.if-letter_at.branch [
+      | then-letter_at w ↦
+          c.is_some.ensures
+          ∙ front_at a.text.now a.c.at e.result e.ensures (leb-true 3 (length a.text.now - e.result) (sym w.value-is ∙ c.if-text-i-ge-FRONT.true)) (sym c.letter_at.ensures ∙ w.if-letter_at.true) c.key.ensures
+          c.index_of.ensures
+      | else-letter_at w ↦ absurd (false≢true (sym w.if-letter_at.false ∙ sym w.value-is ∙ c.if-text-i-ge-FRONT.true))
+    ]
 
-pub returns-then-text-i-lt-FRONT : goal.returns-then-text-i-lt-FRONT
-returns-then-text-i-lt-FRONT c =
+pub returns-else-text-i-ge-FRONT : goal.returns-else-text-i-ge-FRONT
+returns-else-text-i-ge-FRONT c =
     let a = c.args in
-    let e = c.run_end-i in
-    front-short a.text.now a.c.at e.result e.ensures (omega (arith, (let it : c.run_end-i.result < length c.args.text.now = starts-in is_capital c.args.text.now c.run_end-i.result (sym c.letter_at.ensures ∙ c.if-not-letter_at.false) in it)))
-
-pub returns : goal.returns
-returns c =
-    let a = c.args in
-    let e = c.run_end-i in
-    front_at a.text.now a.c.at e.result e.ensures (omega (arith, (let it : c.run_end-i.result < length c.args.text.now = starts-in is_capital c.args.text.now c.run_end-i.result (sym c.letter_at.ensures ∙ c.if-not-letter_at.false) in it))) (sym c.letter_at.ensures ∙ c.if-not-letter_at.false)
-    c.key.ensures c.index_of.ensures
+    let e = c.space_end-i in
+    elim c.if-letter_at.branch [
+      | then-letter_at w ↦
+          c.if-text-i-ge-FRONT.false
+          ∙ front-short a.text.now a.c.at e.result e.ensures (omega (arith, leb-false 3 (length a.text.now - e.result) (sym w.value-is ∙ c.if-text-i-ge-FRONT.false)))
+      | else-letter_at w ↦ c.if-text-i-ge-FRONT.false ∙ front-other a.text.now a.c.at e.result e.ensures (sym c.letter_at.ensures ∙ w.if-letter_at.false)
+    ]

@@ -1,11 +1,6 @@
 -- `word::spell` meets its contract. The loop's invariant: `Spelling`. Assumes nothing.
-use Prim.Native.Nat.{◌-◌}
-use lib.ListN.{length}
 use Rattle.word.proofs.Spelling.{Spelling}
 use Rattle.word.proofs.spell.Given as goal
 
 abbrev pub invariant-loop-n : goal.invariant-loop-n
 invariant-loop-n l = Spelling l.initial.room l.k l.room l.rest l.n
-
-abbrev pub decreases-loop-n : goal.decreases-loop-n
-decreases-loop-n l = length l.initial.room - l.n

@@ -1,5 +1,6 @@
 -- Asking: what each way out says, and how it is the definition's in the world. Assumes nothing.
 use Rattle.std.specs.Prelude.{if◌then◌else◌}
+use Rattle.std.specs.Prelude.{Some, None}
 use Prim.Native.Nat.{ℕ, ◌+◌}
 use mathlib.Core.Path.{◌≡◌, refl, sym, ap, ◌∙◌}
 use mathlib.Core.Bool.{Bool, true, false}
@@ -13,7 +14,6 @@ use Rattle.nibl.specs.Values.{is, no}
 use Rattle.nibl.specs.Typing.{Gathered, gather}
 use Rattle.nibl.specs.Meaning.{Env, World, with_output, with_inpos, Done, done, on, stop, went, put, gathered, asked}
 use Rattle.value.specs.Writes.{Writes, item_fits}
-use Rattle.value.specs.declared.Wrote.TheVariants.{To, Full}
 use Rattle.letter.specs.Slots.{held}
 use Rattle.letter.proofs.Told.{GotLong, GotLine}
 use Rattle.world.specs.Hearing.{hears, heard_line, hearing, slots_of, heard_in}
@@ -27,14 +27,14 @@ pub record Out (o : List ℕ) (p : ℕ) (item : List ℕ) (next : ℕ) (o' : Lis
   pub output : o' ≡ sets o p item
 
 module _ {o o' item : List ℕ} {p : ℕ} where
-  pub out : {next : ℕ} → Writes o p item (To next) o' → Out o p item next o'
+  pub out : {next : ℕ} → Writes o p item (Some next) o' → Out o p item next o'
   out {next} w = go (item_fits o p item) refl w.answer w.output
     where
       go : (t : Bool) → item_fits o p item ≡ t → is next ≡ (if t then is (p + length item) else no 17) → o' ≡ (if t then sets o p item else o) → Out o p item next o'
       go true f a e = record { room = f; moved = cc; output = e }
       go false f a e = let z : ◌≡◌ {A = ℕ} 0 1 = cc in absurd (omega arith)
 
-  pub not-out : Writes o p item Full o' → (item_fits o p item ≡ false) × (o' ≡ o)
+  pub not-out : Writes o p item None o' → (item_fits o p item ≡ false) × (o' ≡ o)
   not-out w = go (item_fits o p item) refl w.answer w.output
     where
       go : (t : Bool) → item_fits o p item ≡ t → no 17 ≡ (if t then is (p + length item) else no 17) → o' ≡ (if t then sets o p item else o) → (item_fits o p item ≡ false) × (o' ≡ o)
@@ -45,7 +45,7 @@ module _ {o o' item : List ℕ} {p : ℕ} where
 
 module _ (slots input : List ℕ) (i : ℕ) {o o' : List ℕ} {p : ℕ} where
   -- the "?" does not fit
-  module _ (w : Writes o p (bytes "?") Full o') where
+  module _ (w : Writes o p (bytes "?") None o') where
     pub full-heard : hears (no 17) i o' p ≡ hearing (length slots) input i o p
     unfolding hearing
     full-heard = rw ((not-out w).0, (not-out w).1)
@@ -55,7 +55,7 @@ module _ (slots input : List ℕ) (i : ℕ) {o o' : List ℕ} {p : ℕ} where
     full-slots = rw (not-out w).0
 
   -- it is out
-  module _ {next : ℕ} (w : Writes o p (bytes "?") (To next) o') where
+  module _ {next : ℕ} (w : Writes o p (bytes "?") (Some next) o') where
     hears-line : hearing (length slots) input i o p ≡ heard_line (gather (length slots) (drop i input)) i o' next
     unfolding hearing
     hears-line = rw ((out w).room, (out w).moved, (out w).output)

@@ -1,6 +1,9 @@
 -- What the turns are in the definition's world: its statement is the turn of the one stack, put in the place of that
 -- before; a refused one leaves the world as it was. Assumes nothing.
 use Prim.Native.Nat.{ℕ, suc, ◌<◌, ◌≤◌}
+use Rattle.std.specs.Prelude.{Option as Opt, Some, None}
+use Rattle.nibl.specs.declared.ForEntry.{ForEntry}
+use Rattle.nibl.specs.declared.Place.{Place}
 use mathlib.Core.Path.{◌≡◌, refl, sym, ap}
 use mathlib.Core.List.{List}
 use mathlib.Core.Option.{Option, none, some}
@@ -14,10 +17,6 @@ use Rattle.nibl.specs.Meaning.{World, Env, Next, done, on, go, stop, given, line
 use Rattle.nibl.specs.Record.{place}
 use Rattle.nibl.specs.declared.ForStack.{ForStack}
 use Rattle.nibl.specs.declared.PlaceStack.{PlaceStack}
-use Rattle.nibl.specs.declared.Top.{Top}
-use Rattle.nibl.specs.declared.Top.TheVariants as top
-use Rattle.nibl.specs.declared.TopFor.{TopFor}
-use Rattle.nibl.specs.declared.TopFor.TheVariants as topf
 use Rattle.page.specs.Walk.{reached}
 use Rattle.page.proofs.Walk.{by_cases}
 use Rattle.page.proofs.Kept.{reached-all}
@@ -57,28 +56,28 @@ module _ (e : Env) (w : World) where
   for-in v first limit step = by_cases (ltb w.session.fors.depth 4) (λ h. rw h) (λ h. rw h)
 
 module _ (w : World) where
-  return-on : (t : Top) → return_by w t ≡ gosubs_in w (return_on w.session.gosubs t)
+  return-on : (t : Opt Place) → return_by w t ≡ gosubs_in w (return_on w.session.gosubs t)
   unfolding return_by return_on
-  return-on top.Empty = refl
-  return-on (top.At p) = refl
+  return-on None = refl
+  return-on (Some p) = refl
 
   pub return-in : return_by w (pop_of w.session.gosubs).top ≡ gosubs_in w (return_turn w.session.gosubs)
   unfolding return_turn
   return-in = return-on (pop_of w.session.gosubs).top
 
-  until-on : (x : ℕ) (t : Top) → until_by w x t ≡ dos_in w (until_on x w.session.dos t)
+  until-on : (x : ℕ) (t : Opt Place) → until_by w x t ≡ dos_in w (until_on x w.session.dos t)
   unfolding until_by until_on
-  until-on x top.Empty = refl
-  until-on x (top.At p) = by_cases (eqb x 0) (λ h. rw h) (λ h. rw h)
+  until-on x None = refl
+  until-on x (Some p) = by_cases (eqb x 0) (λ h. rw h) (λ h. rw h)
 
   pub until-in : (x : ℕ) → until_by w x (pop_of w.session.dos).top ≡ dos_in w (until_turn x w.session.dos)
   unfolding until_turn
   until-in x = until-on x (pop_of w.session.dos).top
 
-  next-on : (v : ℕ) (t : TopFor) → next_by w v t ≡ fors_in w (next_on w.session.fors w.session.vars v t)
+  next-on : (v : ℕ) (t : Opt ForEntry) → next_by w v t ≡ fors_in w (next_on w.session.fors w.session.vars v t)
   unfolding next_by next_on stepped_on adds_step
-  next-on v topf.Empty = refl
-  next-on v (topf.Entry f) =
+  next-on v None = refl
+  next-on v (Some f) =
       by_cases (eqb f.var v)
       (λ i. by_cases (adds_step w.session.vars v f).more (λ h. rw (i, h)) (λ h. rw (i, h)))
       (λ i. rw i)
@@ -99,10 +98,10 @@ module _ (s : ForStack) (vars : List ℕ) (v : ℕ) where
   never : {q : ℕ} {us us' : List ℕ} → backed_to (some q) us ≡ backed_to none us' → ⊥
   never e = let f : ◌≡◌ {A = Option ℕ} (some _) none = ap (λ (b : Backed). b.to) e in let z : ◌≡◌ {A = ℕ} 0 1 = cc in omega arith
 
-  back_on_lem : (t : TopFor) {q : ℕ} {us : List ℕ} → backed_to (some q) us ≡ back_on vars v t → next_on s vars v t ≡ turned_for_to (go (suc q)) s us
+  back_on_lem : (t : Opt ForEntry) {q : ℕ} {us : List ℕ} → backed_to (some q) us ≡ back_on vars v t → next_on s vars v t ≡ turned_for_to (go (suc q)) s us
   unfolding next_on stepped_on back_on back_by
-  back_on_lem topf.Empty e = absurd (never e)
-  back_on_lem (topf.Entry f) e =
+  back_on_lem None e = absurd (never e)
+  back_on_lem (Some f) e =
       by_cases (eqb f.var v)
       (λ i. by_cases (adds_step vars v f).more
       (λ h. rw (i, h) (ap back_turn (sym (rw (i, h) at e))))
@@ -113,10 +112,10 @@ module _ (s : ForStack) (vars : List ℕ) (v : ℕ) where
   unfolding next_turn next_back
   back-turns e = back_on_lem (pop_for s).top e
 
-  not_on : (t : TopFor) {us : List ℕ} → backed_to none us ≡ back_on vars v t → us ≡ vars
+  not_on : (t : Opt ForEntry) {us : List ℕ} → backed_to none us ≡ back_on vars v t → us ≡ vars
   unfolding back_on back_by
-  not_on topf.Empty e = ap (λ (b : Backed). b.vars) e
-  not_on (topf.Entry f) e =
+  not_on None e = ap (λ (b : Backed). b.vars) e
+  not_on (Some f) e =
       by_cases (eqb f.var v)
       (λ i. by_cases (adds_step vars v f).more
       (λ h. absurd (never (sym (rw (i, h) at e))))
@@ -136,10 +135,10 @@ module _ (x : ℕ) (s : PlaceStack) where
   place_of none = 0
   place_of (some q) = q
 
-  until-back-on : (t : Top) {q : ℕ} → some q ≡ until_back_on x t → until_on x s t ≡ turned_to (go (suc q)) s
+  until-back-on : (t : Opt Place) {q : ℕ} → some q ≡ until_back_on x t → until_on x s t ≡ turned_to (go (suc q)) s
   unfolding until_on until_back_on place_of
-  until-back-on top.Empty e = absurd (nowhere e)
-  until-back-on (top.At p) e =
+  until-back-on None e = absurd (nowhere e)
+  until-back-on (Some p) e =
       by_cases (eqb x 0)
       (λ h. let f = rw h at e in let g = ap place_of f in rw h (ap (λ (n : ℕ). turned_to (go (suc n)) s) (sym g)))
       (λ h. absurd (nowhere (rw h at e)))

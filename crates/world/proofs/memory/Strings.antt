@@ -1,5 +1,7 @@
 -- A string in memory: how it is found a byte at a time, and what its end says of its bytes. Assumes nothing.
 use Rattle.std.specs.Prelude.{if◌then◌else◌}
+use Rattle.std.specs.Prelude.{Result as Res, Ok}
+use Rattle.nibl.specs.declared.stop.Stop.{Stop}
 use Prim.Native.Nat.{ℕ, suc, ◌+◌, ◌-◌, ◌≤◌, ◌<◌}
 use mathlib.Core.Path.{◌≡◌, refl, sym, ap, ◌∙◌}
 use mathlib.Core.Bool.{Bool, true, false, not}
@@ -15,8 +17,6 @@ use Rattle.nibl.specs.Access.{may_read}
 use Rattle.nibl.specs.Meaning.{bind, string_from, string_at}
 use Rattle.nibl.specs.declared.access.Access.{Access}
 use Rattle.world.specs.Stores.{extent_of}
-use Rattle.world.specs.declared.memory.Extent.{Extent}
-use Rattle.world.specs.declared.memory.Extent.TheVariants as extent
 
 -- where the definition's string ends
 abbrev pub ending : Access → List ℕ → ℕ → Result ℕ
@@ -95,17 +95,9 @@ module _ (x : Access) (mem : List ℕ) (a : ℕ) where
       }
 
   -- an end that was found
-  pub string-to : {r : Extent} (e : ℕ) → r ≡ extent.To e → extent_of r ≡ ending x mem a → StringRuns x mem a e
+  pub string-to : {r : Res ℕ Stop} (e : ℕ) → r ≡ Ok e → extent_of r ≡ ending x mem a → StringRuns x mem a e
   string-to e q h = go (string_at x mem a) refl (sym (ap extent_of q) ∙ h)
     where
       go : (s : Result (List ℕ)) → string_at x mem a ≡ s → is e ≡ bind s (λ bs. is (a + length bs)) → StringRuns x mem a e
       go (is bs) q h = let k : e ≡ a + length bs = cc in rw k (runs bs q)
       go (no n) q h = let z : ◌≡◌ {A = ℕ} 0 1 = cc in absurd (omega arith)
-
-  -- and one that was not
-  pub string-no : {r : Extent} (n : ℕ) → r ≡ extent.No n → extent_of r ≡ ending x mem a → string_at x mem a ≡ no n
-  string-no n q h = go (string_at x mem a) (sym (ap extent_of q) ∙ h)
-    where
-      go : (s : Result (List ℕ)) → no n ≡ bind s (λ bs. is (a + length bs)) → s ≡ no n
-      go (is bs) h = let z : ◌≡◌ {A = ℕ} 0 1 = cc in absurd (omega arith)
-      go (no m) h = let k : n ≡ m = cc in cc

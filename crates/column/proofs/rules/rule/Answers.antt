@@ -1,24 +1,28 @@
-use mathlib.Core.Path.{◌≡◌, sym, ◌∙◌}
-use native.Mathlib.Omega.{arith}
-use Rattle.column.specs.Rules.{rule_in}
-use Rattle.column.proofs.Table.{part, part-within, also-less, rule-else}
-use Rattle.column.proofs.Table.{looking-on, looking-hit}
+use Rattle.std.proofs.Common.{rules, tests}
+use Rattle.std.proofs.lemmas.Iterator.{YieldsList-from_slice}
+use Rattle.std.proofs.lemmas.Iterator.Search.{find_from_yields_List}
+use mathlib.Core.Path.{refl, sym, ap, ◌∙◌}
+use lib.Dec.{eqb}
+use Rattle.nibl.specs.found.Column.{case_in}
+use Rattle.column.specs.Rules.{cases_if}
+use Rattle.column.proofs.Table.{rule-hit, rule-miss}
 use Rattle.column.proofs.rules.rule.Goals as goal
 
-pub returns-then-x-gt-LAST : goal.returns-then-x-gt-LAST
-returns-then-x-gt-LAST c = rule-else c.args.x c.args.k (omega arith)
+pub row-also-requires : goal.row-also-requires
+row-also-requires c = record { same = refl; below = refl }
 
-pub rule_in-after-requires : goal.rule_in-after-requires
-rule_in-after-requires c = let l = c.loop-y in part-within l.y l.invariant.inside
-
-pub returns-then-after-ne0 : goal.returns-then-after-ne0
-returns-then-after-ne0 c =
-    let l = c.loop-y in
-    let e : c.rule_in-after.result ≡ rule_in (part l.y) c.args.k = c.rule_in-after.ensures in
-    rw e (looking-hit l.invariant (λ z. c.if-after-ne0.true (e ∙ z)))
-
-pub loop-y-smaller : goal.loop-y-smaller
-loop-y-smaller c = let l = c.loop-y in also-less l.y (omega arith) l.invariant.inside
+pub returns-in-Some-find : goal.returns-in-Some-find
+returns-in-Some-find c =
+    let row = c.row-also in
+    rule-hit row.result.0.now row.result.1 c.in-Some.x c.args.k c.find.result row.ensures.cases
+    (find_from_yields_List (λ r. eqb r.0 c.args.k) _ _ c.find.result c.find.ensures.ran (YieldsList-from_slice row.result.0.now cc) (λ x b q k. search (rules, tests)))
+    c.in-Some-find.field-0 c.in-Some-find.is
+    ∙ sym (ap (λ y. case_in (cases_if y) c.args.k) c.in-Some.is) ∙ c.loop-y.invariant
 
 pub loop-y-preserved : goal.loop-y-preserved
-loop-y-preserved c = looking-on c.loop-y.invariant (omega arith) (sym c.rule_in-after.ensures ∙ c.if-after-ne0.false)
+loop-y-preserved c =
+    let row = c.row-also in
+    rule-miss row.result.0.now row.result.1 c.in-Some.x c.args.k c.find.result row.ensures.cases
+    (find_from_yields_List (λ r. eqb r.0 c.args.k) _ _ c.find.result c.find.ensures.ran (YieldsList-from_slice row.result.0.now cc) (λ x b q k. search (rules, tests)))
+    c.in_default-find.is
+    ∙ sym (ap (λ y. case_in (cases_if y) c.args.k) c.in-Some.is) ∙ c.loop-y.invariant

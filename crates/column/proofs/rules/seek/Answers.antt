@@ -1,15 +1,15 @@
 use native.Mathlib.Omega.{arith}
-use Rattle.column.proofs.Turns.{seeking-on, seek_hit, seek_stop, seek-end}
+use Rattle.column.proofs.Turns.{seek-hit, seek-stop, seek-end, seeking-on}
 use Rattle.column.proofs.rules.seek.Goals as goal
 
-pub returns-then-after-ne0 : goal.returns-then-after-ne0
-returns-then-after-ne0 c = seek_hit c.loop-t.invariant (omega arith) c.rule-after.ensures c.if-after-ne0.true
+pub returns-in-Some : goal.returns-in-Some
+returns-in-Some c = seek-hit c.loop-at.invariant (omega arith) c.in-Some.next c.in-Some.ensures
 
-pub loop-t-preserved : goal.loop-t-preserved
-loop-t-preserved c = seeking-on c.loop-t.invariant (omega arith) c.rule-after.ensures (omega arith) (omega arith)
+pub returns-then-x-lt-MORE_OF_RELATION : goal.returns-then-x-lt-MORE_OF_RELATION
+returns-then-x-lt-MORE_OF_RELATION c = seek-stop c.loop-at.invariant (omega arith) c.in_default.ensures (omega arith)
 
-pub returns-after-loop-t : goal.returns-after-loop-t
-returns-after-loop-t c = seek-end c.loop-t.invariant (omega arith)
+pub loop-at-preserved : goal.loop-at-preserved
+loop-at-preserved c = seeking-on c.loop-at.invariant (omega arith) c.in_default.ensures (omega arith)
 
-pub returns-then-x-lt-FIRST_OPTIONAL : goal.returns-then-x-lt-FIRST_OPTIONAL
-returns-then-x-lt-FIRST_OPTIONAL c = seek_stop c.loop-t.invariant (omega arith) c.rule-after.ensures (omega arith) (omega arith)
+pub returns : goal.returns
+returns c = seek-end c.loop-at.invariant (omega arith)

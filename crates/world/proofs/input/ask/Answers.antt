@@ -21,33 +21,33 @@ returns-in_default-clause-slots c =
 pub returns-in-NoCr-clause-answer : goal.returns-in-NoCr-clause-answer
 returns-in-NoCr-clause-answer c =
     let a = c.args in
-    none-heard a.reply.now a.input.now a.inpos c.in-To.ensures (told-no-cr (length a.reply.now) a.inpos a.input.now c.in-NoCr.ensures.answer)
+    none-heard a.reply.now a.input.now a.inpos c.in-Some.ensures (told-no-cr (length a.reply.now) a.inpos a.input.now c.in-NoCr.ensures.answer)
 
 pub returns-in-NoCr-clause-slots : goal.returns-in-NoCr-clause-slots
 returns-in-NoCr-clause-slots c =
     let a = c.args in
-    c.gather.ensures.slots ∙ held-slots a.reply.now a.input.now a.inpos c.in-To.ensures
+    c.gather.ensures.slots ∙ held-slots a.reply.now a.input.now a.inpos c.in-Some.ensures
 
 pub returns-in-TooLong-clause-answer : goal.returns-in-TooLong-clause-answer
 returns-in-TooLong-clause-answer c =
     let a = c.args in
-    long-heard a.reply.now a.input.now a.inpos c.in-To.ensures (told-long (length a.reply.now) a.inpos a.input.now _ c.in-TooLong.ensures.answer)
+    long-heard a.reply.now a.input.now a.inpos c.in-Some.ensures (told-long (length a.reply.now) a.inpos a.input.now _ c.in-TooLong.ensures.answer)
 
 pub returns-in-TooLong-clause-slots : goal.returns-in-TooLong-clause-slots
 returns-in-TooLong-clause-slots c =
     let a = c.args in
-    c.gather.ensures.slots ∙ held-slots a.reply.now a.input.now a.inpos c.in-To.ensures
+    c.gather.ensures.slots ∙ held-slots a.reply.now a.input.now a.inpos c.in-Some.ensures
 
 pub returns-in-Line-clause-answer : goal.returns-in-Line-clause-answer
 returns-in-Line-clause-answer c =
     let a = c.args in
     let t = told_line (length a.reply.now) a.inpos a.input.now _ _ c.in-Line.ensures.answer in
-    line-heard a.reply.now a.input.now a.inpos c.in-To.ensures t c.gather.ensures.slots
+    line-heard a.reply.now a.input.now a.inpos c.in-Some.ensures t c.gather.ensures.slots
 
 pub returns-in-Line-clause-slots : goal.returns-in-Line-clause-slots
 returns-in-Line-clause-slots c =
     let a = c.args in
-    c.gather.ensures.slots ∙ held-slots a.reply.now a.input.now a.inpos c.in-To.ensures
+    c.gather.ensures.slots ∙ held-slots a.reply.now a.input.now a.inpos c.in-Some.ensures
 
 pub returns-in-Line-clause-room : goal.returns-in-Line-clause-room
 returns-in-Line-clause-room c =

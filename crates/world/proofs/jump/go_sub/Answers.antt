@@ -2,10 +2,10 @@
 use Rattle.world.specs.Turns.{gosub_turn}
 use Rattle.world.proofs.jump.go_sub.Goals as goal
 
-pub returns-in-Nothing : goal.returns-in-Nothing
+pub returns-in-None : goal.returns-in-None
 unfolding gosub_turn
-returns-in-Nothing c = rw (← c.find_line.ensures, c.in-Nothing.is)
+returns-in-None c = rw (← c.find_line.ensures, c.in-None.is)
 
-pub returns-in-At : goal.returns-in-At
+pub returns-in-Some : goal.returns-in-Some
 unfolding gosub_turn
-returns-in-At c = rw (← c.find_line.ensures, c.in-At.is) c.keep.ensures
+returns-in-Some c = rw (← c.find_line.ensures, c.in-Some.is) c.keep.ensures

@@ -1,24 +1,37 @@
--- `next_back` meets its contract: by what is on top, then by its variable, then by the count. Assumes nothing.
--- past the two refusals
+-- `next_back` meets its contract: by the FOR that was found, then by the count. Assumes nothing.
+use Rattle.std.specs.Prelude.{None, Result as Res, Ok, Err}
+use Rattle.std.specs.Result.{result_ok}
+use Prim.Native.Nat.{ℕ}
 use mathlib.Core.Path.{◌≡◌}
-use borrow.Author.Tests.{eq-eqb, ne_eqb}
-use Rattle.world.specs.Turns.{adds_step, back_by, back_on, next_back}
+use mathlib.Core.List.{List}
+use mathlib.Core.Option.{none}
+use native.Mathlib.Omega.{arith}
+use Rattle.nibl.specs.declared.stop.Stop.{Stop}
+use Rattle.nibl.specs.declared.ForEntry.{ForEntry}
+use Rattle.nibl.specs.declared.ForStack.{ForStack}
+use Rattle.world.specs.Turns.{found_for, for_of, adds_step, back_by, next_back, backed_to}
+use Rattle.world.proofs.jump.Fors.{found, not-found}
 use Rattle.world.proofs.jump.next_back.Goals as goal
 
-pub returns-in_default : goal.returns-in_default
-unfolding back_on next_back
-returns-in_default c = rw (← c.top-top.ensures, c.in_default.is)
+nothing : (s : ForStack) (vars : List ℕ) (v : ℕ) (r : Res ForEntry Stop) → found_for r ≡ for_of s v → None ≡ result_ok r → next_back s vars v ≡ backed_to none vars
+nothing s vars v (Ok f) e h = grind arith
+nothing s vars v (Err n) e h = (not-found s vars v e).1
 
-pub returns-then-entry-v : goal.returns-then-entry-v
-unfolding back_on next_back
-returns-then-entry-v c = rw (← c.top-top.ensures, c.in-Entry.is, ne_eqb _ _ c.if-entry-v.true)
+pub returns-in_err-entry : goal.returns-in_err-entry
+returns-in_err-entry c =
+    let a = c.args in
+    rw (c.from_residual.ensures, nothing a.stack a.vars.now a.v c.for_of.result c.for_of.ensures c.in_err-entry.ensures.value)
 
 pub returns-then-not-goes_on : goal.returns-then-not-goes_on
-unfolding adds_step back_by back_on next_back
+unfolding adds_step back_by
 returns-then-not-goes_on c =
-    rw ((let it : (let a = c.args in let f = c.in-Entry.entry in next_back a.stack a.vars.now a.v ≡ back_by a.vars.now f (adds_step a.vars.now a.v f)) = rw (← c.top-top.ensures, c.in-Entry.is, eq-eqb _ _ c.if-entry-v.false) in it), ← c.var_of.ensures, ← c.add-sum.ensures, ← c.goes_on.ensures, c.if-not-goes_on.true)
+    let a = c.args in
+    let t : c.for_of.result ≡ Ok c.in_ok-entry.entry = grind arith in
+    rw ((found a.stack a.vars.now a.v (rw t at c.for_of.ensures)).1, ← c.from-var.ensures, ← c.var_of.ensures, ← c.add-sum.ensures, ← c.goes_on.ensures, c.if-not-goes_on.true)
 
 pub returns : goal.returns
-unfolding adds_step back_by back_on next_back
+unfolding adds_step back_by
 returns c =
-    rw ((let it : (let a = c.args in let f = c.in-Entry.entry in next_back a.stack a.vars.now a.v ≡ back_by a.vars.now f (adds_step a.vars.now a.v f)) = rw (← c.top-top.ensures, c.in-Entry.is, eq-eqb _ _ c.if-entry-v.false) in it), ← c.var_of.ensures, ← c.add-sum.ensures, ← c.goes_on.ensures, c.if-not-goes_on.false, c.set_var.ensures)
+    let a = c.args in
+    let t : c.for_of.result ≡ Ok c.in_ok-entry.entry = grind arith in
+    rw ((found a.stack a.vars.now a.v (rw t at c.for_of.ensures)).1, ← c.from-var.ensures, ← c.var_of.ensures, ← c.add-sum.ensures, ← c.goes_on.ensures, c.if-not-goes_on.false, c.set_var.ensures, c.from-var.ensures)

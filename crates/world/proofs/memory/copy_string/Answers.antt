@@ -1,20 +1,27 @@
 -- `copy_string` meets its contract: the bytes up to the CR, and the CR, are moved where they may be stored. Assumes nothing.
--- the string was found
+use Rattle.std.proofs.lemmas.Result.{err_from_is_err_and}
+use mathlib.Core.Path.{refl}
 use native.Mathlib.Omega.{arith}
 use Rattle.world.proofs.memory.Strings.{StringRuns, string-to}
 use Rattle.world.proofs.memory.Storing.{movable, copied, not-copied}
+use Rattle.world.proofs.memory.copy_string.Goals.{In_ok-end}
 use Rattle.world.proofs.memory.copy_string.Goals as goal
 
+-- the string was found
+module _ (c : In_ok-end) where
+  runs : StringRuns c.args.access c.args.memory.now c.args.from c.in_ok-end.end
+  runs = string-to c.args.access c.args.memory.now c.args.from _ refl c.in_ok-end.ensures
+
 pub overflow_add-n : goal.overflow_add-n
-overflow_add-n c =
-    let r = (let it : (let a = c.args in StringRuns a.access a.memory.now a.from c.in-To.end) = let a = c.args in string-to a.access a.memory.now a.from _ c.in-To.is c.string_end.ensures in it) in omega arith
+overflow_add-n c = let r = runs (goal.at.overflow_add-n c).In_ok-end in omega arith
 
-pub returns-in_default : goal.returns-in_default
-returns-in_default c =
-    not-copied ((let it : (let a = c.args in StringRuns a.access a.memory.now a.from c.in-To.end) = let a = c.args in string-to a.access a.memory.now a.from _ c.in-To.is c.string_end.ensures in it)) c.args.to c.may_store-stored.ensures _ c.in_default.is
+pub returns-in_err-may_store : goal.returns-in_err-may_store
+returns-in_err-may_store c =
+    let p = err_from_is_err_and c.from_residual-in_err-may_store.result c.from_residual-in_err-may_store.ensures.1 in
+    rw (p.1, p.2) (not-copied (runs (goal.at.returns-in_err-may_store c).In_ok-end) c.args.to (rw (c.from-first.ensures, c.from-at.ensures) at c.in_err-may_store.ensures))
 
-pub returns-in-Done : goal.returns-in-Done
-returns-in-Done c =
-    let a = c.args in
-    rw (c.move_bytes.ensures.s_after, movable ((let it : (let a = c.args in StringRuns a.access a.memory.now a.from c.in-To.end) = let a = c.args in string-to a.access a.memory.now a.from _ c.in-To.is c.string_end.ensures in it)) a.to c.may_store-stored.ensures c.in-Done.is)
-    (copied ((let it : (let a = c.args in StringRuns a.access a.memory.now a.from c.in-To.end) = let a = c.args in string-to a.access a.memory.now a.from _ c.in-To.is c.string_end.ensures in it)) a.to c.may_store-stored.ensures c.in-Done.is)
+pub returns : goal.returns
+returns c =
+    let r = runs (goal.at.returns c).In_ok-end in
+    let h = rw (c.from-first.ensures, c.from-at.ensures) at c.in_ok-may_store.ensures in
+    rw (c.move_bytes.ensures.s_after, c.from-first.ensures, c.from-at.ensures, movable r c.args.to h) (copied r c.args.to h)

@@ -1,9 +1,0 @@
--- `place_stack` is safe and ends: a place a turn.
-use Rattle.std.proofs.Common.{◌-◌, ◌≤◌}
-use Rattle.call_table.proofs.place_stack.Given as goal
-
-abbrev pub invariant-loop-i : goal.invariant-loop-i
-invariant-loop-i g l = l.i ≤ 8
-
-abbrev pub decreases-loop-i : goal.decreases-loop-i
-decreases-loop-i g l = 8 - l.i

@@ -1,6 +1,0 @@
--- `spread` is safe and ends: a line a turn.
-use Rattle.std.proofs.Common.{◌-◌}
-use Rattle.rounds.proofs.spread.Given as goal
-
-abbrev pub decreases-loop-line : goal.decreases-loop-line
-decreases-loop-line l = 660 - l.line
