@@ -130,28 +130,33 @@ END
     rm -r "$apart"
 }
 
-# The kept module as text, with no function worked into another yet.
-module_text() {
-    "$tools/bin/clang" --target=x86_64-unknown-linux-gnu -S -emit-llvm -Xclang -disable-llvm-passes -x ir "$made.bc" -o -
+# The module that is kept for a file, as text, as the compiler leaves it that is told these words.
+module_text() { # FILE WORDS..
+    "$tools/bin/clang" --target=x86_64-unknown-linux-gnu -S -emit-llvm "${@:2}" -x ir "$1.bc" -o -
 }
 
-# A module's text for another target than the kit's: what it says of x86-64 is left out. An Option of a reference is written part by part,
-# the reference 8 bytes on, and read as a pair: it is read part by part here, since where a pointer has 4 bytes the pair's second part lies
-# elsewhere.
+# With no function worked into another yet: of this text the kit's own object can be made again.
+untouched_text() { # FILE
+    module_text "$1" -Xclang -disable-llvm-passes
+}
+
+# For a target whose pointers have 4 bytes. The module is written for 8: what it writes part by part and reads as one whole (a byte and a
+# reference) would be looked for elsewhere by a compiler that has been told of the target. So the compiler first does its work as for the
+# kit's own target, which takes such wholes apart. Were one left, or a reference in a constant or in a place that is laid out by its type,
+# there would be no archive.
+worked_text() { # FILE
+    local text whole='[[{<][^%@]*\<ptr\>[^%@]*'
+    text=$(module_text "$1" -O1) || return
+    if grep -m 3 -nE "^@.*(constant|global) .*\\<ptr\\>|(load|store) (volatile )?$whole[]}>]|alloca (ptr|$whole[]}>])|getelementptr( [a-z]+)* (ptr|$whole[]}>])," <<<"$text" >&2; then
+        say "where a pointer has 4 bytes, these would be read elsewhere than they stand"
+        return 1
+    fi
+    echo "$text"
+}
+
+# A module's text for another target than the kit's: what it says of x86-64 is left out.
 for_any_target() {
-    local name='%[A-Za-z0-9_.]+'
-    sed -E -e '/^target /d' -e 's/"target-cpu"="x86-64"//' \
-        -e "s/^( *)($name) = load \\{ i8, ptr \\}, ptr ($name), align [0-9]+\$/\\1\\2.case = load i8, ptr \\3\\n\\1\\2.place = getelementptr i8, ptr \\3, i64 8\\n\\1\\2.ref = load ptr, ptr \\2.place\\n\\1\\2.half = insertvalue { i8, ptr } poison, i8 \\2.case, 0\\n\\1\\2 = insertvalue { i8, ptr } \\2.half, ptr \\2.ref, 1/"
-}
-
-# The same text for a target whose pointers have 4 bytes: in a constant table each takes 8, as the module reads it.
-with_wide_pointers() {
-    sed -E '/^@.* constant <\{.*ptr/ {
-        s/ptr getelementptr \(i8, ptr (@[A-Za-z0-9_.]+), i64 ([0-9]+)\)/POINTER getelementptr (i8, POINTER \1, i64 \2), [4 x i8] zeroinitializer/g
-        s/ptr (@[A-Za-z0-9_.]+)/POINTER \1, [4 x i8] zeroinitializer/g
-        s/\<ptr\>/ptr, [4 x i8]/g
-        s/POINTER/ptr/g
-    }'
+    sed -e '/^target /d' -e 's/"target-cpu"="x86-64"//'
 }
 
 # How many bytes a pointer has on a target.

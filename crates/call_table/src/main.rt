@@ -194,7 +194,8 @@ fn sum_numbers(numbers: &[u16]) -> u32 {
 // The bytes of the output from a position to another, at most the first 40.
 fn show_written(rt: &impl Print, output: &[u8], from: usize, to: usize) -> io::Result<()> {
     print!(rt; " /")?;
-    for b in output.iter().take(to).skip(from).take(40) {
+    let written = output.get(from..to.min(output.len())).unwrap_or(&[]);
+    for b in written.iter().take(40) {
         print!(rt; " {b}")?;
     }
     Ok(())

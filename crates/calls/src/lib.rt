@@ -121,7 +121,8 @@ fn paused_run(
 }
 
 // A typed line past the first refusals. The lists stand here and not in the call, so that they take no stack while page and record
-// are checked. Below here no table is one without entries.
+// are checked: so it must not be worked into the call. Below here no table is one without entries.
+#[inline(never)]
 fn accepted_line(
     rec: Session,
     page: &mut [u8],
@@ -154,6 +155,7 @@ fn accepted_line(
 }
 
 // A paused run past the first refusals: page and table stay. Its lists stand here for the same reason.
+#[inline(never)]
 fn accepted_run(
     rec: Session,
     page: &[u8],

@@ -17,6 +17,7 @@ use nibl::stop::Stop;
 use nibl::{Call, END_MARK, LIMIT, Session, VARIABLES, range};
 use outcome::{Ended, stopped};
 use page::Records;
+use value::put_bytes;
 
 // The form's first two bytes: its number, and how many variables follow.
 const NUMBER: u8 = 1;
@@ -77,7 +78,7 @@ fn put_counted(output: &mut [u8], at: usize, bytes: &[u8])
 {
     put_two(output, at, bytes.len() as u16);
     let from = at + COUNT;
-    output[from..from + bytes.len()].copy_from_slice(bytes);
+    put_bytes(&mut output[from..from + bytes.len()], bytes);
 }
 
 // The form of a good page, of these variables and of this memory goes to the output, where it has room.
@@ -88,7 +89,7 @@ fn put_form(output: &mut [u8], at: usize, vars: [u16; VARIABLES], page: &[u8], m
     let end = page::used_bytes(page) - MARK;
     put_head(output, at, vars, line_count(page) as u16);
     let from = at + RECORDS_AT;
-    output[from..from + end].copy_from_slice(&page[..end]);
+    put_bytes(&mut output[from..from + end], &page[..end]);
     put_counted(output, from + end, memory);
 }
 
@@ -191,7 +192,7 @@ fn put_program(page: &mut [u8], records: &[u8])
     ensures { page.new ≡ records.now ++ (255 ∷ 255 ∷ drop (length records.now + 2) page.old) }
 {
     let n = records.len();
-    page[..n].copy_from_slice(records);
+    put_bytes(&mut page[..n], records);
     page[n] = END_MARK;
     page[n + 1] = END_MARK;
 }
@@ -226,7 +227,7 @@ fn load_opened(
         return stopped(Stop::PAGE_FULL, rec, call.inpos, call.outpos);
     }
     put_program(page, &form[RECORDS_AT..end]);
-    memory.copy_from_slice(&form[from..]);
+    put_bytes(memory, &form[from..]);
     let entries = table::lent_entries(call, table);
     table::refill(page, &mut table[..entries], 0, 0);
     stopped(

@@ -1,61 +1,21 @@
--- The table of the rules is the definition's, by computation. Assumes nothing.
-use Rattle.std.specs.Prelude.{if◌then◌else◌, Option as Maybe, None, Some, IfSome, find, option_map}
-use Rattle.std.proofs.lemmas.List.{get_or_default}
-use Prim.Native.Nat.{ℕ, zero, suc, ◌+◌, ◌≤◌, ◌<◌}
+-- The first rule for a word is the definition's, and lets no more come than may. Assumes nothing.
+use Rattle.std.specs.Prelude.{if◌then◌else◌, Option as Maybe, None, Some, find, option_map}
+use Rattle.std.proofs.lemmas.Option.{none-some, same_Some}
+use Prim.Native.Nat.{ℕ, ◌≤◌}
 use mathlib.Core.Path.{◌≡◌, refl, sym, ap, ◌∙◌}
 use mathlib.Core.Bool.{Bool, true, false, cond}
 use mathlib.Core.List.{List, [], ◌∷◌, ◌++◌}
 use mathlib.Core.Option.{Option, none, some}
 use native.Mathlib.Omega.{arith}
-use native.Mathlib.Nat.{zero-add, add-zero, add-suc, suc-add}
 use denote.Ref.{Bor}
 use borrow.Author.Tests.{leb-true, ne_eqb, eq-eqb, eqb-true, eqb-false}
 use lib.Dec.{eqb, leb}
-use lib.ListN.{length, get_or, get_or-map, length-map}
+use lib.ListN.{length, take}
 use Rattle.nibl.specs.Bytes.{all}
 use Rattle.nibl.specs.found.Read.{choose}
 use Rattle.nibl.specs.found.Column.{Cases, rules, cases_of, case_in}
 use Rattle.nibl.proofs.Words.{and_left, and_right}
-use Rattle.column.specs.Rules.{cases, cases_if, Row, read, cases_from, rows_left, below, IsTable, most_after}
-
-abbrev pub Rule : Type 0
-Rule = ℕ × Bor (List ℕ)
-
--- nothing else may come
-choose-none : (cs : List (ℕ × Cases)) (x : ℕ) → all (λ (c : ℕ × Cases). leb c.0 28) cs ≡ true → 28 < x → choose cs [] x ≡ []
-choose-none [] x a h = refl
-choose-none (c ∷ cs) x a h =
-    let l = leb-true c.0 28 (and_left (leb c.0 28) (all (λ (c : ℕ × Cases). leb c.0 28) cs) a) in
-    rw (ne_eqb x c.0 (λ e. omega arith)) (choose-none cs x (and_right (leb c.0 28) (all (λ (c : ℕ × Cases). leb c.0 28) cs) a) h)
-
-at_case : (x n k : ℕ) → k < n → get_or (cases_from x n) k [] ≡ cases_of (x + k)
-at_case x zero k h = absurd (omega arith)
-at_case x (suc n) zero h = rw add-zero
-at_case x (suc n) (suc k) h = at_case (suc x) n k (omega arith) ∙ ap cases_of (suc-add x k ∙ sym (add-suc x k))
-
-below-at : (d : Row) (x : ℕ) (rows : List Row) (k : ℕ) → k < length rows → below x rows ≡ true → rows_left (get_or rows k d).1 ≤ x + k
-below-at d x [] k h e = absurd (omega arith)
-below-at d x (row ∷ rows) zero h e = omega (arith, leb-true (rows_left row.1) x (and_left (leb (rows_left row.1) x) (below (suc x) rows) e))
-below-at d x (row ∷ rows) (suc k) h e = omega (arith, below-at d (suc x) rows k (omega arith) (and_right (leb (rows_left row.1) x) (below (suc x) rows) e))
-
-module _ (rows : List Row) (t : IsTable rows) (x : ℕ) where
-  has-rows : length rows ≡ 29
-  has-rows = sym (length-map rows read) ∙ ap length t.same
-
-  pub row-cases : (row : Row) → x < length rows → row ≡ get_or rows x row → read row ≡ cases_of x
-  row-cases row h e =
-      ap read e ∙ sym (get_or-map read rows x row) ∙ ap (λ (l : List Cases). get_or l x (read row)) t.same
-      ∙ get_or_default (cases_from 0 29) x (read row) [] (omega (arith, has-rows)) ∙ at_case 0 29 x (omega (arith, has-rows)) ∙ ap cases_of (zero-add x)
-
-  pub row-below : (row : Row) → x < length rows → row ≡ get_or rows x row → IfSome row.1 (λ y. y < x)
-  row-below row h e = go row.1 (omega (arith, below-at row 0 rows x h t.below, ap (λ (r : Row). rows_left r.1) e, zero-add x))
-    where
-      go : (y : Maybe ℕ) → rows_left y ≤ x → IfSome y (λ y. y < x)
-      go None h = tt
-      go (Some y) h = omega arith
-
-  pub row-none : length rows ≤ x → [] ≡ cases_of x
-  row-none h = sym (choose-none rules x refl (omega (arith, has-rows)))
+use Rattle.column.specs.Rules.{Rule, cases, cases_if, fits, most_after}
 
 -- The first rule for a word
 eqb-flip : (a b : ℕ) → eqb a b ≡ eqb b a
@@ -67,16 +27,25 @@ eqb-flip a b = go (eqb a b) refl
 
 abbrev next_in : Maybe Rule → Option (List ℕ)
 next_in None = none
-next_in (Some rule) = some rule.1.now
+next_in (Some rule) = some (take rule.1 rule.2)
 
 find-case : (rs : List Rule) (k : ℕ) → next_in (find (λ (r : Rule). eqb r.0 k) rs) ≡ case_in (cases rs) k
 find-case [] k = refl
 find-case (r ∷ rs) k = rw (eqb-flip k r.0) (go (eqb r.0 k) (find-case rs k))
   where
     go : (t : Bool) → next_in (find (λ (r : Rule). eqb r.0 k) rs) ≡ case_in (cases rs) k
-        → next_in (cond t (Some r) (find (λ (r : Rule). eqb r.0 k) rs)) ≡ (if t then some r.1.now else case_in (cases rs) k)
+        → next_in (cond t (Some r) (find (λ (r : Rule). eqb r.0 k) rs)) ≡ (if t then some (take r.1 r.2) else case_in (cases rs) k)
     go true e = refl
     go false e = e
+
+find-fits : (rs : List Rule) (k : ℕ) → all fits rs ≡ true → (r : Rule) → find (λ (r : Rule). eqb r.0 k) rs ≡ Some r → r.1 ≤ length r.2
+find-fits [] k a r e = absurd (none-some r e)
+find-fits (q ∷ rs) k a r e = go (eqb q.0 k) (find-fits rs k (and_right (fits q) (all fits rs) a) r) e
+  where
+    go : (t : Bool) → (find (λ (r : Rule). eqb r.0 k) rs ≡ Some r → r.1 ≤ length r.2)
+        → cond t (Some q) (find (λ (r : Rule). eqb r.0 k) rs) ≡ Some r → r.1 ≤ length r.2
+    go true i e = rw (sym (same_Some q r e)) (leb-true q.1 (length q.2) (and_left (fits q) (all fits rs) a))
+    go false i e = i e
 
 module _ (own : List Rule) (also : Maybe ℕ) (x k : ℕ) (o : Maybe (Bor Rule)) (e : cases own ++ cases_if also ≡ cases_of x)
     (f : option_map (λ (r : Bor Rule). r.now) o ≡ find (λ (r : Rule). eqb r.0 k) own) where
@@ -95,8 +64,11 @@ module _ (own : List Rule) (also : Maybe ℕ) (x k : ℕ) (o : Maybe (Bor Rule))
   whole : (n : Option (List ℕ)) → n ≡ case_in (cases own) k → elim n [ some m ↦ some m | none ↦ case_in (cases_if also) k ] ≡ case_in (cases_of x) k
   whole n i = rw i (sym (either (cases own) (cases_if also))) ∙ ap (λ (cs : Cases). case_in cs k) e
 
-  pub rule-hit : (r : Bor Rule) → o ≡ Some r → some r.now.1.now ≡ case_in (cases_of x) k
-  rule-hit r i = whole (some r.now.1.now) (sym (ap (λ (o : Maybe (Bor Rule)). next_in (option_map (λ (r : Bor Rule). r.now) o)) i) ∙ own-case)
+  pub rule-hit : (r : Bor Rule) → o ≡ Some r → some (take r.now.1 r.now.2) ≡ case_in (cases_of x) k
+  rule-hit r i = whole (some (take r.now.1 r.now.2)) (sym (ap (λ (o : Maybe (Bor Rule)). next_in (option_map (λ (r : Bor Rule). r.now) o)) i) ∙ own-case)
+
+  pub rule-fits : all fits own ≡ true → (r : Bor Rule) → o ≡ Some r → r.now.1 ≤ length r.now.2
+  rule-fits a r i = find-fits own k a r.now (sym f ∙ ap (λ (o : Maybe (Bor Rule)). option_map (λ (r : Bor Rule). r.now) o) i)
 
   pub rule-miss : o ≡ None → case_in (cases_if also) k ≡ case_in (cases_of x) k
   rule-miss i = whole none (sym (ap (λ (o : Maybe (Bor Rule)). next_in (option_map (λ (r : Bor Rule). r.now) o)) i) ∙ own-case)

@@ -1,45 +1,39 @@
--- What the contracts of the rules' table say, beyond the definition of the column.
-use Rattle.std.specs.Prelude.{ℕ, zero, suc, ◌+◌, ◌≤◌, ◌<◌, ◌≡◌, Bool, true, ◌&&◌, leb, List, [], ◌∷◌, ◌++◌, map, length, drop, IfSome, Option as Maybe, None, Some}
+-- What the contracts of the rules say, beyond the definition of the column.
+use Rattle.std.specs.Prelude.{ℕ, suc, ◌+◌, ◌≤◌, ◌<◌, ◌≡◌, Bool, leb, List, [], ◌++◌, map, length, take, drop, IfSome, Option as Maybe, None, Some}
 use Rattle.std.proofs.Math.Option.{Option, none, some}
 use denote.Ref.{Bor}
 use Rattle.nibl.specs.found.Column.{Cases, cases_of, turn}
 use Rattle.column.specs.declared.rules.Turn.{Turn}
 
+-- a rule of the code: a word, how many may come after it, and these
+abbrev pub Rule : Type 0
+Rule = ℕ × ℕ × List ℕ
+
 -- the code's rules as the definition's cases
-abbrev pub cases : List (ℕ × Bor (List ℕ)) → Cases
-cases rules = map (λ r. (r.0, r.1.now)) rules
+abbrev pub cases : List Rule → Cases
+cases rules = map (λ r. (r.0, take r.1 r.2)) rules
+
+-- a rule has room for as many as it says
+abbrev pub fits : Rule → Bool
+fits r = leb r.1 (length r.2)
 
 -- those of what may come, or of nothing
 abbrev pub cases_if : Maybe ℕ → Cases
 cases_if None = []
 cases_if (Some x) = cases_of x
 
--- a row of the table: its own rules, and what else it has the rules of
+-- what may come: its own rules, and what else it has the rules of
 abbrev pub Row : Type 0
-Row = Bor (List (ℕ × Bor (List ℕ))) × Maybe ℕ
+Row = Bor (List Rule) × Maybe ℕ
 
 -- all that it has
 abbrev pub read : Row → Cases
 read row = cases row.0.now ++ cases_if row.1
 
--- the definition's, from x on
-abbrev pub cases_from : ℕ → ℕ → List Cases
-cases_from x zero = []
-cases_from x (suc n) = cases_of x ∷ cases_from (suc x) n
-
--- each row has the rules too of one with a smaller number, or of none
+-- what else there is the rules of has a smaller number each time
 abbrev pub rows_left : Maybe ℕ → ℕ
 rows_left None = 0
 rows_left (Some x) = suc x
-
-abbrev pub below : ℕ → List Row → Bool
-below x [] = true
-below x (row ∷ rows) = leb (rows_left row.1) x && below (suc x) rows
-
--- a table of the definition's cases, row by row
-pub record IsTable (rows : List Row) : Type 0 where
-  pub same : map read rows ≡ cases_from 0 29
-  pub below : below 0 rows ≡ true
 
 -- what may come after a word, if a rule is for it
 abbrev pub next_of : Maybe (Bor (List ℕ)) → Option (List ℕ)

@@ -1,8 +1,10 @@
 // What may come next in a line, by numbers, and the rules: which words may come, and what may come after each.
-ghost use Rattle.std.specs.Prelude.{◌≤◌, ◌<◌, ◌≡◌, length, IfSome};
+ghost use Rattle.std.specs.Prelude.{◌≤◌, ◌<◌, ◌≡◌, true, length, IfSome};
+ghost use Rattle.nibl.specs.Bytes.{all};
 ghost use Rattle.nibl.specs.found.Column.{cases_of, case_in};
-ghost use Rattle.column.specs.Rules.{read, IsTable, next_of, SeekIs, Pushed};
+ghost use Rattle.column.specs.Rules.{read, fits, next_of, SeekIs, Pushed};
 
+use value::put_bytes;
 use word::sign;
 
 // What a word is to the rules: a sign by its number, and each other kind by one of these.
@@ -72,200 +74,195 @@ const MORE_MEMBERS: u8 = 27;
 
 const LIST_NUMBER: u8 = 28;
 
-// A word, and what may come after it.
-type Rule = (u8, &'static [u8]);
+// A word, how many may come after it, and these, with 0 in the rest. No reference stands in a constant here: each is read alike whatever a
+// pointer's size is.
+type Rule = (u8, u8, [u8; 4]);
+
+const NONE: [u8; 4] = [0; 4];
 
 // Where a relation may come.
-const A_RELATION: &[u8] = &[FIRST_FACTOR, MORE_OF_RELATION];
+const A_RELATION: [u8; 4] = [FIRST_FACTOR, MORE_OF_RELATION, 0, 0];
 
 // The rules that what may come has of its own, and what else it has the rules of, behind those: always one with a smaller number.
-type Row = (&'static [Rule], Option<u8>);
-
-static RULES: [Row; 29] = [
-    // nothing
-    (&[], None),
-    // FACTOR
-    (
-        &[
-            (NAME, &[]),
-            (DECIMAL, &[]),
-            (HEX, &[]),
-            (sign::STAT, &[]),
-            (sign::TOP, &[]),
-            (sign::OPEN, &[FIRST_FACTOR, MORE_OF_RELATION, CLOSING]),
-            (sign::AT, &[FACTOR]),
-            (sign::NOT, &[FACTOR]),
-            (sign::MOD, &[MOD_OPEN]),
-        ],
-        None,
-    ),
-    // FIRST_FACTOR
-    (
-        &[(sign::PLUS, &[FACTOR]), (sign::MINUS, &[FACTOR])],
-        Some(FACTOR),
-    ),
-    // CLOSING
-    (&[(sign::CLOSE, &[])], None),
-    // MOD_OPEN
-    (
-        &[(sign::OPEN, &[FIRST_FACTOR, MORE_OF_RELATION, MOD_COMMA])],
-        None,
-    ),
-    // MOD_COMMA
-    (
-        &[(sign::COMMA, &[FIRST_FACTOR, MORE_OF_RELATION, CLOSING])],
-        None,
-    ),
-    // TARGET
-    (
-        &[
-            (NAME, &[EQUALS]),
-            (sign::STAT, &[EQUALS]),
-            (sign::AT, &[FACTOR, EQUALS]),
-            (sign::DOLLAR, &[FACTOR, TEXT_EQUALS]),
-        ],
-        None,
-    ),
-    // EQUALS
-    (&[(sign::EQUAL, A_RELATION)], None),
-    // TEXT_EQUALS
-    (&[(sign::EQUAL, &[TEXT_VALUE])], None),
-    // TEXT_VALUE
-    (&[(TEXT, &[]), (sign::DOLLAR, &[FACTOR])], None),
-    // STATEMENT
-    (
-        &[
-            (sign::LET, &[TARGET]),
-            (sign::GOTO, A_RELATION),
-            (sign::GOSUB, A_RELATION),
-            (sign::GO, &[AFTER_GO]),
-            (sign::RETURN, &[]),
-            (sign::PR, &[ITEM, MORE_ITEMS]),
-            (sign::PRINT, &[ITEM, MORE_ITEMS]),
-            (sign::IF, &[FIRST_FACTOR, MORE_OF_RELATION, CONSEQUENCE]),
-            (sign::DO, &[]),
-            (sign::UNTIL, A_RELATION),
-            (sign::FOR, &[FOR_VARIABLE]),
-            (sign::NEXT, &[ONE_VARIABLE]),
-            (sign::INPUT, &[INPUT_TARGET]),
-            (sign::REM, &[REMARK]),
-            (sign::END, &[]),
-        ],
-        Some(TARGET),
-    ),
-    // AFTER_GO
-    (&[(sign::TO, A_RELATION), (sign::SUB, A_RELATION)], None),
-    // ITEM
-    (
-        &[
-            (TEXT, &[]),
-            (sign::DOLLAR, &[FACTOR]),
-            (sign::PLUS, &[FACTOR, MORE_OF_RELATION]),
-            (sign::MINUS, &[FACTOR, MORE_OF_RELATION]),
-            (NAME, &[MORE_OF_RELATION]),
-            (DECIMAL, &[MORE_OF_RELATION]),
-            (HEX, &[MORE_OF_RELATION]),
-            (sign::STAT, &[MORE_OF_RELATION]),
-            (sign::TOP, &[MORE_OF_RELATION]),
-            (
-                sign::OPEN,
-                &[FIRST_FACTOR, MORE_OF_RELATION, CLOSING, MORE_OF_RELATION],
-            ),
-            (sign::AT, &[FACTOR, MORE_OF_RELATION]),
-            (sign::NOT, &[FACTOR, MORE_OF_RELATION]),
-            (sign::MOD, &[MOD_OPEN, MORE_OF_RELATION]),
-        ],
-        None,
-    ),
-    // CONSEQUENCE
-    (&[(sign::THEN, &[STATEMENT])], Some(STATEMENT)),
-    // FOR_VARIABLE
-    (&[(NAME, &[FOR_EQUALS])], None),
-    // FOR_EQUALS
-    (
-        &[(sign::EQUAL, &[FIRST_FACTOR, MORE_OF_RELATION, FOR_TO])],
-        None,
-    ),
-    // FOR_TO
-    (
-        &[(sign::TO, &[FIRST_FACTOR, MORE_OF_RELATION, FOR_STEP])],
-        None,
-    ),
-    // ONE_VARIABLE
-    (&[(NAME, &[])], None),
-    // INPUT_TARGET
-    (
-        &[(sign::DOLLAR, &[FACTOR]), (NAME, &[MORE_VARIABLES])],
-        None,
-    ),
-    // TYPED_LINE
-    (&[(DECIMAL, &[STATEMENT, MORE_MEMBERS])], Some(STATEMENT)),
-    // TYPED_COMMAND
-    (
-        &[
-            (sign::NEW, &[]),
-            (sign::CLEAR, &[]),
-            (sign::RUN, &[]),
-            (sign::LIST, &[LIST_NUMBER]),
-        ],
-        None,
-    ),
-    // REMARK
-    (&[], None),
-    // MORE_OF_RELATION
-    (
-        &[
-            (sign::TIMES, &[FACTOR, MORE_OF_RELATION]),
-            (sign::DIVIDE, &[FACTOR, MORE_OF_RELATION]),
-            (sign::AND, &[FACTOR, MORE_OF_RELATION]),
-            (sign::PLUS, &[FACTOR, MORE_OF_RELATION]),
-            (sign::MINUS, &[FACTOR, MORE_OF_RELATION]),
-            (sign::OR, &[FACTOR, MORE_OF_RELATION]),
-            (sign::EQUAL, &[FIRST_FACTOR, MORE_OF_SUM]),
-            (sign::LESS, &[FIRST_FACTOR, MORE_OF_SUM]),
-            (sign::GREATER, &[FIRST_FACTOR, MORE_OF_SUM]),
-            (sign::AT_MOST, &[FIRST_FACTOR, MORE_OF_SUM]),
-            (sign::AT_LEAST, &[FIRST_FACTOR, MORE_OF_SUM]),
-            (sign::UNEQUAL, &[FIRST_FACTOR, MORE_OF_SUM]),
-        ],
-        None,
-    ),
-    // MORE_OF_SUM
-    (
-        &[
-            (sign::TIMES, &[FACTOR, MORE_OF_SUM]),
-            (sign::DIVIDE, &[FACTOR, MORE_OF_SUM]),
-            (sign::AND, &[FACTOR, MORE_OF_SUM]),
-            (sign::PLUS, &[FACTOR, MORE_OF_SUM]),
-            (sign::MINUS, &[FACTOR, MORE_OF_SUM]),
-            (sign::OR, &[FACTOR, MORE_OF_SUM]),
-        ],
-        None,
-    ),
-    // MORE_ITEMS
-    (
-        &[(sign::COMMA, &[ITEM, MORE_ITEMS]), (sign::SEMICOLON, &[])],
-        None,
-    ),
-    // FOR_STEP
-    (&[(sign::STEP, A_RELATION)], None),
-    // MORE_VARIABLES
-    (&[(sign::COMMA, &[ONE_VARIABLE, MORE_VARIABLES])], None),
-    // MORE_MEMBERS
-    (&[(sign::COLON, &[STATEMENT, MORE_MEMBERS])], None),
-    // LIST_NUMBER
-    (&[(DECIMAL, &[])], None),
-];
-
-// The table's row of x, if it has one.
-fn row(rows: &[Row], x: u8) -> Row
-    requires { IsTable rows.now }
+fn row(x: u8) -> (&'static [Rule], Option<u8>)
     ensures cases { read result ≡ cases_of x }
     ensures below { IfSome result.1 (λ y. y < x) }
+    ensures counts { all fits result.0.now ≡ true }
 {
-    match rows.get(usize::from(x)) {
-        Some(row) => *row,
-        None => (&[], None),
+    match x {
+        FACTOR => (
+            &[
+                (NAME, 0, NONE),
+                (DECIMAL, 0, NONE),
+                (HEX, 0, NONE),
+                (sign::STAT, 0, NONE),
+                (sign::TOP, 0, NONE),
+                (sign::OPEN, 3, [FIRST_FACTOR, MORE_OF_RELATION, CLOSING, 0]),
+                (sign::AT, 1, [FACTOR, 0, 0, 0]),
+                (sign::NOT, 1, [FACTOR, 0, 0, 0]),
+                (sign::MOD, 1, [MOD_OPEN, 0, 0, 0]),
+            ],
+            None,
+        ),
+        FIRST_FACTOR => (
+            &[
+                (sign::PLUS, 1, [FACTOR, 0, 0, 0]),
+                (sign::MINUS, 1, [FACTOR, 0, 0, 0]),
+            ],
+            Some(FACTOR),
+        ),
+        CLOSING => (&[(sign::CLOSE, 0, NONE)], None),
+        MOD_OPEN => (
+            &[(
+                sign::OPEN,
+                3,
+                [FIRST_FACTOR, MORE_OF_RELATION, MOD_COMMA, 0],
+            )],
+            None,
+        ),
+        MOD_COMMA => (
+            &[(sign::COMMA, 3, [FIRST_FACTOR, MORE_OF_RELATION, CLOSING, 0])],
+            None,
+        ),
+        TARGET => (
+            &[
+                (NAME, 1, [EQUALS, 0, 0, 0]),
+                (sign::STAT, 1, [EQUALS, 0, 0, 0]),
+                (sign::AT, 2, [FACTOR, EQUALS, 0, 0]),
+                (sign::DOLLAR, 2, [FACTOR, TEXT_EQUALS, 0, 0]),
+            ],
+            None,
+        ),
+        EQUALS => (&[(sign::EQUAL, 2, A_RELATION)], None),
+        TEXT_EQUALS => (&[(sign::EQUAL, 1, [TEXT_VALUE, 0, 0, 0])], None),
+        TEXT_VALUE => (
+            &[(TEXT, 0, NONE), (sign::DOLLAR, 1, [FACTOR, 0, 0, 0])],
+            None,
+        ),
+        STATEMENT => (
+            &[
+                (sign::LET, 1, [TARGET, 0, 0, 0]),
+                (sign::GOTO, 2, A_RELATION),
+                (sign::GOSUB, 2, A_RELATION),
+                (sign::GO, 1, [AFTER_GO, 0, 0, 0]),
+                (sign::RETURN, 0, NONE),
+                (sign::PR, 2, [ITEM, MORE_ITEMS, 0, 0]),
+                (sign::PRINT, 2, [ITEM, MORE_ITEMS, 0, 0]),
+                (
+                    sign::IF,
+                    3,
+                    [FIRST_FACTOR, MORE_OF_RELATION, CONSEQUENCE, 0],
+                ),
+                (sign::DO, 0, NONE),
+                (sign::UNTIL, 2, A_RELATION),
+                (sign::FOR, 1, [FOR_VARIABLE, 0, 0, 0]),
+                (sign::NEXT, 1, [ONE_VARIABLE, 0, 0, 0]),
+                (sign::INPUT, 1, [INPUT_TARGET, 0, 0, 0]),
+                (sign::REM, 1, [REMARK, 0, 0, 0]),
+                (sign::END, 0, NONE),
+            ],
+            Some(TARGET),
+        ),
+        AFTER_GO => (
+            &[(sign::TO, 2, A_RELATION), (sign::SUB, 2, A_RELATION)],
+            None,
+        ),
+        ITEM => (
+            &[
+                (TEXT, 0, NONE),
+                (sign::DOLLAR, 1, [FACTOR, 0, 0, 0]),
+                (sign::PLUS, 2, [FACTOR, MORE_OF_RELATION, 0, 0]),
+                (sign::MINUS, 2, [FACTOR, MORE_OF_RELATION, 0, 0]),
+                (NAME, 1, [MORE_OF_RELATION, 0, 0, 0]),
+                (DECIMAL, 1, [MORE_OF_RELATION, 0, 0, 0]),
+                (HEX, 1, [MORE_OF_RELATION, 0, 0, 0]),
+                (sign::STAT, 1, [MORE_OF_RELATION, 0, 0, 0]),
+                (sign::TOP, 1, [MORE_OF_RELATION, 0, 0, 0]),
+                (
+                    sign::OPEN,
+                    4,
+                    [FIRST_FACTOR, MORE_OF_RELATION, CLOSING, MORE_OF_RELATION],
+                ),
+                (sign::AT, 2, [FACTOR, MORE_OF_RELATION, 0, 0]),
+                (sign::NOT, 2, [FACTOR, MORE_OF_RELATION, 0, 0]),
+                (sign::MOD, 2, [MOD_OPEN, MORE_OF_RELATION, 0, 0]),
+            ],
+            None,
+        ),
+        CONSEQUENCE => (&[(sign::THEN, 1, [STATEMENT, 0, 0, 0])], Some(STATEMENT)),
+        FOR_VARIABLE => (&[(NAME, 1, [FOR_EQUALS, 0, 0, 0])], None),
+        FOR_EQUALS => (
+            &[(sign::EQUAL, 3, [FIRST_FACTOR, MORE_OF_RELATION, FOR_TO, 0])],
+            None,
+        ),
+        FOR_TO => (
+            &[(sign::TO, 3, [FIRST_FACTOR, MORE_OF_RELATION, FOR_STEP, 0])],
+            None,
+        ),
+        ONE_VARIABLE => (&[(NAME, 0, NONE)], None),
+        INPUT_TARGET => (
+            &[
+                (sign::DOLLAR, 1, [FACTOR, 0, 0, 0]),
+                (NAME, 1, [MORE_VARIABLES, 0, 0, 0]),
+            ],
+            None,
+        ),
+        TYPED_LINE => (
+            &[(DECIMAL, 2, [STATEMENT, MORE_MEMBERS, 0, 0])],
+            Some(STATEMENT),
+        ),
+        TYPED_COMMAND => (
+            &[
+                (sign::NEW, 0, NONE),
+                (sign::CLEAR, 0, NONE),
+                (sign::RUN, 0, NONE),
+                (sign::LIST, 1, [LIST_NUMBER, 0, 0, 0]),
+            ],
+            None,
+        ),
+        MORE_OF_RELATION => (
+            &[
+                (sign::TIMES, 2, [FACTOR, MORE_OF_RELATION, 0, 0]),
+                (sign::DIVIDE, 2, [FACTOR, MORE_OF_RELATION, 0, 0]),
+                (sign::AND, 2, [FACTOR, MORE_OF_RELATION, 0, 0]),
+                (sign::PLUS, 2, [FACTOR, MORE_OF_RELATION, 0, 0]),
+                (sign::MINUS, 2, [FACTOR, MORE_OF_RELATION, 0, 0]),
+                (sign::OR, 2, [FACTOR, MORE_OF_RELATION, 0, 0]),
+                (sign::EQUAL, 2, [FIRST_FACTOR, MORE_OF_SUM, 0, 0]),
+                (sign::LESS, 2, [FIRST_FACTOR, MORE_OF_SUM, 0, 0]),
+                (sign::GREATER, 2, [FIRST_FACTOR, MORE_OF_SUM, 0, 0]),
+                (sign::AT_MOST, 2, [FIRST_FACTOR, MORE_OF_SUM, 0, 0]),
+                (sign::AT_LEAST, 2, [FIRST_FACTOR, MORE_OF_SUM, 0, 0]),
+                (sign::UNEQUAL, 2, [FIRST_FACTOR, MORE_OF_SUM, 0, 0]),
+            ],
+            None,
+        ),
+        MORE_OF_SUM => (
+            &[
+                (sign::TIMES, 2, [FACTOR, MORE_OF_SUM, 0, 0]),
+                (sign::DIVIDE, 2, [FACTOR, MORE_OF_SUM, 0, 0]),
+                (sign::AND, 2, [FACTOR, MORE_OF_SUM, 0, 0]),
+                (sign::PLUS, 2, [FACTOR, MORE_OF_SUM, 0, 0]),
+                (sign::MINUS, 2, [FACTOR, MORE_OF_SUM, 0, 0]),
+                (sign::OR, 2, [FACTOR, MORE_OF_SUM, 0, 0]),
+            ],
+            None,
+        ),
+        MORE_ITEMS => (
+            &[
+                (sign::COMMA, 2, [ITEM, MORE_ITEMS, 0, 0]),
+                (sign::SEMICOLON, 0, NONE),
+            ],
+            None,
+        ),
+        FOR_STEP => (&[(sign::STEP, 2, A_RELATION)], None),
+        MORE_VARIABLES => (
+            &[(sign::COMMA, 2, [ONE_VARIABLE, MORE_VARIABLES, 0, 0])],
+            None,
+        ),
+        MORE_MEMBERS => (&[(sign::COLON, 2, [STATEMENT, MORE_MEMBERS, 0, 0])], None),
+        LIST_NUMBER => (&[(DECIMAL, 0, NONE)], None),
+        _ => (&[], None),
     }
 }
 
@@ -275,9 +272,10 @@ fn rule(x: u8, k: u8) -> Option<&'static [u8]>
 {
     let mut y = Some(x);
     while let Some(x) = y {
-        let (own, also) = row(&RULES, x);
-        if let Some((_, next)) = own.iter().find(|rule| rule.0 == k) {
-            return Some(next);
+        let (own, also) = row(x);
+        if let Some(rule) = own.iter().find(|rule| rule.0 == k) {
+            let after: &[u8] = &rule.2;
+            return Some(&after[..usize::from(rule.1)]);
         }
         y = also;
     }
@@ -314,6 +312,6 @@ pub fn push(stack: &mut [u8], top: usize, next: &[u8]) -> usize
     ensures { Pushed stack.old top next.now stack.new result }
 {
     let to = top - next.len();
-    stack[to..top].copy_from_slice(next);
+    put_bytes(&mut stack[to..top], next);
     to
 }

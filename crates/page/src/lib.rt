@@ -17,7 +17,7 @@ ghost use Rattle.page.specs.Listing.{shown, listing, Here};
 ghost use Rattle.page.specs.Walk.{Sizes, Steps, stops_at, size_at, record_at, cut, reached, found_at, begin_of, text_of};
 
 use nibl::{COLON, CR, END_MARK, LF, LineNumber, Onward, Place};
-use value::{digit_count, has_room, write_digits, write_item};
+use value::{digit_count, has_room, put_bytes, write_digits, write_item};
 
 // A record's bytes before its text: the number and the length; and all but the text: those and the CR.
 pub const HEAD: usize = 3;
@@ -355,7 +355,7 @@ fn put_record(s: &mut [u8], number: LineNumber, text: &[u8])
     let n = text.len();
     s[..2].copy_from_slice(&number.0.to_be_bytes());
     s[2] = (n + FRAME) as u8;
-    s[HEAD..HEAD + n].copy_from_slice(text);
+    put_bytes(&mut s[HEAD..HEAD + n], text);
     s[HEAD + n] = CR;
 }
 

@@ -67,9 +67,10 @@ fn record_size(page: &[u8], at: usize, low: u32, lim: usize, ops: &mut [u32]) ->
     let size = whole_size(page, at)?;
     let line = page::line_at(page, at);
     let text = &page[at + page::HEAD..at + size - 1];
+    // Lent no more than it needs: it clears the list that it is lent.
     let may_stand = low <= u32::from(line)
         && line <= LAST_LINE
-        && is_storable(text, line, lim, ops);
+        && is_storable(text, line, lim, &mut ops[..text.len()]);
     may_stand.then_some(size)
 }
 

@@ -24,6 +24,10 @@ use Rattle.relation.proofs.States.{over-few, key-low, key-spare, key-few, writte
 none_some : {v : ℕ} → ◌≡◌ {A = Option ℕ} None (Some v) → ⊥
 none_some e = let z : ◌≡◌ {A = ℕ} 0 1 = cc in omega arith
 
+-- an operator's operation is not 0, which is none
+pub joint-waits : {v : ℕ} (q : Op) → v ≡ op code_operator (op_number q) → v ≡ 0 → ⊥
+joint-waits q e z = omega arith
+
 -- the operations of a reading
 two-code : {v : ℕ} (q : Op) → v ≡ op code_operator (op_number q) → (a b : Expr) → values (two q a b) ≡ values a ++ (values b ++ (v ∷ []))
 unfolding values

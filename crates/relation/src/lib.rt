@@ -360,11 +360,11 @@ fn relation_at(text: &[u8], from: usize, ops: &mut [u32], n: &mut usize) -> Opti
             put(ops, n, v);
             return Some(d);
         }
-        let Some((past, v)) = compare_at(text, d) else {
+        let Some((past, compares)) = compare_at(text, d) else {
             return Some(d);
         };
         at = past;
-        waits = Some(v);
+        waits = Some(compares);
     }
 }
 

@@ -1,7 +1,6 @@
 pub mod Index
 pub mod Compared
 pub mod Below
-pub mod Halves
 pub mod Fronts
 pub mod Lent
 pub mod Determined

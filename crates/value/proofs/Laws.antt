@@ -1,6 +1,7 @@
 -- Laws of the operators, for this crate's proofs and for callers to cite. Assumes nothing.
 use Rattle.std.specs.Prelude.{if◌then◌else◌, Result, Ok, Err}
-use Rattle.std.proofs.Common.{◌≡◌, ℕ, ◌-◌, ◌<◌, ◌≤◌, Bool, true, false, not, eqb, ltb, refl, lt_of_le_of_lt, div-le_self, arith, ltb-false, ltb-true}
+use Rattle.std.proofs.Common.{◌≡◌, ℕ, ◌+◌, ◌-◌, ◌*◌, ◌^◌, ◌<◌, ◌≤◌, Bool, true, false, not, eqb, ltb, refl, lt_of_le_of_lt, le_of_lt, mul-le-mul_left, mul-lt-mul_of_pos_right, div-le_self, arith, pow_pos, pow-add, ltb-false, ltb-true}
+use mathlib.Core.Path.{subst⁻¹}
 use native.Mathlib.Nat.{mod-le}
 use lib.Bits.{and_le_l, or_lt}
 use lib.ListN.{get_or-eq_default}
@@ -10,12 +11,22 @@ use Rattle.nibl.specs.Values.{is, no, bit, less16, mod16, apply, magnitude, is_n
 use Rattle.value.specs.Operators.{value_of}
 use Rattle.codes.specs.Operators.{operators, op_of}
 
+-- a product of two numbers of k bits has at most twice as many
+pub product-below : (k : ℕ) {a b : ℕ} → a < 2 ^ k → b < 2 ^ k → a * b < 2 ^ (k + k)
+product-below k {a} {b} ha hb =
+    subst⁻¹ (λ (n : ℕ). a * b < n) (pow-add 2 k k)
+    (lt_of_le_of_lt (mul-le-mul_left a (le_of_lt hb)) (mul-lt-mul_of_pos_right ha (pow_pos k)))
+
 magnitude-case : (P : ℕ → Type 0) (a : ℕ) → (a < 32768 → P a) → (32768 ≤ a → P (65536 - a)) → P (magnitude a)
 magnitude-case P a up down = go (ltb a 32768) refl
   where
     go : (t : Bool) → ltb a 32768 ≡ t → P (if not t then 65536 - a else a)
     go true e = up (ltb-true a 32768 e)
     go false e = down (ltb-false a 32768 e)
+
+-- only 0 has the magnitude 0
+pub magnitude-pos : (b : ℕ) → (b ≡ 0 → ⊥) → b < 65536 → 0 < magnitude b
+magnitude-pos b h k = magnitude-case (λ m. 0 < m) b (λ g. omega arith) (λ g. omega arith)
 
 pub magnitude-most : (a : ℕ) → a < 65536 → magnitude a ≤ 32768
 magnitude-most a h = magnitude-case (λ m. m ≤ 32768) a (λ g. omega arith) (λ g. omega arith)

@@ -1,9 +1,9 @@
 -- Laws of writing items, for this crate's proofs and for callers to cite. Assumes nothing.
-use Rattle.std.proofs.Common.{◌≡◌, length-set, ℕ, suc, ◌+◌, ◌-◌, ◌<◌, ◌≤◌, Bool, true, leb, List, [], ◌∷◌, ◌++◌, length, get_or, take, drop, set, sym, refl, ap, ◌∙◌, append_assoc, append-nil, add-zero, zero-add, add-one, arith, length-drop, drop_of_length-le, length-take-le, take_all, take-suc, drop-drop, le-leb, leb-true}
+use Rattle.std.proofs.Common.{◌≡◌, length-set, ℕ, suc, ◌+◌, ◌-◌, ◌<◌, ◌≤◌, Bool, true, false, leb, List, [], ◌∷◌, ◌++◌, length, get_or, take, drop, set, sym, refl, ap, ◌∙◌, append_assoc, append-nil, add-zero, zero-add, add-one, arith, length-drop, drop_of_length-le, length-take-le, take_all, take-suc, drop-drop, le-leb, leb-true}
 use Rattle.std.specs.Prelude.{Option, Some, None}
 use lib.Seq.{sets, sets-eq, set_comm}
 use borrow.Rule.Slice.PartMut.{put_mid, mid_of}
-use borrow.Author.Tests.{lt-leb}
+use borrow.Author.Tests.{lt-leb, leb-false}
 use Rattle.value.proofs.Digits.{printed-length}
 use Rattle.value.specs.Writes.{Writes, wrote_of}
 
@@ -44,6 +44,14 @@ part-sets l item at h =
     (λ i. take at l ++ (sets (all i) 0 item ++ none i))
     ∙ ap (λ r. take at l ++ r) (append-nil (sets (drop at l) 0 item) ∙ front)
     ∙ sym (sets-eq item l at h ∙ append_assoc (take at l) item (drop (at + length item) l))
+
+-- room for so many bytes is room behind the position
+pub room-behind : (room at size : ℕ) → at ≤ room → leb size (room - at) ≡ leb (at + size) room
+room-behind room at size h = go (leb size (room - at)) refl
+  where
+    go : (t : Bool) → leb size (room - at) ≡ t → t ≡ leb (at + size) room
+    go true e = let g = leb-true size (room - at) e in sym (le-leb (at + size) room (omega arith))
+    go false e = let g = leb-false size (room - at) e in sym (lt-leb (at + size) room (omega arith))
 
 -- what a test of the room says
 pub room_for : (r : Bool) (room at size : ℕ) → r ≡ leb (at + size) room → r ≡ true → at + size ≤ room

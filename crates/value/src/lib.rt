@@ -135,6 +135,16 @@ pub fn has_room(room: usize, at: usize, size: usize) -> bool
     at <= room && size <= room - at
 }
 
+// Bytes are put where as many stand, one by one: a library's copy of a part would ask the host for memmove.
+pub fn put_bytes(to: &mut [u8], from: &[u8])
+    requires { length to.old ≡ length from.now }
+    ensures { to.new ≡ from.now }
+{
+    for i in 0..from.len() {
+        to[i] = from[i];
+    }
+}
+
 // Writes an item from a position of the output on, whole or not at all.
 pub fn write_item(output: &mut [u8], at: usize, item: &[u8]) -> Option<usize>
     ensures { Writes output.old at item.now result output.new }
@@ -143,7 +153,7 @@ pub fn write_item(output: &mut [u8], at: usize, item: &[u8]) -> Option<usize>
         return None;
     }
     let end = at + item.len();
-    output[at..end].copy_from_slice(item);
+    put_bytes(&mut output[at..end], item);
     Some(end)
 }
 

@@ -11,7 +11,7 @@ ghost use Rattle.world.specs.Stores.{extent_of, store_ends, store_gave, store_le
 use nibl::access::{Access, Range};
 use nibl::stop::Stop;
 use page::move_bytes;
-use value::has_room;
+use value::{has_room, put_bytes};
 
 // Whether an address lies in a range. The highest address lies in none.
 fn lies_in(range: Range, a: usize) -> bool
@@ -104,7 +104,7 @@ pub fn store_text(access: Access, memory: &mut [u8], a: u16, text: &[u8]) -> Res
     let at = usize::from(a);
     let n = text.len();
     may_store(access, memory.len(), at, n + 1)?;
-    memory[at..at + n].copy_from_slice(text);
+    put_bytes(&mut memory[at..at + n], text);
     memory[at + n] = nibl::CR;
     Ok(())
 }

@@ -29,7 +29,7 @@ returns c =
     let room = c.if-page-end.false in
     let page : c.put_program.new.page ≡ onto a.page.now o.records =
     page-left limit x a.end o c.put_program.new.page (take (a.end - 56) (drop 56 a.form.now)) refl c.put_program.ensures in
-    let memory : c.copy_from_slice.new.self ≡ drop (a.end + 2) a.form.now = c.copy_from_slice.ensures.after ∙ take_all (length a.form.now - (a.end + 2)) (drop (a.end + 2) a.form.now) (omega (arith, length-drop (a.end + 2) a.form.now)) in
+    let memory : c.put_bytes.new.to ≡ drop (a.end + 2) a.form.now = c.put_bytes.ensures ∙ take_all (length a.form.now - (a.end + 2)) (drop (a.end + 2) a.form.now) (omega (arith, length-drop (a.end + 2) a.form.now)) in
     let table = table_kept a.call c.put_program.new.page a.table.now c.refill.new.table c.lent_entries-entries.ensures c.requires.long c.refill.ensures in
     rw (c.stopped-2.ensures, c.loaded.ensures)
     ((λ i. left_all (answer_of 0 no_line 0 a.call.inpos a.call.outpos 0) (loaded_session a.rec (c.form_values.ensures i)) (page i)

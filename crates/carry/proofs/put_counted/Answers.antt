@@ -12,7 +12,7 @@ returns c =
     let a = c.args in
     let o = c.put_two.new.output in
     let l = length-sets a.output.now a.at (two_bytes (length a.bytes.now)) in
-    ap (put_mid (a.at + 2) (a.at + 2 + length a.bytes.now - (a.at + 2)) o) c.copy_from_slice.ensures.after
+    ap (put_mid (a.at + 2) (a.at + 2 + length a.bytes.now - (a.at + 2)) o) c.put_bytes.ensures
     ∙ part-put o a.bytes.now (a.at + 2) (omega arith) (omega (arith, l, ap length c.put_two.ensures, c.requires.1))
     ∙ ap (λ o. sets o (a.at + 2) a.bytes.now) c.put_two.ensures
     ∙ counted-put a.output.now a.bytes.now a.at

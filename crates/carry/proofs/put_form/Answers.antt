@@ -46,11 +46,11 @@ overflow_sub-end c = least c.args.page.now c.used_bytes-end.ensures
 pub overflow_cast-line_count : goal.overflow_cast-line_count
 overflow_cast-line_count c = omega (arith, c.line_count.ensures, lines-most c.args.page.now, c.requires.paged)
 
-pub slice_bounds-copy_from_slice-end-2 : goal.slice_bounds-copy_from_slice-end-2
-slice_bounds-copy_from_slice-end-2 c = sym (part-long c.args.page.now c.used_bytes-end.ensures (λ i. omega (arith, c.type_inv.page i)) c.requires.good)
+pub slice_bounds-put_bytes-end-2 : goal.slice_bounds-put_bytes-end-2
+slice_bounds-put_bytes-end-2 c = sym (part-long c.args.page.now c.used_bytes-end.ensures (λ i. omega (arith, c.type_inv.page i)) c.requires.good)
 
-pub copy_from_slice-requires : goal.copy_from_slice-requires
-copy_from_slice-requires c =
+pub put_bytes-requires : goal.put_bytes-requires
+put_bytes-requires c =
     let a = c.args in
     let u = c.used_bytes-end in
     let o = c.put_head.new.output in
@@ -66,7 +66,7 @@ put_counted-requires c =
     let u = c.used_bytes-end in
     let b : Bytes a.page.now = λ i. omega (arith, c.type_inv.page i) in
     let head : List ℕ = form_number ∷ 26 ∷ (values_bytes a.vars ++ two_bytes c.line_count.result) in
-    let e = recorded a.page.now a.output.now head a.at (length a.memory.now) (a.at + 56 + (u.result - 2) - (a.at + 56)) u.ensures b d.good d.room c.put_head.ensures (omega arith) c.copy_from_slice.ensures.after in
+    let e = recorded a.page.now a.output.now head a.at (length a.memory.now) (a.at + 56 + (u.result - 2) - (a.at + 56)) u.ensures b d.good d.room c.put_head.ensures (omega arith) c.put_bytes.ensures in
     let kept = sets-long c.put_head.new.output (take (u.result - 2) a.page.now) (a.at + 56) e in
     (omega (arith, d.small), omega (arith, d.room, u.ensures, least a.page.now u.ensures, kept, sets-long a.output.now head a.at c.put_head.ensures))
 
@@ -83,7 +83,7 @@ returns c =
     let head : List ℕ = form_number ∷ 26 ∷ (values_bytes a.vars ++ two_bytes c.line_count.result) in
     let h : c.put_head.new.output ≡ sets a.output.now a.at (head_of carried count) =
     c.put_head.ensures ∙ ap (λ (n : ℕ). sets a.output.now a.at (form_number ∷ 26 ∷ (values_bytes a.vars ++ two_bytes n))) c.line_count.ensures in
-    let e = recorded a.page.now a.output.now head a.at (length a.memory.now) (a.at + 56 + (u.result - 2) - (a.at + 56)) u.ensures b d.good d.room c.put_head.ensures (omega arith) c.copy_from_slice.ensures.after in
+    let e = recorded a.page.now a.output.now head a.at (length a.memory.now) (a.at + 56 + (u.result - 2) - (a.at + 56)) u.ensures b d.good d.room c.put_head.ensures (omega arith) c.put_bytes.ensures in
     c.put_counted.ensures
     ∙ ap (λ (o : List ℕ). sets o (a.at + 56 + end) (counted a.memory.now)) (e ∙ (λ i. sets (h i) (a.at + 56) (p i)))
     ∙ form-pieces carried count a.output.now a.at end (sym (part-long a.page.now u.ensures b d.good) ∙ ap length p)

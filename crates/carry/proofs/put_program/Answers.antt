@@ -3,4 +3,4 @@ use Rattle.carry.proofs.Forms.{program-put}
 use Rattle.carry.proofs.put_program.Goals as goal
 
 pub returns : goal.returns
-returns c = rw c.copy_from_slice.ensures.after (program-put c.args.page.now c.args.records.now c.requires)
+returns c = rw c.put_bytes.ensures (program-put c.args.page.now c.args.records.now c.requires)

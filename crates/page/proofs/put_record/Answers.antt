@@ -18,6 +18,6 @@ returns c =
     let h : x / 256 % 256 ≡ x / 256 = omega arith in
     let f = c.copy_from_slice.ensures.after ∙ c.to_be_bytes.ensures ∙ ap (λ (b : ℕ). b ∷ (x % 256) ∷ []) h in
     ap (λ (l : List ℕ). set l (3 + n) 13)
-    (put_mid-paste 3 (3 + n - 3) _ _ t n c.copy_from_slice-2.ensures.after (omega arith) refl
+    (put_mid-paste 3 (3 + n - 3) _ _ t n c.put_bytes.ensures (omega arith) refl
     ∙ ap (λ (l : List ℕ). paste (set (l ++ drop 2 a.s.now) 2 (n + 4)) 3 t n) f)
     ∙ record_is a.s.now t (x / 256) (x % 256) (n + 4) (omega arith)

@@ -45,8 +45,9 @@ slice_bounds-text-end c =
 pub is_storable-may_stand-requires : goal.is_storable-may_stand-requires
 is_storable-may_stand-requires c =
     let k = there c.args.page.now c.args.at c.in_ok-size.size c.requires.0 (sym c.in_ok-size.ensures) (c.type_inv.page (c.args.at + 2)) in
+    let text : List ℕ = take (c.args.at + c.in_ok-size.size - 1 - (c.args.at + 3)) (drop (c.args.at + 3) c.args.page.now) in
     let l = length-take-le (c.args.at + c.in_ok-size.size - 1 - (c.args.at + 3)) (drop (c.args.at + 3) c.args.page.now) (omega (arith, k.inside, k.found.least, length-drop (c.args.at + 3) c.args.page.now)) in
-    record { room = omega (arith, k.most); short = omega (arith, k.most) }
+    record { room = omega (arith, k.most, length-take-le (length text) c.args.ops.now (omega (arith, k.most))); short = omega (arith, k.most) }
 
 pub returns : goal.returns
 returns c =

@@ -5,4 +5,4 @@ use Rattle.value.proofs.write_item.Goals as goal
 pub returns : goal.returns
 returns c =
     let h = room_for _ _ _ _ c.has_room.ensures c.if-not-has_room.false in
-    rw (c.copy_from_slice.ensures.after, copied-sets _ _ _ h) (writes-whole _ _ _ h)
+    rw (c.put_bytes.ensures, copied-sets _ _ _ h) (writes-whole _ _ _ h)

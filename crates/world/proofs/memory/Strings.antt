@@ -1,6 +1,6 @@
 -- A string in memory: how it is found a byte at a time, and what its end says of its bytes. Assumes nothing.
 use Rattle.std.specs.Prelude.{if◌then◌else◌}
-use Rattle.std.specs.Prelude.{Result as Res, Ok}
+use Rattle.std.specs.Prelude.{Result as Res, Ok, Err}
 use Rattle.nibl.specs.declared.stop.Stop.{Stop}
 use Prim.Native.Nat.{ℕ, suc, ◌+◌, ◌-◌, ◌≤◌, ◌<◌}
 use mathlib.Core.Path.{◌≡◌, refl, sym, ap, ◌∙◌}
@@ -101,3 +101,11 @@ module _ (x : Access) (mem : List ℕ) (a : ℕ) where
       go : (s : Result (List ℕ)) → string_at x mem a ≡ s → is e ≡ bind s (λ bs. is (a + length bs)) → StringRuns x mem a e
       go (is bs) q h = let k : e ≡ a + length bs = cc in rw k (runs bs q)
       go (no n) q h = let z : ◌≡◌ {A = ℕ} 0 1 = cc in absurd (omega arith)
+
+  -- and one that was not
+  pub string-no : {r : Res ℕ Stop} (n : Stop) → r ≡ Err n → extent_of r ≡ ending x mem a → string_at x mem a ≡ no n.0
+  string-no n q h = go (string_at x mem a) (sym (ap extent_of q) ∙ h)
+    where
+      go : (s : Result (List ℕ)) → no n.0 ≡ bind s (λ bs. is (a + length bs)) → s ≡ no n.0
+      go (is bs) h = let z : ◌≡◌ {A = ℕ} 0 1 = cc in absurd (omega arith)
+      go (no m) h = let k : n.0 ≡ m = cc in cc

@@ -1,21 +1,7 @@
--- `rules::row` meets its contract: what may come has a row of the table, and the rest has no rules. Assumes nothing.
-use native.Mathlib.Omega.{arith}
-use mathlib.Core.Path.{◌∙◌, ap}
-use lib.ListN.{get_or}
-use Rattle.column.proofs.Table.{row-cases, row-below, row-none}
+-- `rules::row` meets its contract: its arms compute to the definition's cases. Assumes nothing.
+use mathlib.Core.Path.{sym, ap}
+use Rattle.nibl.specs.found.Column.{cases_of}
 use Rattle.column.proofs.rules.row.Goals as goal
 
-pub returns-in-Some-clause-cases : goal.returns-in-Some-clause-cases
-returns-in-Some-clause-cases c =
-    let a = c.args in
-    let l = c.in-Some.ensures.lookup in
-    row-cases a.rows.now c.requires a.x c.in-Some.row.now (omega (arith, l.3.0, c.from.ensures)) (l.1 ∙ ap (λ i. get_or a.rows.now i c.in-Some.row.now) c.from.ensures)
-
-pub returns-in-Some-clause-below : goal.returns-in-Some-clause-below
-returns-in-Some-clause-below c =
-    let a = c.args in
-    let l = c.in-Some.ensures.lookup in
-    row-below a.rows.now c.requires a.x c.in-Some.row.now (omega (arith, l.3.0, c.from.ensures)) (l.1 ∙ ap (λ i. get_or a.rows.now i c.in-Some.row.now) c.from.ensures)
-
-pub returns-in-None-clause-cases : goal.returns-in-None-clause-cases
-returns-in-None-clause-cases c = row-none c.args.rows.now c.requires c.args.x (omega (arith, c.in-None.ensures.lookup.3, c.from.ensures))
+pub returns-in-4-clause-cases : goal.returns-in-4-clause-cases
+returns-in-4-clause-cases c = ap cases_of (sym c.in-4.is)

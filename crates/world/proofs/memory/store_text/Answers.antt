@@ -19,4 +19,4 @@ returns c =
     let a = c.args in
     let h = rw c.from-at.ensures at c.in_ok-may_store.ensures in
     let r = room a.access (length a.memory.now) a.a (length a.text.now + 1) h in
-    rw (c.copy_from_slice.ensures.after, c.from-at.ensures, copied-sets a.memory.now a.text.now a.a (omega arith)) (text-stored a.access a.memory.now a.text.now a.a h)
+    rw (c.put_bytes.ensures, c.from-at.ensures, copied-sets a.memory.now a.text.now a.a (omega arith)) (text-stored a.access a.memory.now a.text.now a.a h)
