@@ -15,7 +15,7 @@ use Rattle.nibl.specs.Bytes.{all}
 use Rattle.nibl.specs.found.Read.{choose}
 use Rattle.nibl.specs.found.Column.{Cases, rules, cases_of, case_in}
 use Rattle.nibl.proofs.Words.{and_left, and_right}
-use Rattle.column.specs.Rules.{Rule, cases, cases_if, fits, most_after}
+use Rattle.column.specs.Rules.{Rule, cases, cases_if, is_rule, most_after}
 
 -- The first rule for a word
 eqb-flip : (a b : ℕ) → eqb a b ≡ eqb b a
@@ -38,13 +38,13 @@ find-case (r ∷ rs) k = rw (eqb-flip k r.0) (go (eqb r.0 k) (find-case rs k))
     go true e = refl
     go false e = e
 
-find-fits : (rs : List Rule) (k : ℕ) → all fits rs ≡ true → (r : Rule) → find (λ (r : Rule). eqb r.0 k) rs ≡ Some r → r.1 ≤ length r.2
-find-fits [] k a r e = absurd (none-some r e)
-find-fits (q ∷ rs) k a r e = go (eqb q.0 k) (find-fits rs k (and_right (fits q) (all fits rs) a) r) e
+find-room : (rs : List Rule) (k : ℕ) → all is_rule rs ≡ true → (r : Rule) → find (λ (r : Rule). eqb r.0 k) rs ≡ Some r → r.1 ≤ length r.2
+find-room [] k a r e = absurd (none-some r e)
+find-room (q ∷ rs) k a r e = go (eqb q.0 k) (find-room rs k (and_right (is_rule q) (all is_rule rs) a) r) e
   where
     go : (t : Bool) → (find (λ (r : Rule). eqb r.0 k) rs ≡ Some r → r.1 ≤ length r.2)
         → cond t (Some q) (find (λ (r : Rule). eqb r.0 k) rs) ≡ Some r → r.1 ≤ length r.2
-    go true i e = rw (sym (same_Some q r e)) (leb-true q.1 (length q.2) (and_left (fits q) (all fits rs) a))
+    go true i e = rw (sym (same_Some q r e)) (leb-true q.1 (length q.2) (and_left (is_rule q) (all is_rule rs) a))
     go false i e = i e
 
 module _ (own : List Rule) (also : Maybe ℕ) (x k : ℕ) (o : Maybe (Bor Rule)) (e : cases own ++ cases_if also ≡ cases_of x)
@@ -67,8 +67,8 @@ module _ (own : List Rule) (also : Maybe ℕ) (x k : ℕ) (o : Maybe (Bor Rule))
   pub rule-hit : (r : Bor Rule) → o ≡ Some r → some (take r.now.1 r.now.2) ≡ case_in (cases_of x) k
   rule-hit r i = whole (some (take r.now.1 r.now.2)) (sym (ap (λ (o : Maybe (Bor Rule)). next_in (option_map (λ (r : Bor Rule). r.now) o)) i) ∙ own-case)
 
-  pub rule-fits : all fits own ≡ true → (r : Bor Rule) → o ≡ Some r → r.now.1 ≤ length r.now.2
-  rule-fits a r i = find-fits own k a r.now (sym f ∙ ap (λ (o : Maybe (Bor Rule)). option_map (λ (r : Bor Rule). r.now) o) i)
+  pub rule-room : all is_rule own ≡ true → (r : Bor Rule) → o ≡ Some r → r.now.1 ≤ length r.now.2
+  rule-room a r i = find-room own k a r.now (sym f ∙ ap (λ (o : Maybe (Bor Rule)). option_map (λ (r : Bor Rule). r.now) o) i)
 
   pub rule-miss : o ≡ None → case_in (cases_if also) k ≡ case_in (cases_of x) k
   rule-miss i = whole none (sym (ap (λ (o : Maybe (Bor Rule)). next_in (option_map (λ (r : Bor Rule). r.now) o)) i) ∙ own-case)

@@ -14,8 +14,8 @@ abbrev pub cases : List Rule → Cases
 cases rules = map (λ r. (r.0, take r.1 r.2)) rules
 
 -- a rule has room for as many as it says
-abbrev pub fits : Rule → Bool
-fits r = leb r.1 (length r.2)
+abbrev pub is_rule : Rule → Bool
+is_rule r = leb r.1 (length r.2)
 
 -- those of what may come, or of nothing
 abbrev pub cases_if : Maybe ℕ → Cases

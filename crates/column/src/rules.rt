@@ -2,7 +2,7 @@
 ghost use Rattle.std.specs.Prelude.{◌≤◌, ◌<◌, ◌≡◌, true, length, IfSome};
 ghost use Rattle.nibl.specs.Bytes.{all};
 ghost use Rattle.nibl.specs.found.Column.{cases_of, case_in};
-ghost use Rattle.column.specs.Rules.{read, fits, next_of, SeekIs, Pushed};
+ghost use Rattle.column.specs.Rules.{read, is_rule, next_of, SeekIs, Pushed};
 
 use value::put_bytes;
 use word::sign;
@@ -87,7 +87,7 @@ const A_RELATION: [u8; 4] = [FIRST_FACTOR, MORE_OF_RELATION, 0, 0];
 fn row(x: u8) -> (&'static [Rule], Option<u8>)
     ensures cases { read result ≡ cases_of x }
     ensures below { IfSome result.1 (λ y. y < x) }
-    ensures counts { all fits result.0.now ≡ true }
+    ensures counts { all is_rule result.0.now ≡ true }
 {
     match x {
         FACTOR => (

@@ -9,14 +9,14 @@ use lib.ListN.{take}
 use lib.Seq.{length-take-le}
 use Rattle.nibl.specs.found.Column.{case_in}
 use Rattle.column.specs.Rules.{cases_if}
-use Rattle.column.proofs.Table.{rule-fits, rule-hit, rule-miss}
+use Rattle.column.proofs.Table.{rule-room, rule-hit, rule-miss}
 use Rattle.column.proofs.rules.rule.Goals as goal
 
 pub slice_bounds-result-end : goal.slice_bounds-result-end
 slice_bounds-result-end c =
     let row = c.row-also in
     let rule = c.in-Some-find.rule in
-    let room = rule-fits row.result.0.now row.result.1 c.in-Some.x c.args.k c.find.result row.ensures.cases
+    let room = rule-room row.result.0.now row.result.1 c.in-Some.x c.args.k c.find.result row.ensures.cases
     (find_from_yields_List (λ r. eqb r.0 c.args.k) _ _ c.find.result c.find.ensures.ran
     (YieldsList-from_slice row.result.0.now cc) (λ x b q k. search (rules, tests)))
     row.ensures.counts rule c.in-Some-find.is in
